@@ -1,0 +1,2 @@
+-- The definitions that the contracts of the packed reader cite.
+pub mod Fields
