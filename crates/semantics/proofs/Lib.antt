@@ -1,0 +1,8 @@
+-- The theorem of demand 3, in reading order; row_of's proof stands in its own folder.
+pub mod Safe
+pub mod Composition
+pub mod Reading
+pub mod Rules
+pub mod Conditions
+pub mod Soundness
+pub mod Cases

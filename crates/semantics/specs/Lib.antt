@@ -1,0 +1,11 @@
+-- What handlers mean, in the order of document 01: the language, states and steps, runs, the step number, derivations with
+-- the conditions on their nodes, and what an accepted derivation promises.
+pub mod Language
+pub mod States
+pub mod Steps
+pub mod Runs
+pub mod StepNumber
+pub mod Derivations
+pub mod Conditions
+pub mod Checking
+pub mod Promise

@@ -1,0 +1,60 @@
+-- Document 01, "States and steps": a state's number counts variable 0 as most significant, and what an expression is worth
+-- at a state.
+use Prim.Native.Nat.{ℕ, zero, suc, _+_, _-_, _*_, _/_, _%_}
+use mathlib.Core.Bool.{Bool, true, false, cond}
+use mathlib.Core.List.{List, [], _∷_}
+use mathlib.Core.Option.{Option, none, some}
+use lib.ListN.{getD, drop}
+use lib.Dec.{ltb}
+use lib.IntN.{ℤ, pos, negsuc}
+use Rattle.semantics.specs.Language.{Val, int, truth, Expr, lit, var, op, apply}
+
+-- How many states there are for variables of these sizes: N.
+abbrev pub product : List ℕ → ℕ
+product [] = 1
+product (size ∷ sizes) = size * product sizes
+
+-- How many states one more of variable v's value counts: with sizes 2 and 3, values 1 and 2 are state 1 × 3 + 2.
+abbrev pub weight : List ℕ → ℕ → ℕ
+weight sizes v = product (drop (suc v) sizes)
+
+abbrev pub valueOf : List ℕ → ℕ → ℕ → ℕ
+valueOf sizes s v = s / weight sizes v % getD sizes v 1
+
+-- The state after storing a value in variable v; none where the value is outside 0 to size − 1.
+abbrev pub stored : List ℕ → ℕ → ℕ → ℤ → Option ℕ
+stored sizes s v (pos n) = cond (ltb n (getD sizes v 1)) (some (s - valueOf sizes s v * weight sizes v + n * weight sizes v)) none
+stored sizes s v (negsuc n) = none
+
+-- The variables as steps see them: N, a variable's present value, and a store.
+pub record Machine : Type 0 where
+  pub states : ℕ
+  pub get : ℕ → ℕ → ℤ
+  pub store : ℕ → ℕ → ℤ → Option ℕ
+
+abbrev pub machineOf : List ℕ → Machine
+machineOf sizes = record { states = product sizes; get = λ s v. pos (valueOf sizes s v); store = stored sizes }
+
+abbrev pub both : (Val → Val → Option Val) → Option Val → Option Val → Option Val
+both f none b = none
+both f (some a) none = none
+both f (some a) (some b) = f a b
+
+module _ (m : Machine) where
+  -- The value of an expression at a state; both operands are needed, with no short cut.
+  abbrev pub value : Expr → ℕ → Option Val
+  value (lit v) s = some v
+  value (var v) s = some (int (m .get s v))
+  value (op o l r) s = both (apply o) (value l s) (value r s)
+
+abbrev pub isTruth : Bool → Option Val → Bool
+isTruth b none = false
+isTruth b (some (int z)) = false
+isTruth true (some (truth c)) = c
+isTruth false (some (truth c)) = cond c false true
+
+-- What a store of a value gives: none where it is no integer or out of range.
+abbrev pub storeOf : Machine → ℕ → ℕ → Option Val → Option ℕ
+storeOf m s v none = none
+storeOf m s v (some (int z)) = m .store s v z
+storeOf m s v (some (truth b)) = none

@@ -1,0 +1,39 @@
+// What handlers mean. The definitions are in specs/, the theorem about them in proofs/Soundness.antt; the code that shares
+// them has the kinds of values and the row of each operation.
+ghost use mathlib.Core.Path.{_≡_};
+ghost use Rattle.semantics.specs.Language.{rowOf};
+
+// The kinds of values.
+pub enum Kind {
+    Integer,
+    Truth,
+}
+
+// The row of an operation: left kind, right kind, result kind; an unused code has none.
+pub enum Row {
+    Kinds(Kind, Kind, Kind),
+    Unused,
+}
+
+// The rows of + − < = > ∧ ∨, by operation code.
+const ROWS: [[Kind; 3]; 7] = [
+    [Kind::Integer, Kind::Integer, Kind::Integer],
+    [Kind::Integer, Kind::Integer, Kind::Integer],
+    [Kind::Integer, Kind::Integer, Kind::Truth],
+    [Kind::Integer, Kind::Integer, Kind::Truth],
+    [Kind::Integer, Kind::Integer, Kind::Truth],
+    [Kind::Truth, Kind::Truth, Kind::Truth],
+    [Kind::Truth, Kind::Truth, Kind::Truth],
+];
+
+// The row of an operation code.
+pub fn row_of(operation: usize) -> Row
+    ensures { λ r. ⌜ r ≡ rowOf operation ⌝ }
+{
+    if operation < 7 {
+        let row = ROWS[operation];
+        Row::Kinds(row[0], row[1], row[2])
+    } else {
+        Row::Unused
+    }
+}
