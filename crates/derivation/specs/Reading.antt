@@ -1,0 +1,45 @@
+-- Document 01, "Order": the proof file front to back.
+use Prim.Native.Nat.{ℕ}
+use mathlib.Core.List.{List}
+use Rattle.bits.specs.Fields.{fillAt}
+use Rattle.bits.specs.declared.Fill.{Fill}
+use Rattle.bits.specs.declared.Fill.the-variants.{Ends, Wrong}
+use Rattle.semantics.specs.Derivations.{Derivation}
+use Rattle.derivation.specs.declared.Tables.{Tables}
+use Rattle.derivation.specs.declared.Tables.the-variants.{Counts, Fault}
+use Rattle.derivation.specs.declared.ProofFile.{ProofFile}
+use Rattle.derivation.specs.declared.ProofFile.the-variants as File
+use Rattle.derivation.specs.Tables.{tablesAt, tableWord, written}
+use Rattle.derivation.specs.Nodes.{NodeRead, whole, fault, wholeNode}
+
+-- A proof file: how many sets and relations, the root's first bit and the derivation; or its first fault.
+pub data ProofRead : Type 0 where
+  proof : ℕ → ℕ → ℕ → Derivation → ProofRead
+  refused : ℕ → ℕ → ProofRead
+
+-- 25: a fill bit that is not zero, or a further byte.
+abbrev pub onFill : ℕ → ℕ → ℕ → Derivation → Fill → ProofRead
+onFill sets relations at d Ends = proof sets relations at d
+onFill sets relations at d (Wrong place) = refused 25 place
+
+abbrev pub onNodes : List ℕ → ℕ → ℕ → ℕ → NodeRead → ProofRead
+onNodes bytes sets relations at (fault k place) = refused k place
+onNodes bytes sets relations at (whole d before next) = onFill sets relations at d (fillAt bytes next)
+
+abbrev pub onTables : List ℕ → Tables → ProofRead
+onTables bytes (Fault k place) = refused k place
+onTables bytes (Counts sets relations at) = onNodes bytes sets relations at (wholeNode bytes sets relations at)
+
+-- The proof file over n states.
+unfoldable pub readProof : List ℕ → ℕ → ProofRead
+readProof bytes n = onTables bytes (tablesAt bytes n)
+
+-- What the code answers of a proof file.
+abbrev pub fileOf : ProofRead → ProofFile
+fileOf (proof sets relations at d) = File.Proof sets relations at
+fileOf (refused k place) = File.Fault k place
+
+-- The table words that a proof file leaves: its tables, or 0 after a fault.
+abbrev pub wordsOf : List ℕ → ℕ → ProofRead → ℕ → ℕ
+wordsOf bytes n (proof sets relations at d) j = tableWord bytes n sets relations j
+wordsOf bytes n (refused k place) j = 0

@@ -1,0 +1,73 @@
+-- Document 01, "The two files": 5 bits number of sets, 5 bits number of relations, each 1 to 16; sets of N bits, state 0
+-- first; relations of N rows of N bits, row s holding the ends t of pairs (s,t).
+use Prim.Native.Nat.{ℕ, zero, suc, _+_, _-_, _*_, _/_, _%_, _^_, min}
+use mathlib.Core.Bool.{Bool, cond, _&&_}
+use mathlib.Core.List.{List, [], _∷_, _++_}
+use lib.ListN.{length, drop}
+use lib.Dec.{leb, ltb, eqb}
+use Rattle.bits.specs.Fields.{bitAt, fieldAt}
+use Rattle.bits.specs.declared.Field.{Field}
+use Rattle.bits.specs.declared.Field.the-variants.{Value, Missing}
+use Rattle.derivation.specs.declared.Tables.{Tables}
+use Rattle.derivation.specs.declared.Tables.the-variants.{Counts, Fault}
+
+-- The length of a file in bits, where a field that runs past the end is placed; at most what a usize can hold.
+unfoldable pub bitLength : List ℕ → ℕ
+bitLength bytes = min (8 * length bytes) (2 ^ 64 - 1)
+
+-- The first bit of set i over n states, and of row s of relation r where there are so many sets.
+unfoldable pub setAt : ℕ → ℕ → ℕ
+setAt n i = 10 + n * i
+
+unfoldable pub rowAt : ℕ → ℕ → ℕ → ℕ → ℕ
+rowAt n sets r s = 10 + n * (sets + n * r + s)
+
+-- A set or a row is a field of 1 to 64 bits; the first that is not there is 20, at the file's length.
+unfoldable pub tablesThere : List ℕ → ℕ → ℕ → ℕ → Bool
+tablesThere bytes n sets relations = leb 1 n && leb n 64 && leb (rowAt n sets relations 0) (8 * length bytes)
+
+-- 21: a count is not 1 to 16, each judged where it stands.
+unfoldable pub isCount : ℕ → Bool
+isCount k = leb 1 k && leb k 16
+
+unfoldable pub relationsRead : List ℕ → ℕ → ℕ → Field → Tables
+relationsRead bytes n sets Missing = Fault 20 (bitLength bytes)
+relationsRead bytes n sets (Value relations next) =
+    cond (isCount relations)
+    (cond (tablesThere bytes n sets relations) (Counts sets relations (rowAt n sets relations 0)) (Fault 20 (bitLength bytes)))
+    (Fault 21 5)
+
+unfoldable pub setsRead : List ℕ → ℕ → Field → Tables
+setsRead bytes n Missing = Fault 20 (bitLength bytes)
+setsRead bytes n (Value sets next) = cond (isCount sets) (relationsRead bytes n sets (fieldAt bytes 5 5)) (Fault 21 0)
+
+-- The head of the file: how many sets and relations, and the root node's first bit, or the first fault.
+unfoldable pub tablesAt : List ℕ → ℕ → Tables
+tablesAt bytes n = setsRead bytes n (fieldAt bytes 0 5)
+
+-- Whether state s is in set i, and whether (s,t) is in relation r, as the file holds them.
+unfoldable pub inSetOf : List ℕ → ℕ → ℕ → ℕ → Bool
+inSetOf bytes n i s = eqb (bitAt bytes (setAt n i + s)) 1
+
+unfoldable pub inRelationOf : List ℕ → ℕ → ℕ → ℕ → ℕ → ℕ → Bool
+inRelationOf bytes n sets r s t = eqb (bitAt bytes (rowAt n sets r s + t)) 1
+
+-- The word that holds n bits of the file from a cursor on, the first of them the lowest.
+unfoldable pub wordAt : List ℕ → ℕ → ℕ → ℕ
+wordAt bytes at zero = 0
+wordAt bytes at (suc n) = wordAt bytes (suc at) n * 2 + bitAt bytes at
+
+-- The work words: word i is set i, word 16 + 64 r + s is row s of relation r; unused words of the 1,040 are 0.
+unfoldable pub tableWord : List ℕ → ℕ → ℕ → ℕ → ℕ → ℕ
+tableWord bytes n sets relations j =
+    cond (ltb j 16) (cond (ltb j sets) (wordAt bytes (setAt n j) n) 0)
+    (cond (ltb ((j - 16) / 64) relations && ltb ((j - 16) % 64) n) (wordAt bytes (rowAt n sets ((j - 16) / 64) ((j - 16) % 64)) n) 0)
+
+-- The first `count` values of f.
+unfoldable pub tabulate : ℕ → (ℕ → ℕ) → List ℕ
+tabulate zero f = []
+tabulate (suc count) f = tabulate count f ++ f count ∷ []
+
+-- A work buffer after its first 1,040 words, or as many as there are, were written; words past them are unchanged.
+unfoldable pub written : (ℕ → ℕ) → List ℕ → List ℕ
+written f work = tabulate (min 1040 (length work)) f ++ drop (min 1040 (length work)) work

@@ -1,0 +1,21 @@
+// The proof file, read from its bits: the tables go into the caller's work words, and a node is the number of its first bit.
+ghost use mathlib.Core.Path.{_≡_};
+
+// What the head of the file finds over N states: how many sets and relations, and the root node's first bit; or a fault.
+pub enum Tables {
+    Counts(u32, u32, usize),
+    Fault(u32, usize),
+}
+
+// What stands at a node: its rule, the tables P, R, G, Q, K and W by number (K and W are 0 but at a while), and the cursor
+// behind; or a fault.
+pub enum NodeHead {
+    Node(u32, u32, u32, u32, u32, u32, u32, usize),
+    Fault(u32, usize),
+}
+
+// A whole proof file: how many sets and relations, and the root node's first bit; or the first fault.
+pub enum ProofFile {
+    Proof(u32, u32, usize),
+    Fault(u32, usize),
+}

@@ -1,0 +1,82 @@
+-- Document 01, "The two files": a statement is 3 bits, then what its code asks; at most 63 statements, 16 levels of them.
+use Prim.Native.Nat.{ℕ, zero, suc, _+_}
+use mathlib.Core.Bool.{Bool, true, false, cond, _||_}
+use mathlib.Core.List.{List}
+use lib.Dec.{leb, ltb, eqb}
+use Rattle.bits.specs.Fields.{fieldAt}
+use Rattle.bits.specs.declared.Field.{Field}
+use Rattle.bits.specs.declared.Field.the-variants.{Value, Missing}
+use Rattle.semantics.specs.Language.{Expr, Stmt, nil, assign, seq, par, if, while}
+use Rattle.handler.specs.declared.StmtHead.{StmtHead}
+use Rattle.handler.specs.declared.StmtHead.the-variants.{Nil, Assign, Pair, Test, Fault}
+use Rattle.handler.specs.Header.{bitLength}
+use Rattle.handler.specs.Expressions.{ExprRead, good, bad, wholeExpr}
+
+-- 15: an assignment's variable, at its field.
+unfoldable pub targetHead : List ℕ → ℕ → ℕ → Field → StmtHead
+targetHead bytes count at Missing = Fault 10 (bitLength bytes)
+targetHead bytes count at (Value v next) = cond (ltb v count) (Assign v next) (Fault 15 at)
+
+-- What a statement code says: 14 for the unused codes 6 and 7.
+unfoldable pub codeHead : List ℕ → ℕ → ℕ → ℕ → ℕ → StmtHead
+codeHead bytes count at code next =
+    cond (eqb code 0) (Nil next)
+    (cond (eqb code 1) (targetHead bytes count next (fieldAt bytes next 2))
+    (cond (ltb code 4) (Pair code next) (cond (ltb code 6) (Test code next) (Fault 14 at))))
+
+-- A statement's code: 10 not there, then 17 the 64th statement or the 17th level, then what it says.
+unfoldable pub markHead : List ℕ → ℕ → Bool → ℕ → Field → StmtHead
+markHead bytes count tooMany at Missing = Fault 10 (bitLength bytes)
+markHead bytes count tooMany at (Value code next) = cond tooMany (Fault 17 at) (codeHead bytes count at code next)
+
+-- What stands at a statement with so many statements before it, where so many levels are left below it.
+unfoldable pub stmtHead : List ℕ → ℕ → ℕ → ℕ → ℕ → StmtHead
+stmtHead bytes count below before at = markHead bytes count (eqb below 0 || leb 63 before) at (fieldAt bytes at 3)
+
+-- A statement with the number of statements so far and the cursor behind it, or the first fault.
+pub data StmtRead : Type 0 where
+  whole : Stmt → ℕ → ℕ → StmtRead
+  fault : ℕ → ℕ → StmtRead
+
+abbrev pub paired : ℕ → Stmt → Stmt → Stmt
+paired code l r = cond (eqb code 2) (seq l r) (par l r)
+
+abbrev pub tested : ℕ → Expr → Stmt → Stmt
+tested code e b = cond (eqb code 4) (if e b) (while e b)
+
+abbrev pub onAssigned : ℕ → ℕ → ExprRead → StmtRead
+onAssigned v before (bad k place) = fault k place
+onAssigned v before (good e nodes next) = whole (assign v e) before next
+
+abbrev pub onBody : ℕ → Expr → StmtRead → StmtRead
+onBody code e (fault k place) = fault k place
+onBody code e (whole b before next) = whole (tested code e b) before next
+
+abbrev pub onTest : ℕ → ℕ → ExprRead → (ℕ → ℕ → StmtRead) → StmtRead
+onTest code before (bad k place) body = fault k place
+onTest code before (good e nodes next) body = onBody code e (body before next)
+
+abbrev pub onRight : ℕ → Stmt → StmtRead → StmtRead
+onRight code l (fault k place) = fault k place
+onRight code l (whole r before next) = whole (paired code l r) before next
+
+abbrev pub onLeft : ℕ → StmtRead → (ℕ → ℕ → StmtRead) → StmtRead
+onLeft code (fault k place) right = fault k place
+onLeft code (whole l before next) right = onRight code l (right before next)
+
+abbrev pub onStmtHead : StmtHead → (ℕ → ExprRead) → ℕ → (ℕ → ℕ → StmtRead) → StmtRead
+onStmtHead (Nil next) expr before stmt = whole nil (suc before) next
+onStmtHead (Assign v next) expr before stmt = onAssigned v (suc before) (expr next)
+onStmtHead (Pair code next) expr before stmt = onLeft code (stmt (suc before) next) stmt
+onStmtHead (Test code next) expr before stmt = onTest code (suc before) (expr next) stmt
+onStmtHead (Fault k place) expr before stmt = fault k place
+
+-- The statement at a cursor. The levels to go are one more than the 16 that can be there: a field that is missing at the
+-- level past the limit is 10, not 17, and the end of the levels is never met.
+unfoldable pub stmtAt : ℕ → List ℕ → ℕ → ℕ → ℕ → StmtRead
+stmtAt zero bytes count before at = fault 17 at
+stmtAt (suc levels) bytes count before at =
+    onStmtHead (stmtHead bytes count levels before at) (wholeExpr bytes count) before (stmtAt levels bytes count)
+
+unfoldable pub wholeStmt : List ℕ → ℕ → ℕ → StmtRead
+wholeStmt bytes count at = stmtAt 17 bytes count 0 at
