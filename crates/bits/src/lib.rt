@@ -1,6 +1,11 @@
-// The packed reader: bits, fields of 1 to 64 bits and the fill of a file, most significant bit first.
+// The packed reader: bits, fields of 1 to 64 bits and the fill of a file, most significant bit first. It takes any file,
+// cursor and width, and assumes nothing of its host.
 ghost use mathlib.Core.Path.{_≡_};
-ghost use Rattle.bits.specs.Fields.{bitAt, fieldAt, fillAt};
+ghost use Prim.Native.Nat.{_+_};
+ghost use Rattle.bits.specs.Fields.{bitAt, isThere, fieldAt, furtherByte, fillAt};
+
+// The last bit that a cursor can number.
+const LAST: usize = 18446744073709551615;
 
 // What reading a field finds: its value with the next cursor, or that the file does not hold it.
 pub enum Field {
@@ -12,4 +17,66 @@ pub enum Field {
 pub enum Fill {
     Ends,
     Wrong(usize),
+}
+
+// Bit i of the file, the most significant of a byte first; 0 past the end.
+pub fn bit(src: &[u8], i: usize) -> u64
+    ensures { λ r. ⌜ r ≡ bitAt (now (src .entry)) i ⌝ }
+{
+    let byte = i / 8;
+    let after = 7 - i % 8;
+    if byte < src.len() {
+        (src[byte] as u64 >> after) % 2
+    } else {
+        0
+    }
+}
+
+// Whether a field of `width` bits at a cursor is there in full. Its last bit is tested by its byte: 8 * len need not fit.
+fn is_there(src: &[u8], at: usize, width: usize) -> bool
+    ensures { λ r. ⌜ r ≡ isThere (now (src .entry)) at width ⌝ }
+{
+    if width < 1 || width > 64 || width > LAST - at {
+        return false;
+    }
+    (at + width - 1) / 8 < src.len()
+}
+
+// The field of `width` bits at a cursor, with the next cursor, or that it is missing.
+pub fn read(src: &[u8], at: usize, width: usize) -> Field
+    ensures { λ r. ⌜ r ≡ fieldAt (now (src .entry)) at width ⌝ }
+{
+    if is_there(src, at, width) {
+        let mut value = 0;
+        for k in 0..width {
+            let next = bit(src, at + k);
+            value = value * 2 + next;
+        }
+        return Field::Value(value, at + width);
+    }
+    Field::Missing
+}
+
+// How the file ends where a byte at bit `at + skip` would be one too many. That bit may be past the last cursor.
+fn further_byte(src: &[u8], at: usize, skip: usize) -> Fill
+    ensures { λ r. ⌜ r ≡ furtherByte (now (src .entry)) (at + skip) ⌝ }
+{
+    if skip > LAST - at {
+        return Fill::Ends;
+    }
+    let next = at + skip;
+    if next / 8 < src.len() { Fill::Wrong(next) } else { Fill::Ends }
+}
+
+// Whether the file ends as it must after its last field, or the first bit that is wrong.
+pub fn read_fill(src: &[u8], at: usize) -> Fill
+    ensures { λ r. ⌜ r ≡ fillAt (now (src .entry)) at ⌝ }
+{
+    let count = (8 - at % 8) % 8;
+    for k in 0..count {
+        if bit(src, at + k) != 0 {
+            return Fill::Wrong(at + k);
+        }
+    }
+    further_byte(src, at, count)
 }

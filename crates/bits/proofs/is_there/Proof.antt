@@ -1,0 +1,33 @@
+-- Each test that fails is one that a field in full would pass; the last bit is in a byte of the file iff it is inside.
+use Prim.Native.Nat.{_+_, _-_, _/_}
+use mathlib.Core.Bool.{false, not-eq-not}
+use mathlib.Core.Logic.{⊎-elim}
+use mathlib.Core.Path.{sym}
+use native.Mathlib.Omega.{arith}
+use borrow.Author.Needs.{needs}
+use borrow.Author.Tests.{ltb-true, ltb-false, lt-ltb}
+use lib.ListN.{length}
+use Rattle.bits.proofs.Laws.{is-there, in-full, same-test}
+use Rattle.bits.proofs.is_there.Statement.{statement}
+use Rattle.bits.proofs.is_there.Tie as tie
+
+returns : tie.Need-returns
+returns c =
+    let a = c .before .args in
+    sym
+    (not-eq-not {b = false} .0 (λ e.
+    let t = in-full (a .src .now) (a .at) (a .width) e in
+    ⊎-elim (λ h. omega arith) (⊎-elim (λ h. omega (arith, ltb-true)) (λ h. omega (arith, ltb-true))) (c .if1 .came)))
+
+add-result : tie.Need-add-result
+add-result c = omega (arith, ltb-false)
+
+returns-2 : tie.Need-returns-2
+returns-2 c =
+    let a = c .before .before .before .args in
+    same-test _ _
+    (λ e. is-there (a .src .now) (a .at) (a .width) (omega arith) (omega (arith, ltb-false)) (omega (arith, ltb-true)) (omega (arith, ltb-false)))
+    (λ e. lt-ltb ((a .at + a .width - 1) / 8) (length (a .src .now)) (omega (arith, in-full (a .src .now) (a .at) (a .width) e)))
+
+pub is-there-spec : {M : Type 1} → statement M
+is-there-spec = tie.close (tie.spec (λ c. search needs) returns add-result (λ c. search needs) returns-2)
