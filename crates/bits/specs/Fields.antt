@@ -1,6 +1,6 @@
 -- Document 01, "The two files": fields are packed most significant bit first with no gaps; after the last field the byte
 -- is filled with zero bits and the file ends. A file is the list of its bytes; a cursor is the number of a bit.
-use Prim.Native.Nat.{ℕ, zero, suc, _+_, _-_, _*_, _/_, _%_, _^_}
+use Prim.Native.Nat.{ℕ, zero, suc, _+_, _-_, _*_, _/_, _%_, _^_, min}
 use mathlib.Core.Bool.{Bool, cond, _&&_}
 use mathlib.Core.List.{List}
 use mathlib.Core.Option.{Option, none, some}
@@ -10,6 +10,10 @@ use Rattle.bits.specs.declared.Field.{Field}
 use Rattle.bits.specs.declared.Field.the-variants.{Value, Missing}
 use Rattle.bits.specs.declared.Fill.{Fill}
 use Rattle.bits.specs.declared.Fill.the-variants.{Ends, Wrong}
+
+-- The length of a file in bits; a length that a usize cannot hold is the last number that it can.
+unfoldable pub bitLength : List ℕ → ℕ
+bitLength bytes = min (8 * length bytes) (2 ^ 64 - 1)
 
 -- Bit i of a file, the most significant of a byte first; 0 past the end.
 unfoldable pub bitAt : List ℕ → ℕ → ℕ

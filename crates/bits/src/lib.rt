@@ -2,7 +2,7 @@
 // cursor and width, and assumes nothing of its host.
 ghost use mathlib.Core.Path.{_≡_};
 ghost use Prim.Native.Nat.{_+_};
-ghost use Rattle.bits.specs.Fields.{bitAt, isThere, fieldAt, furtherByte, fillAt};
+ghost use Rattle.bits.specs.Fields.{bitLength, bitAt, isThere, fieldAt, furtherByte, fillAt};
 
 // The last bit that a cursor can number.
 const LAST: usize = 18446744073709551615;
@@ -17,6 +17,14 @@ pub enum Field {
 pub enum Fill {
     Ends,
     Wrong(usize),
+}
+
+// The file's length in bits, where a field that runs past the end is placed; at most the last cursor.
+pub fn bit_length(src: &[u8]) -> usize
+    ensures { λ r. ⌜ r ≡ bitLength (now (src .entry)) ⌝ }
+{
+    let len = src.len();
+    if len <= LAST / 8 { len * 8 } else { LAST }
 }
 
 // Bit i of the file, the most significant of a byte first; 0 past the end.

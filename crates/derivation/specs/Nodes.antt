@@ -4,13 +4,12 @@ use Prim.Native.Nat.{ℕ, zero, suc, _+_}
 use mathlib.Core.Bool.{Bool, cond, _||_}
 use mathlib.Core.List.{List}
 use lib.Dec.{leb, ltb, eqb}
-use Rattle.bits.specs.Fields.{fieldAt}
+use Rattle.bits.specs.Fields.{bitLength, fieldAt}
 use Rattle.bits.specs.declared.Field.{Field}
 use Rattle.bits.specs.declared.Field.the-variants.{Value, Missing}
 use Rattle.semantics.specs.Derivations.{Names, Derivation, skip, assignment, sequence, parallel, conditional, iteration, weaken}
 use Rattle.derivation.specs.declared.NodeHead.{NodeHead}
 use Rattle.derivation.specs.declared.NodeHead.the-variants.{Node, Fault}
-use Rattle.derivation.specs.Tables.{bitLength}
 
 -- 23: no such set or relation, at its field.
 unfoldable pub onName : List ℕ → ℕ → ℕ → Field → (ℕ → NodeHead) → NodeHead

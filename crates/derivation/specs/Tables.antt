@@ -5,15 +5,11 @@ use mathlib.Core.Bool.{Bool, cond, _&&_}
 use mathlib.Core.List.{List, [], _∷_, _++_}
 use lib.ListN.{length, drop}
 use lib.Dec.{leb, ltb, eqb}
-use Rattle.bits.specs.Fields.{bitAt, fieldAt}
+use Rattle.bits.specs.Fields.{bitLength, bitAt, fieldAt}
 use Rattle.bits.specs.declared.Field.{Field}
 use Rattle.bits.specs.declared.Field.the-variants.{Value, Missing}
 use Rattle.derivation.specs.declared.Tables.{Tables}
 use Rattle.derivation.specs.declared.Tables.the-variants.{Counts, Fault}
-
--- The length of a file in bits, where a field that runs past the end is placed; at most what a usize can hold.
-unfoldable pub bitLength : List ℕ → ℕ
-bitLength bytes = min (8 * length bytes) (2 ^ 64 - 1)
 
 -- The first bit of set i over n states, and of row s of relation r where there are so many sets.
 unfoldable pub setAt : ℕ → ℕ → ℕ

@@ -5,13 +5,12 @@ use mathlib.Core.Bool.{Bool, cond}
 use mathlib.Core.List.{List}
 use lib.Dec.{leb, ltb, eqb}
 use lib.IntN.{ℤ, pos, negsuc}
-use Rattle.bits.specs.Fields.{fieldAt}
+use Rattle.bits.specs.Fields.{bitLength, fieldAt}
 use Rattle.bits.specs.declared.Field.{Field}
 use Rattle.bits.specs.declared.Field.the-variants.{Value, Missing}
 use Rattle.semantics.specs.Language.{Expr, lit, var, op, int, truth}
 use Rattle.handler.specs.declared.ExprHead.{ExprHead}
 use Rattle.handler.specs.declared.ExprHead.the-variants.{Integer, Truth, Variable, Operation, Fault}
-use Rattle.handler.specs.Header.{bitLength}
 
 -- 8 bits in two's complement.
 unfoldable pub signed : ℕ → ℤ

@@ -1,18 +1,13 @@
 -- Document 01, "The two files": 3 bits number of variables, 5 bits per size.
-use Prim.Native.Nat.{ℕ, zero, suc, _+_, _-_, _*_, _^_, min}
+use Prim.Native.Nat.{ℕ, zero, suc, _+_, _*_}
 use mathlib.Core.Bool.{Bool, cond, _&&_, _||_}
 use mathlib.Core.List.{List, [], _∷_, _++_}
-use lib.ListN.{length}
 use lib.Dec.{leb, ltb}
-use Rattle.bits.specs.Fields.{bitsAt, fieldAt}
+use Rattle.bits.specs.Fields.{bitLength, bitsAt, fieldAt}
 use Rattle.bits.specs.declared.Field.{Field}
 use Rattle.bits.specs.declared.Field.the-variants.{Value, Missing}
 use Rattle.handler.specs.declared.Header.{Header}
 use Rattle.handler.specs.declared.Header.the-variants.{Sizes, Fault}
-
--- The length of a file in bits, where a field that runs past the end is placed; at most what a usize can hold.
-unfoldable pub bitLength : List ℕ → ℕ
-bitLength bytes = min (8 * length bytes) (2 ^ 64 - 1)
 
 -- One more size, at its place: 10 not there, 12 not 2 to 16, 13 N over 64 at the size that does it.
 unfoldable pub sizeRead : List ℕ → ℕ → ℕ → ℕ → Field → Header

@@ -3,13 +3,12 @@ use Prim.Native.Nat.{ℕ, zero, suc, _+_}
 use mathlib.Core.Bool.{Bool, true, false, cond, _||_}
 use mathlib.Core.List.{List}
 use lib.Dec.{leb, ltb, eqb}
-use Rattle.bits.specs.Fields.{fieldAt}
+use Rattle.bits.specs.Fields.{bitLength, fieldAt}
 use Rattle.bits.specs.declared.Field.{Field}
 use Rattle.bits.specs.declared.Field.the-variants.{Value, Missing}
 use Rattle.semantics.specs.Language.{Expr, Stmt, nil, assign, seq, par, if, while}
 use Rattle.handler.specs.declared.StmtHead.{StmtHead}
 use Rattle.handler.specs.declared.StmtHead.the-variants.{Nil, Assign, Pair, Test, Fault}
-use Rattle.handler.specs.Header.{bitLength}
 use Rattle.handler.specs.Expressions.{ExprRead, good, bad, wholeExpr}
 
 -- 15: an assignment's variable, at its field.
