@@ -1,2 +1,3 @@
 -- The laws of sets and relations of states that callers cite.
 pub mod Search
+pub mod Words

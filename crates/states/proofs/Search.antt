@@ -6,7 +6,7 @@ use native.Mathlib.Omega.{arith}
 use borrow.Author.Tests.{not-true, not-false}
 use mathlib.Core.Path.{_≡_, refl, sym, ap, ap₂, _∙_, subst}
 use mathlib.Core.Logic.{_⊎_, ⊎-elim, inl, inr}
-use mathlib.Core.Bool.{Bool, true, false, not, _&&_, _||_, true≢false, false≢true}
+use mathlib.Core.Bool.{Bool, true, false, not, _&&_, _||_, Bool·beq, true≢false, false≢true}
 use mathlib.Core.List.{List, [], _∷_}
 use mathlib.Core.Option.{Option, none, some}
 use Rattle.states.specs.Search.{implies, all, any, Search, must, given, named, orElse, each, holds}
@@ -61,6 +61,20 @@ pub bool-ext : (a b : Bool) → (a ≡ true → b ≡ true) → (b ≡ true → 
 bool-ext true b to back = sym (to refl)
 bool-ext false true to back = back refl
 bool-ext false false to back = refl
+
+pub beq-refl : (a : Bool) → Bool·beq a a ≡ true
+beq-refl true = refl
+beq-refl false = refl
+
+pub beq-true : (a b : Bool) → Bool·beq a b ≡ true → a ≡ b
+beq-true true true e = refl
+beq-true true false e = absurd (false≢true e)
+beq-true false true e = absurd (false≢true e)
+beq-true false false e = refl
+
+pub beq-false : (a : Bool) → Bool·beq a false ≡ not a
+beq-false true = refl
+beq-false false = refl
 
 pub not-true-false : (a : Bool) → (a ≡ true → ⊥) → a ≡ false
 not-true-false true h = absurd (h refl)
@@ -139,6 +153,15 @@ all-false n p h = ⊎-elim (λ e. breach (any-true n _ e)) (λ e. absurd (true�
 
     breach : (s : ℕ) × (s < n) × (not (p s) ≡ true) → (s : ℕ) × (s < n) × (p s ≡ false)
     breach w = (w .0, w .1, not-true _ (w .2))
+
+pub all-not : (n : ℕ) (p : ℕ → Bool) → all n (λ s. not (p s)) ≡ not (any n p)
+unfolding all any
+all-not zero p = refl
+all-not (suc n) p = ap (λ b. b && not (p n)) (all-not n p) ∙ neither (any n p) (p n)
+  where
+    neither : (a b : Bool) → (not a && not b) ≡ not (a || b)
+    neither true b = refl
+    neither false b = refl
 
 -- A search, and whether the condition holds.
 pub holds-none : (x : Search) → holds x ≡ true → x ≡ none
