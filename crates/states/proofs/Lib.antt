@@ -1,3 +1,4 @@
 -- The laws of sets and relations of states that callers cite.
 pub mod Search
 pub mod Words
+pub mod Reach
