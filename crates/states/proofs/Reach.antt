@@ -1,5 +1,6 @@
 -- N rounds reach the whole closure and nothing else: a round that adds nothing is final, and each other round adds one of the N states.
 use Prim.Native.Nat.{ℕ, zero, suc, _+_, _<_, _≤_, zero-le}
+use native.Mathlib.Numerals.{add-one}
 use native.Mathlib.Omega.{arith}
 use mathlib.Core.Path.{_≡_, refl, sym, ap, ap₂, _∙_}
 use mathlib.Core.Logic.{_⊎_, ⊎-elim, inl, inr, _↔_}
@@ -20,6 +21,12 @@ round n r p t = p t || any n (λ u. p u && r u t)
 unfoldable pub rounds : ℕ → (ℕ → ℕ → Bool) → (ℕ → Bool) → ℕ → ℕ → Bool
 rounds n r from zero t = from t
 rounds n r from (suc k) t = round n r (rounds n r from k) t
+
+-- A round of what k rounds reach is the next: the step of a loop that counts the rounds.
+pub rounds-next : (n : ℕ) (r : ℕ → ℕ → Bool) (from : ℕ → Bool) (k : ℕ) (p : ℕ → Bool) → ((t : ℕ) → p t ≡ rounds n r from k t)
+    → (t : ℕ) → (p t || any n (λ u. p u && r u t)) ≡ rounds n r from (k + 1) t
+unfolding rounds round
+rounds-next n r from k p same t = rw add-one (ap₂ _||_ (same t) (any-cong n _ _ (λ u l. ap (λ b. b && r u t) (same u))))
 
 -- A round from p adds nothing.
 abbrev pub Final : ℕ → (ℕ → ℕ → Bool) → (ℕ → Bool) → Type 0
@@ -124,7 +131,7 @@ module _ (n : ℕ) (r : ℕ → ℕ → Bool) (between : Between n r) where
   within-rounds : (k s t : ℕ) → within n k r s t ≡ rounds n r (eqb s) k t
   unfolding within rounds round
   within-rounds zero s t = refl
-  within-rounds (suc k) s t = ap₂ _||_ (within-rounds k s t) (any-cong n _ _ (λ u l. ap (λ b. b && r u t) (within-rounds k s u)))
+  within-rounds (suc k) s t = rw add-one at (rounds-next n r (eqb s) k (within n k r s) (within-rounds k s) t)
 
   -- Condition 66's reach, from any state.
   pub reach-exact : (s t : ℕ) → (reach n r s t ≡ true) ↔ Reached (eqb s) r t

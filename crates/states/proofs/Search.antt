@@ -1,7 +1,7 @@
 -- Laws of the bounded quantifiers and of the search for a breach, each by recursion on the bound: a state below suc n is below n or is n.
-use Prim.Native.Nat.{ℕ, zero, suc, _+_, _<_}
+use Prim.Native.Nat.{ℕ, zero, suc, _+_, _<_, _≤_}
 use native.Mathlib.Numerals.{add-one}
-use native.Mathlib.Nat.{eq-or-lt-of-le, le-of-suc-le-suc, not-suc-le-zero}
+use native.Mathlib.Nat.{eq-or-lt-of-le, le-antisymm, le-of-suc-le-suc, not-suc-le-zero}
 use native.Mathlib.Omega.{arith}
 use borrow.Author.Tests.{not-true, not-false}
 use mathlib.Core.Path.{_≡_, refl, sym, ap, ap₂, _∙_, subst}
@@ -100,9 +100,16 @@ all-at zero p h s l = absurd (not-suc-le-zero l)
 all-at (suc n) p h s l = below-cases (λ t. p t ≡ true) n s l (and-right (all n p) (p n) h) (all-at n p (and-left (all n p) (p n) h) s)
 
 -- The step of a loop that counts the states up.
-pub all-more : (n : ℕ) (p : ℕ → Bool) → all n p ≡ true → p n ≡ true → all (n + 1) p ≡ true
+pub all-next : (n : ℕ) (p : ℕ → Bool) → all (n + 1) p ≡ (all n p && p n)
 unfolding all
-all-more n p h last = rw add-one (and-both _ _ h last)
+all-next n p = rw add-one
+
+-- The end of such a loop.
+pub all-done : (s n : ℕ) (p : ℕ → Bool) → s ≤ n → n ≤ s → all s p ≡ all n p
+all-done s n p up down = ap (λ k. all k p) (le-antisymm up down)
+
+pub all-more : (n : ℕ) (p : ℕ → Bool) → all n p ≡ true → p n ≡ true → all (n + 1) p ≡ true
+all-more n p h last = all-next n p ∙ and-both _ _ h last
 
 pub all-fails : (n : ℕ) (p : ℕ → Bool) (s : ℕ) → s < n → p s ≡ false → all n p ≡ false
 all-fails n p s l h = not-true-false _ (λ e. true≢false (sym (all-at n p e s l) ∙ h))
@@ -144,6 +151,9 @@ any-true (suc n) p h = ⊎-elim (λ e. up (any-true n p e)) (λ e. (n, omega ari
 pub any-more : (n : ℕ) (p : ℕ → Bool) → any (n + 1) p ≡ (any n p || p n)
 unfolding any
 any-more n p = rw add-one
+
+pub any-done : (s n : ℕ) (p : ℕ → Bool) → s ≤ n → n ≤ s → any s p ≡ any n p
+any-done s n p up down = ap (λ k. any k p) (le-antisymm up down)
 
 pub all-false : (n : ℕ) (p : ℕ → Bool) → all n p ≡ false → (s : ℕ) × (s < n) × (p s ≡ false)
 all-false n p h = ⊎-elim (λ e. breach (any-true n _ e)) (λ e. absurd (true≢false (sym (kept e) ∙ h))) (true-or-false (any n (λ s. not (p s))))

@@ -6,6 +6,8 @@ ghost use lib.Dec.{ltb, eqb};
 ghost use Rattle.states.specs.Search.{implies, all, any};
 ghost use Rattle.states.specs.Sets.{has};
 
+pub mod relations;
+
 // A set of states: state s is at bit s, the lowest bit first.
 pub struct StateSet {
     pub bits: u64,
