@@ -3,7 +3,7 @@
 -- statement that is safe for fewer.
 use Prim.Native.Nat.{ℕ, zero, suc, _≤_}
 use native.Mathlib.Omega.{arith}
-use mathlib.Core.Path.{_≡_}
+use mathlib.Core.Path.{_≡_, refl}
 use mathlib.Core.Bool.{true}
 use mathlib.Core.Logic.{_⊎_, ⊎-map}
 use mathlib.Core.List.{List, [], _∷_, _++_, map}
@@ -67,13 +67,13 @@ module _ {A : Type 0} {F : A → Type 0} where
   each-imp g end = end
   each-imp g (and h p) = and (g _ h) (each-imp g p)
 
-  -- The first turn of a list.
-  pub each-first : {x : Option A} {rest : List (Option A)} → Each F (x ∷ rest) → (a : A) × F a
-  each-first (and {a} h p) = (a, h)
-
 -- What a step leaves is safe for fewer steps than n.
 pub data Later (m : Machine) (R G : ℕ → ℕ → Type 0) (Z : ℕ → Type 0) : ℕ → Config → Type 0 where
   later : {n : ℕ} {c : Config} → Safe m R G Z n (c .rest) (c .state) → Later m R G Z (suc n) c
+
+pub later-left : {m : Machine} {R G : ℕ → ℕ → Type 0} {Z : ℕ → Type 0} {n : ℕ} {c : Config} → Later m R G Z n c
+    → (k : ℕ) × (n ≡ suc k) × Safe m R G Z k (c .rest) (c .state)
+later-left (later {n} x) = (n, refl, x)
 
 -- What Safe asks of each state that the rely reaches, for every n at once.
 pub record Now (m : Machine) (R G : ℕ → ℕ → Type 0) (Z : ℕ → Type 0) (n : ℕ) (S : Stmt) (t : ℕ) : Type 0 where
@@ -120,3 +120,7 @@ module _ {m : Machine} {R R′ G G′ : ℕ → ℕ → Type 0} {Z Z′ : ℕ �
 
   pub safe-weaken : {n k : ℕ} {S : Stmt} {s : ℕ} → n ≤ k → Safe m R G Z n S s → Safe m R′ G′ Z′ k S s
   safe-weaken {n} {k} le = weaken-safe (weaken-later n k le)
+
+pub safe-more : {m : Machine} {R G : ℕ → ℕ → Type 0} {Z : ℕ → Type 0} {n k : ℕ} {S : Stmt} {s : ℕ} → n ≤ k → Safe m R G Z n S s
+    → Safe m R G Z k S s
+safe-more = safe-weaken (λ a b r. r) (λ a b g. g) (λ a z. z)
