@@ -13,7 +13,7 @@ use Rattle.semantics.specs.States.{Machine, value, both}
 use Rattle.semantics.specs.Steps.{Config, at, isNil, exprTurns, result, turns}
 use Rattle.semantics.specs.StepNumber.{E}
 use Rattle.semantics.specs.Conditions.{occurrences}
-use Rattle.semantics.proofs.Safe.{Star, stay, then, star-trans, star-keeps, Each, end, and, each-append, each-map, each-imp, Kept, Safe, Now, Later, later, safe-intro, safe-weaken}
+use Rattle.semantics.proofs.Safe.{Star, stay, then, star-trans, star-keeps, Each, end, and, each-append, each-map, each-imp, Kept, Safe, Now, Later, later, safe-intro, safe-more}
 
 -- The rely keeps P, and from a state of P it keeps every variable that it is not said to move.
 pub record Stable (m : Machine) (P : ℕ → Type 0) (R : ℕ → ℕ → Type 0) (moved : ℕ → Bool) : Type 0 where
@@ -41,10 +41,6 @@ pub record Context (m : Machine) (C : Expr → Stmt) (last : Expr → ℕ → Li
   pub turn : (e : Expr) (s : ℕ) → turns m (C e) s ≡ map (Option·map (λ d. at (C d) s)) (exprTurns m e s) ++ last e s
   pub waits-var : (v s : ℕ) → last (var v) s ≡ []
   pub waits-op : (o : ℕ) (l r : Expr) (s : ℕ) → last (op o l r) s ≡ []
-
-pub safe-more : {m : Machine} {R G : ℕ → ℕ → Type 0} {Z : ℕ → Type 0} {n k : ℕ} {S : Stmt} {s : ℕ}
-    → n ≤ k → Safe m R G Z n S s → Safe m R G Z k S s
-safe-more = safe-weaken (λ a b r. r) (λ a b g. g) (λ a z. z)
 
 uncounted : (b : Bool) → _≡_ {A = ℕ} (cond b 1 0) 0 → b ≡ false
 uncounted true h = absurd (omega arith)

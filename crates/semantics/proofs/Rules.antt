@@ -11,9 +11,9 @@ use Rattle.semantics.specs.States.{Machine, value, storeOf}
 use Rattle.semantics.specs.Steps.{Config, at, storing, branch}
 use Rattle.semantics.specs.StepNumber.{E}
 use Rattle.semantics.specs.Conditions.{occurrences}
-use Rattle.semantics.proofs.Safe.{Star, stay, then, star-trans, star-keeps, Each, end, and, Kept, Safe, later, safe-intro, safe-weaken}
+use Rattle.semantics.proofs.Safe.{Star, stay, then, star-trans, star-keeps, Each, end, and, Kept, Safe, later, safe-intro, safe-weaken, safe-more}
 use Rattle.semantics.proofs.Composition.{can-end, safe-nil, safe-seq}
-use Rattle.semantics.proofs.Reading.{Stable, Context, still-in, unmoved-value, evaluate, safe-more}
+use Rattle.semantics.proofs.Reading.{Stable, Context, still-in, unmoved-value, evaluate}
 use Rattle.semantics.proofs.Descent.{Descending, Short, short-below, short-later}
 
 -- What assignment and if share: nothing that they read moves, and the rely may act before and after.
