@@ -2,6 +2,7 @@
 pub mod Safe
 pub mod Composition
 pub mod Reading
+pub mod Descent
 pub mod Rules
 pub mod Conditions
 pub mod Soundness
