@@ -13,7 +13,7 @@ use Rattle.semantics.specs.States.{Machine}
 use Rattle.semantics.specs.Steps.{Config, at, within, isNil, onlyIf, result, branch, storing, exprTurns, turns}
 use Rattle.semantics.proofs.Safe.{Star, stay, Each, end, and, Safe, Later, later, later-left, star-one, star-trans, star-map, each-append, each-map, safe-now, safe-intro, safe-later, safe-more}
 
-pub isEmpty : {A : Type 0} → List A → Bool
+unfoldable pub isEmpty : {A : Type 0} → List A → Bool
 isEmpty [] = true
 isEmpty (x ∷ xs) = false
 

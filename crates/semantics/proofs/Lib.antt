@@ -3,6 +3,7 @@ pub mod Safe
 pub mod Composition
 pub mod Reading
 pub mod Rules
+pub mod Runs
 pub mod Conditions
 pub mod Soundness
 pub mod Cases
