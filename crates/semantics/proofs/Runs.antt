@@ -2,8 +2,8 @@
 -- for the rest of n; and a safe statement stands still nowhere and, unless it is nil, has an open step.
 use Prim.Native.Nat.{ℕ, zero, suc, _+_, _≤_}
 use native.Mathlib.Omega.{arith}
-use mathlib.Core.Path.{_≡_, refl, sym, subst}
-use mathlib.Core.Bool.{Bool, true, false, cond, not, _||_, _&&_, or-not-self}
+use mathlib.Core.Path.{_≡_, refl, subst}
+use mathlib.Core.Bool.{Bool, true, false, cond, not, _||_, or-not-self}
 use mathlib.Core.Logic.{_⊎_, inl, inr}
 use mathlib.Core.List.{List, [], _∷_}
 use mathlib.Core.Option.{Option, none, some, Option·some-injective, Option·none-ne-some}
@@ -52,6 +52,7 @@ module _ (m : Machine) (R G : ℕ → ℕ → Bool) (Z : ℕ → Type 0) where
   abbrev SafeHere : ℕ → Stmt → ℕ → Type 0
   SafeHere = Safe m (λ a b. R a b ≡ true) (λ a b. G a b ≡ true) Z
 
+  -- After a list of events the guarantee was kept, and what is left is safe for the steps that are left.
   along : (events : List Event) (n : ℕ) {S : Stmt} {s : ℕ} → SafeHere n S s → (now : Config) → run m events (at S s) ≡ some now
       → relyKept m R events (at S s) ≡ true
       → (left : ℕ) × (stepsMade events + left ≤ n) × SafeHere left (now .rest) (now .state)
@@ -72,15 +73,20 @@ module _ (m : Machine) (R G : ℕ → ℕ → Bool) (Z : ℕ → Type 0) where
       × ((isNil (now .rest) || isOpen (openSteps m now)) ≡ true) × (stepsMade events ≤ n) × (isNil (now .rest) ≡ true → Z (now .state))
   outcome n x events now r l =
       let (left, few, y, g) = along events n x now r l in
-      let here = safe-now y (now .state) stay in
-      (g, each-moving (here .stepped),
-       rw (each-open (here .stepped), turns-some m (now .rest) (now .state)) (or-not-self (isNil (now .rest))),
-       omega arith, here .ended)
+      let here = safe-now y (now .state) stay in (
+        g,
+        each-moving (here .stepped),
+        rw (each-open (here .stepped), turns-some m (now .rest) (now .state)) (or-not-self (isNil (now .rest))),
+        omega arith,
+        here .ended,
+      )
 
 pub promise : (m : Machine) (S : Stmt) (spec : Spec) (n : ℕ)
     → ((s : ℕ) → spec .P s ≡ true → Safe m (λ a b. spec .R a b ≡ true) (λ a b. spec .G a b ≡ true) (λ u. spec .Q s u ≡ true) n S s)
     → Promise m S spec n
 promise m S spec n x =
-    record { kept = λ events start now p r l.
-        let (g, moving, open-step, few, post) = outcome m (spec .R) (spec .G) (λ u. spec .Q start u ≡ true) n (x start p) events now r l in
-        record { guarantee = g; moving = moving; open-step = open-step; few = few; post = post } }
+    record {
+      kept = λ events start now p r l.
+          let (g, moving, open-step, few, post) = outcome m (spec .R) (spec .G) (λ u. spec .Q start u ≡ true) n (x start p) events now r l in
+          record { guarantee = g; moving = moving; open-step = open-step; few = few; post = post };
+    }
