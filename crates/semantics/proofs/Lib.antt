@@ -5,6 +5,7 @@ pub mod Reading
 pub mod Descent
 pub mod Rules
 pub mod Runs
+pub mod Values
 pub mod Conditions
 pub mod Soundness
 pub mod Cases

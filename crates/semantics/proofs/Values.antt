@@ -1,0 +1,93 @@
+-- Where the kinds fit, an expression has a value of its kind at every state: the kind of an operation's result depends on the
+-- kinds of its operands alone, and by the table of rows it is the row's.
+use Prim.Native.Nat.{ℕ}
+use mathlib.Core.Path.{_≡_, refl, sym, _∙_, ap, subst₂}
+use mathlib.Core.Bool.{Bool, true, false, false≢true, _&&_}
+use mathlib.Core.Logic.{⊎-elim}
+use mathlib.Core.List.{List, [], _∷_, map}
+use mathlib.Core.Option.{Option, none, some, Option·map, Option·none-ne-some}
+use lib.ListN.{getD, List·getD-map}
+use lib.Dec.{ltb}
+use borrow.Author.Tests.{ltb-true}
+use Rattle.states.specs.Search.{all, implies}
+use Rattle.states.proofs.Search.{all-at, implies-at, and-left, and-right, and-both, true-or-false}
+use Rattle.semantics.specs.declared.Kind.{Kind}
+use Rattle.semantics.specs.declared.Kind.the-variants.{Integer, Truth}
+use Rattle.semantics.specs.declared.Row.{Row}
+use Rattle.semantics.specs.declared.Row.the-variants.{Kinds, Unused}
+use Rattle.semantics.specs.Language.{Val, int, truth, Expr, lit, var, op, rowOf, rowFits, sameKind, kindOf, fits, ofIntegers, ofTruths, apply}
+use Rattle.semantics.specs.States.{Machine, value, both}
+
+-- The kind that an operation makes of two kinds.
+abbrev kindApply : ℕ → Kind → Kind → Option Kind
+kindApply o Integer Integer = getD (some Integer ∷ some Integer ∷ some Truth ∷ some Truth ∷ some Truth ∷ []) o none
+kindApply o Truth Truth = getD (none ∷ none ∷ none ∷ none ∷ none ∷ some Truth ∷ some Truth ∷ []) o none
+kindApply o Integer Truth = none
+kindApply o Truth Integer = none
+
+apply-kind : (o : ℕ) (a b : Val) → Option·map kindOf (apply o a b) ≡ kindApply o (kindOf a) (kindOf b)
+apply-kind o (int a) (int b) = sym (List·getD-map (Option·map kindOf) (ofIntegers a b) o none)
+apply-kind o (truth a) (truth b) = sym (List·getD-map (Option·map kindOf) (ofTruths a b) o none)
+apply-kind o (int a) (truth b) = refl
+apply-kind o (truth a) (int b) = refl
+
+abbrev isKind : Kind → Option Kind → Bool
+isKind k none = false
+isKind k (some c) = sameKind c k
+
+-- The table's rule, computed over the seven rows: an operation that fits gives the kind of its row.
+table : (a b k : Kind) → all 7 (λ o. implies (rowFits (rowOf o) k (sameKind a) (sameKind b)) (isKind k (kindApply o a b))) ≡ true
+unfolding all implies
+table Integer Integer Integer = refl
+table Integer Integer Truth = refl
+table Integer Truth Integer = refl
+table Integer Truth Truth = refl
+table Truth Integer Integer = refl
+table Truth Integer Truth = refl
+table Truth Truth Integer = refl
+table Truth Truth Truth = refl
+
+row-gives : (o : ℕ) (a b k : Kind) → rowFits (rowOf o) k (sameKind a) (sameKind b) ≡ true → isKind k (kindApply o a b) ≡ true
+row-gives o a b k h =
+    ⊎-elim (λ below. implies-at _ _ (all-at 7 _ (table a b k) o (ltb-true o 7 below)) h)
+    (λ past. absurd (false≢true (rw past at h))) (true-or-false (ltb o 7))
+
+-- A value of a kind.
+pub record Worth (o : Option Val) (k : Kind) : Type 0 where
+  pub val : Val
+  pub is : o ≡ some val
+  pub kind : sameKind (kindOf val) k ≡ true
+
+worth : (o : Option Val) (k : Kind) → isKind k (Option·map kindOf o) ≡ true → Worth o k
+worth none k h = absurd (false≢true h)
+worth (some v) k h = record { val = v; is = refl; kind = h }
+
+-- What a row asks of its operands, at operands that meet it: both have a value of the kind that they are asked for.
+row-met : (r : Row) (k : Kind) (p q : Kind → Bool) {a b : Option Val} → ((x : Kind) → p x ≡ true → Worth a x) → ((y : Kind) → q y ≡ true → Worth b y)
+    → rowFits r k p q ≡ true → (v : Val) × (w : Val) × (a ≡ some v) × (b ≡ some w) × (rowFits r k (sameKind (kindOf v)) (sameKind (kindOf w)) ≡ true)
+row-met Unused k p q f g h = absurd (false≢true h)
+row-met (Kinds x y c) k p q f g h =
+    let asked = and-left (sameKind c k && p x) (q y) h in
+    let same = and-left (sameKind c k) (p x) asked in
+    let l = f x (and-right (sameKind c k) (p x) asked) in
+    let r = g y (and-right (sameKind c k && p x) (q y) h) in
+    (l .val, r .val, l .is, r .is, and-both (sameKind c k && sameKind (kindOf (l .val)) x) _ (and-both (sameKind c k) _ same (l .kind)) (r .kind))
+
+pub fits-worth : (m : Machine) (k : Kind) (e : Expr) (s : ℕ) → fits k e ≡ true → Worth (value m e s) k
+fits-worth m k (lit v) s h = record { val = v; is = refl; kind = h }
+fits-worth m k (var v) s h = record { val = int (m .get s v); is = refl; kind = h }
+fits-worth m k (op o l r) s h =
+    let (v, w, left, right, met) = row-met (rowOf o) k _ _ (λ x. fits-worth m x l s) (λ y. fits-worth m y r s) h in
+    let made = worth (apply o v w) k (rw (apply-kind o v w) (row-gives o (kindOf v) (kindOf w) k met)) in
+    subst₂ (λ a b. Worth (both (apply o) a b) k) (sym left) (sym right) made
+
+-- A test that fits is true or false.
+pub fits-truth : (m : Machine) (e : Expr) (s : ℕ) → fits Truth e ≡ true → (b : Bool) × (value m e s ≡ some (truth b))
+fits-truth m e s h = by (fits-worth m Truth e s h)
+  where
+    by-kind : (v : Val) → sameKind (kindOf v) Truth ≡ true → (b : Bool) × (v ≡ truth b)
+    by-kind (int z) k = absurd (false≢true k)
+    by-kind (truth b) k = (b, refl)
+
+    by : Worth (value m e s) Truth → (b : Bool) × (value m e s ≡ some (truth b))
+    by x = let (b, is) = by-kind (x .val) (x .kind) in (b, x .is ∙ ap some is)
