@@ -29,13 +29,13 @@ pub record Assignment (m : Machine) (P : ℕ → Type 0) (R G Q : ℕ → ℕ �
 
 pub record Conditional (m : Machine) (P : ℕ → Type 0) (R G Q : ℕ → ℕ → Type 0) (moved : ℕ → Bool) (e : Expr) (b : Stmt) (n : ℕ) : Type 0 where
   pub undisturbed : Undisturbed m P R Q moved e
-  pub decided : (s : ℕ) → P s → (c : Bool) × (value m e s ≡ some (truth c))
+  pub decided : (s : ℕ) → P s → (c : Bool) × (value m e s ≡ some (truth c))  -- the test's kind
   pub body : (s : ℕ) → P s → value m e s ≡ some (truth true) → Safe m R G (Q s) n b s
   pub skips : (s : ℕ) → P s → value m e s ≡ some (truth false) → Q s s  -- 46
 
 pub record Iteration (m : Machine) (P K : ℕ → Type 0) (R G Q W : ℕ → ℕ → Type 0) (moved : ℕ → Bool) (e : Expr) (b : Stmt) (N n : ℕ) : Type 0 where
   pub stable : Stable m P R moved  -- 31
-  pub decided : (s : ℕ) → P s → (c : Bool) × (value m e s ≡ some (truth c))
+  pub decided : (s : ℕ) → P s → (c : Bool) × (value m e s ≡ some (truth c))  -- the test's kind
   pub inside : (s : ℕ) → P s → s < N
   pub few : occurrences moved e ≤ 1  -- 50
   pub descending : Descending N W  -- 51
@@ -60,7 +60,7 @@ has-value m s v (some w) h = (w, refl)
 -- A test that is a truth value makes one of two last steps.
 either-branch : {F : Config → Type 0} {o : Option Val} (w : Val) (b : Stmt) (u : ℕ) → o ≡ some w → (c : Bool) × (o ≡ some (truth c))
     → (o ≡ some (truth true) → F (at b u)) → (o ≡ some (truth false) → F (at nil u)) → Each F (branch (lit w) b u)
-either-branch (int z) b u is (c, has) taken passed = absurd (let z : _≡_ {A = ℕ} 0 1 = cc in omega arith)
+either-branch (int z) b u is (c, has) taken passed = absurd (let clash : _≡_ {A = ℕ} 0 1 = cc in omega arith)
 either-branch (truth true) b u is decided taken passed = and (taken is) end
 either-branch (truth false) b u is decided taken passed = and (passed is) end
 
@@ -142,21 +142,23 @@ module _ {m : Machine} {P K : ℕ → Type 0} {R G Q W : ℕ → ℕ → Type 0}
     short = still-short k (h .short) (c .advances a b (h .in-P) r);
   })
 
-  -- The test was read at τ, since the round began at t. False there, it is false from then on (54), so that the while may end (56);
-  -- true there, τ is in K (52) and so is the present state (53), where the body may begin.
+  -- False once, the test is false from then on (54), so that the while may end (56).
+  may-end : {s k t : ℕ} → Round P W s k t → value m e t ≡ some (truth false) → (u : ℕ) → Star R t u → Q s u
+  may-end {s} round is u r =
+      let at-u = round-later r round in
+      c .exits s u (at-u .began) (at-u .reached) (at-u .in-P)
+      (still (c .stable) (λ x. value m e x ≡ some (truth false)) (c .stays-false) (round .in-P) r is)
+
+  -- The test of a round that began at t was read at τ. Where it was true, τ is in K (52) and so is the present state (53), at
+  -- which the body may begin.
   test-step : {s k j t : ℕ} → Round P W s k t → ((u : ℕ) → Round P W s k u → K u → Safe m R G (Q s) j (seq b (while e b)) u)
       → (τ u : ℕ) (w : Val) → Star R t τ → Star R τ u → value m e τ ≡ some w
       → Each (Kept G (λ c. Safe m R G (Q s) j (c .rest) (c .state)) u) (branch (lit w) (seq b (while e b)) u)
-  test-step {s} round body τ u w x y has =
+  test-step round body τ u w x y has =
       let at-τ = round-later x round in
-      let at-u = round-later y at-τ in
-      let ends : value m e τ ≡ some (truth false) → (v : ℕ) → Star R u v → Q s v =
-      λ is v r. let at-v = round-later r at-u in
-      c .exits s v (at-v .began) (at-v .reached) (at-v .in-P)
-      (still (c .stable) (λ x. value m e x ≡ some (truth false)) (c .stays-false) (at-τ .in-P) (star-trans y r) is) in
       either-branch w (seq b (while e b)) u has (c .decided τ (at-τ .in-P))
-      (λ is. (inl refl, body u at-u (still (c .stable) K (c .enabled) (at-τ .in-P) y (c .enters τ (at-τ .in-P) is))))
-      (λ is. (inl refl, safe-more (omega arith) (safe-nil (ends is))))
+      (λ is. (inl refl, body u (round-later y at-τ) (still (c .stable) K (c .enabled) (at-τ .in-P) y (c .enters τ (at-τ .in-P) is))))
+      (λ is. (inl refl, safe-more (omega arith) (safe-nil (λ v r. may-end at-τ is v (star-trans y r)))))
 
   -- A round is the while's own step, the test's, and the branch.
   round-safe : (j : ℕ) {s k : ℕ} → ((u : ℕ) → Round P W s k u → K u → Safe m R G (Q s) j (seq b (while e b)) u)
