@@ -1,5 +1,5 @@
--- Safe statements compose. A statement other than nil has a turn, so a safe one can end; the left part of a sequence or a
--- parallel steps within the whole, and an own step of one side is interference for the other.
+-- Safe statements compose. A statement other than nil has a turn, so a safe one can end. A part of a sequence or a parallel
+-- steps within the whole, and a step of one side of a parallel is interference for the other.
 use Prim.Native.Nat.{ℕ, zero, suc, _+_, _<_}
 use native.Mathlib.Omega.{arith}
 use mathlib.Core.Path.{_≡_, refl, _∙_}
@@ -13,7 +13,7 @@ use Rattle.semantics.specs.States.{Machine}
 use Rattle.semantics.specs.Steps.{Config, at, within, isNil, onlyIf, result, branch, storing, exprTurns, turns}
 use Rattle.semantics.proofs.Safe.{Star, stay, Each, end, and, Safe, Later, later, later-left, star-one, star-trans, star-map, each-append, each-map, safe-now, safe-intro, safe-later, safe-more}
 
-pub isEmpty : {A : Type 0} → List A → Bool
+unfoldable pub isEmpty : {A : Type 0} → List A → Bool
 isEmpty [] = true
 isEmpty (x ∷ xs) = false
 
@@ -38,6 +38,7 @@ isLit (lit c) = true
 isLit (var v) = false
 isLit (op o l r) = false
 
+-- An expression is not both a literal and what no literal is.
 if-lit : (e : Expr) (p : Expr → Bool) → ((c : Val) → p (lit c) ≡ false) → (isLit e && p e) ≡ false
 if-lit (lit c) p h = h c
 if-lit (var v) p h = refl
@@ -70,17 +71,17 @@ module _ (m : Machine) where
       simp (empty-append, empty-map, expr-some e s) (if-lit e (λ d. isEmpty (branch d b s)) (λ c. branch-some c b s))
   turns-some (while e b) s = refl
 
-pub first : {A : Type 0} {F : A → Type 0} {xs : List (Option A)} → Each F xs → isEmpty xs ≡ false → (a : A) × F a
+each-first : {A : Type 0} {F : A → Type 0} {xs : List (Option A)} → Each F xs → isEmpty xs ≡ false → (a : A) × F a
 unfolding isEmpty
-first end h = absurd (true≢false h)
-first (and {a} f p) h = (a, f)
+each-first end h = absurd (true≢false h)
+each-first (and {a} f p) h = (a, f)
 
 module _ {m : Machine} {R G : ℕ → ℕ → Type 0} {Z : ℕ → Type 0} where
-  -- A safe statement can end, if each step of it leads to one that can.
+  -- A safe statement can end: it is nil, or it has a step, and that leaves a safe statement.
   ends : {n : ℕ} → ((c : Config) → Later m R G Z n c → (u : ℕ) × Z u) → {S : Stmt} {s : ℕ} → Safe m R G Z n S s → (u : ℕ) × Z u
   ends after {S} {s} x =
       let now = safe-now x s stay in
-      ⊎-elim (λ h. (s, now .ended h)) (λ h. let (c, q) = first (now .stepped) (turns-some m S s ∙ h) in after c (q .1))
+      ⊎-elim (λ h. (s, now .ended h)) (λ h. let (c, q) = each-first (now .stepped) (turns-some m S s ∙ h) in after c (q .1))
       (true-or-false (isNil S))
 
   later-ends : (n : ℕ) (c : Config) → Later m R G Z n c → (u : ℕ) × Z u
@@ -97,18 +98,21 @@ each-only : {F : Config → Type 0} (b : Bool) (c : Config) → (b ≡ true → 
 each-only true c f = and (f refl) end
 each-only false c f = end
 
+-- The left part's n steps, the right part's j, and the one between them.
 pub safe-seq : {m : Machine} {R G : ℕ → ℕ → Type 0} {Y Z : ℕ → Type 0} (k n j : ℕ) {L T : Stmt} {s : ℕ} → n + j < k
     → Safe m R G Y n L s → ((t : ℕ) → Y t → Safe m R G Z j T t) → Safe m R G Z k (seq L T) s
 safe-seq zero n j lt x y = absurd (omega arith)
 safe-seq (suc k) n j {L} {T} lt x y =
     safe-intro (λ t r.
-        let now = safe-now x t r in
-        record { ended = λ e. absurd (false≢true e)
-               ; stepped = each-append _ _
-                   (each-map (within (λ d. seq d T)) (λ c q.
-                       let (i, e, x′) = later-left (q .1) in
-                       (q .0, later (safe-seq k i j (omega arith) x′ y))) _ (now .stepped))
-                   (each-only (isNil L) (at T t) (λ h. (inl refl, later (safe-more (omega arith) (y t (now .ended h)))))) })
+    let now = safe-now x t r in
+    record {
+      ended = λ e. absurd (false≢true e);
+      stepped = each-append _ _
+          (each-map (within (λ d. seq d T)) (λ c q.
+          let (i, e, x′) = later-left (q .1) in
+          (q .0, later (safe-seq k i j (omega arith) x′ y))) _ (now .stepped))
+          (each-only (isNil L) (at T t) (λ h. (inl refl, later (safe-more (omega arith) (y t (now .ended h))))));
+    })
 
 -- What the two sides of a parallel owe each other: each one's rely allows the others' changes and the other side's steps, and
 -- the steps of both keep the guarantee.
@@ -129,6 +133,7 @@ kept-star f (inr g) = star-one (f _ _ g)
 abbrev pub Change : (R GL GR : ℕ → ℕ → Type 0) → ℕ → ℕ → Type 0
 Change R GL GR a b = R a b ⊎ (GL a b ⊎ GR a b)
 
+-- Both sides' steps and the last one. The postcondition may use that the present state was reached from s₀ by changes of all three.
 pub safe-par : {m : Machine} {R G RL GL RR GR : ℕ → ℕ → Type 0} {ZL ZR Z : ℕ → Type 0} → Joint R G RL GL RR GR
     → (k n j : ℕ) {L T : Stmt} (s₀ : ℕ) {s : ℕ} → n + j < k → Star (Change R GL GR) s₀ s
     → ((t : ℕ) → Star (Change R GL GR) s₀ t → ZL t → ZR t → Z t)
@@ -136,23 +141,29 @@ pub safe-par : {m : Machine} {R G RL GL RR GR : ℕ → ℕ → Type 0} {ZL ZR Z
 safe-par joint zero n j s₀ lt from post x y = absurd (omega arith)
 safe-par joint (suc k) n j {L} {T} s₀ lt from post x y =
     safe-intro (λ t r.
-        let left = safe-later x (star-map (joint .others-left) r) in
-        let right = safe-later y (star-map (joint .others-right) r) in
-        let reached = star-trans from (star-map (λ a b h. inl h) r) in
-        record { ended = λ e. absurd (false≢true e)
-               ; stepped = each-append _ _ (each-append _ _
-                   (each-map (within (λ d. par d T)) (λ c q.
-                       let (i, e, x′) = later-left (q .1) in
-                       (⊎-map (λ e. e) (joint .left-kept t (c .state)) (q .0),
-                        later (safe-par joint k i j s₀ (omega arith) (star-trans reached (kept-star (λ a b g. inr (inl g)) (q .0))) post
-                            x′ (safe-later right (kept-star (joint .left-right) (q .0)))))) _ (safe-now left t stay .stepped))
-                   (each-map (within (λ d. par L d)) (λ c q.
-                       let (i, e, y′) = later-left (q .1) in
-                       (⊎-map (λ e. e) (joint .right-kept t (c .state)) (q .0),
-                        later (safe-par joint k n i s₀ (omega arith) (star-trans reached (kept-star (λ a b g. inr (inr g)) (q .0))) post
-                            (safe-later left (kept-star (joint .right-left) (q .0))) y′))) _ (safe-now right t stay .stepped)))
-                   (each-only (isNil L && isNil T) (at nil t) (λ h.
-                       (inl refl, later (safe-more (omega arith) (safe-nil (λ u p.
-                           post u (star-trans reached (star-map (λ a b h. inl h) p))
-                           (safe-now left u (star-map (joint .others-left) p) .ended (and-left _ _ h))
-                           (safe-now right u (star-map (joint .others-right) p) .ended (and-right (isNil L) _ h))))))) ) })
+    let left = safe-later x (star-map (joint .others-left) r) in
+    let right = safe-later y (star-map (joint .others-right) r) in
+    let reached = star-trans from (star-map (λ a b h. inl h) r) in
+    record {
+      ended = λ e. absurd (false≢true e);
+      stepped = each-append _ _ (each-append _ _
+          (each-map (within (λ d. par d T)) (λ c q.
+          let (i, e, x′) = later-left (q .1) in (
+            ⊎-map (λ e. e) (joint .left-kept _ _) (q .0),
+            later (safe-par joint k i j s₀ (omega arith) (star-trans reached (kept-star (λ a b g. inr (inl g)) (q .0))) post
+                x′ (safe-later right (kept-star (joint .left-right) (q .0)))),
+          )) _ (safe-now left t stay .stepped))
+          (each-map (within (λ d. par L d)) (λ c q.
+          let (i, e, y′) = later-left (q .1) in (
+            ⊎-map (λ e. e) (joint .right-kept _ _) (q .0),
+            later (safe-par joint k n i s₀ (omega arith) (star-trans reached (kept-star (λ a b g. inr (inr g)) (q .0))) post
+                (safe-later left (kept-star (joint .right-left) (q .0))) y′),
+          )) _ (safe-now right t stay .stepped)))
+          (each-only (isNil L && isNil T) (at nil t) (λ h. (
+            inl refl,
+            later (safe-more (omega arith) (safe-nil (λ u p.
+                post u (star-trans reached (star-map (λ a b h. inl h) p))
+                (safe-now left u (star-map (joint .others-left) p) .ended (and-left _ _ h))
+                (safe-now right u (star-map (joint .others-right) p) .ended (and-right (isNil L) _ h))))),
+          )));
+    })

@@ -4,6 +4,7 @@ pub mod Composition
 pub mod Reading
 pub mod Descent
 pub mod Rules
+pub mod Runs
 pub mod Conditions
 pub mod Soundness
 pub mod Cases

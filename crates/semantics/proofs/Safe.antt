@@ -1,13 +1,13 @@
 -- What the proof of demand 3 carries along a run: a statement is safe for n more steps if, whatever the rely lets others do
 -- first, it is at its end with the postcondition, or each of its turns is a step that keeps the guarantee and leaves a
--- statement that is safe for fewer.
+-- statement that is safe for fewer. Interference keeps a statement safe, and so does weakening.
 use Prim.Native.Nat.{ℕ, zero, suc, _≤_}
 use native.Mathlib.Omega.{arith}
 use mathlib.Core.Path.{_≡_, refl}
 use mathlib.Core.Bool.{true}
 use mathlib.Core.Logic.{_⊎_, ⊎-map}
 use mathlib.Core.List.{List, [], _∷_, _++_, map}
-use mathlib.Core.Option.{Option, none, some, Option·map}
+use mathlib.Core.Option.{Option, some, Option·map}
 use Rattle.semantics.specs.Language.{Stmt}
 use Rattle.semantics.specs.States.{Machine}
 use Rattle.semantics.specs.Steps.{Config, isNil, turns}
@@ -88,10 +88,8 @@ module _ {m : Machine} {R G : ℕ → ℕ → Type 0} {Z : ℕ → Type 0} where
       record { ended = x .safe t r .0; stepped = each-imp (λ c k. (k .0, later (record { safe = k .1 }))) (x .safe t r .1) }
 
   pub safe-intro : {n : ℕ} {S : Stmt} {s : ℕ} → ((t : ℕ) → Star R s t → Now m R G Z n S t) → Safe m R G Z n S s
-  safe-intro {n = zero} x = record { safe = λ t r. (x t r .ended, each-imp (λ c k. (k .0, left (k .1))) (x t r .stepped)) }
-    where
-      left : {c : Config} → Later m R G Z zero c → ⊥
-      left = elim [ ]
+  safe-intro {n = zero} x =
+      record { safe = λ t r. (x t r .ended, each-imp (λ c k. let (i, e, y) = later-left (k .1) in (k .0, omega arith)) (x t r .stepped)) }
   safe-intro {n = suc n} x =
       record { safe = λ t r. (x t r .ended, each-imp (λ c k. (k .0, left (k .1))) (x t r .stepped)) }
     where
@@ -105,14 +103,16 @@ module _ {m : Machine} {R G : ℕ → ℕ → Type 0} {Z : ℕ → Type 0} where
 -- Weakening: a smaller rely, a larger guarantee, a larger postcondition, more steps.
 module _ {m : Machine} {R R′ G G′ : ℕ → ℕ → Type 0} {Z Z′ : ℕ → Type 0}
     (rely : (a b : ℕ) → R′ a b → R a b) (guarantee : (a b : ℕ) → G a b → G′ a b) (post : (a : ℕ) → Z a → Z′ a) where
-  -- The same, given what the steps leave.
+  -- The same, where it holds of what the steps leave.
   weaken-safe : {n k : ℕ} → ((c : Config) → Later m R G Z n c → Later m R′ G′ Z′ k c)
       → {S : Stmt} {s : ℕ} → Safe m R G Z n S s → Safe m R′ G′ Z′ k S s
   weaken-safe fewer x =
       safe-intro (λ t r.
-          let now = safe-now x t (star-map rely r) in
-          record { ended = λ e. post t (now .ended e)
-                 ; stepped = each-imp (λ c q. (⊎-map (λ e. e) (guarantee t (c .state)) (q .0), fewer c (q .1))) (now .stepped) })
+      let now = safe-now x t (star-map rely r) in
+      record {
+        ended = λ e. post t (now .ended e);
+        stepped = each-imp (λ c q. (⊎-map (λ e. e) (guarantee _ _) (q .0), fewer c (q .1))) (now .stepped);
+      })
 
   weaken-later : (n k : ℕ) → n ≤ k → (c : Config) → Later m R G Z n c → Later m R′ G′ Z′ k c
   weaken-later (suc n) zero le c x = absurd (omega arith)
