@@ -1,6 +1,6 @@
 -- How many rounds a while can have: a chain of W never comes back to a state, so that leaving a state strikes it off the list
 -- of those still ahead.
-use Prim.Native.Nat.{ℕ, zero, suc, _-_, _≤_, _<_}
+use Prim.Native.Nat.{ℕ, zero, suc, _-_, _<_}
 use native.Mathlib.Omega.{arith}
 use native.Mathlib.Decide.{ℕ-discrete}
 use mathlib.Core.Path.{_≡_, refl, sym, _∙_, ap, subst}
@@ -34,13 +34,16 @@ still-listed k list s t (i, i-below, at-i) other (j, j-below, at-j) =
     (λ ne. (j, omega arith, if-neg (ℕ-discrete j i) apart (list k) (list j) ∙ at-j))
 
 module _ {N : ℕ} {W : ℕ → ℕ → Type 0} (w : Descending N W) where
+  never-back : {s t : ℕ} → W s t → t ≢ s
+  never-back {s} r e = w .irreflexive s (subst (W s) e r)
+
   -- From a listed state whose successors are listed, each pair strikes one off.
   short-within : (k : ℕ) (list : ℕ → ℕ) (s : ℕ) → Listed (suc k) list s → ((t : ℕ) → W s t → Listed (suc k) list t) → Short W k s
   short-within zero list s i next = λ t r.
-      let (j, below, at) = still-listed zero list s t i (λ e. w .irreflexive s (subst (W s) e r)) (next t r) in omega arith
+      let (j, below, at) = still-listed zero list s t i (never-back r) (next t r) in omega arith
   short-within (suc k) list s i next = λ t r. short-within k (strike (suc k) (i .0) list) t
-      (still-listed (suc k) list s t i (λ e. w .irreflexive s (subst (W s) e r)) (next t r))
-      (λ u q. still-listed (suc k) list s u i (λ e. w .irreflexive s (subst (W s) e (w .transitive s t u r q))) (next u (w .transitive s t u r q)))
+      (still-listed (suc k) list s t i (never-back r) (next t r))
+      (λ u q. let on = w .transitive s t u r q in still-listed (suc k) list s u i (never-back on) (next u on))
 
   pub short-below : (s : ℕ) → s < N → Short W (N - 1) s
   short-below s below =

@@ -6,8 +6,9 @@ use native.Mathlib.Omega.{arith}
 use mathlib.Core.Path.{_≡_, refl, sym, _∙_, ap, ap₂}
 use mathlib.Core.Bool.{Bool, true, false, cond, false≢true}
 use mathlib.Core.Logic.{_⊎_, inl, inr, ⊎-elim, ⊎-map}
-use mathlib.Core.List.{List, [], _∷_, _++_, map}
+use mathlib.Core.List.{List, [], _++_, map}
 use mathlib.Core.Option.{Option, none, some, Option·map, Option·none-ne-some}
+use Rattle.states.proofs.Search.{true-or-false}
 use Rattle.semantics.specs.Language.{Val, int, Expr, lit, var, op, Stmt, apply}
 use Rattle.semantics.specs.States.{Machine, value, both}
 use Rattle.semantics.specs.Steps.{Config, at, isNil, exprTurns, result, turns}
@@ -22,7 +23,7 @@ pub record Stable (m : Machine) (P : ℕ → Type 0) (R : ℕ → ℕ → Type 0
 
 -- A step from expression e to d at state t: one step cheaper, and of the same value, there and at every later state unless it
 -- read a moved variable.
-record Read (m : Machine) (R : ℕ → ℕ → Type 0) (moved : ℕ → Bool) (t : ℕ) (e d : Expr) : Type 0 where
+record ExprStep (m : Machine) (R : ℕ → ℕ → Type 0) (moved : ℕ → Bool) (t : ℕ) (e d : Expr) : Type 0 where
   cheaper : E e ≡ suc (E d)
   no-more : occurrences moved d ≤ occurrences moved e
   here : value m e t ≡ value m d t
@@ -57,70 +58,83 @@ module _ {m : Machine} {P : ℕ → Type 0} {R : ℕ → ℕ → Type 0} {moved 
   pub still-in : {s t : ℕ} → P s → Star R s t → P t
   still-in p r = star-keeps (σ .closed) r p
 
+  -- What each pair of the rely keeps from a state of P, zero or more keep.
+  pub still : (F : ℕ → Type 0) → ((s t : ℕ) → P s → F s → R s t → F t) → {s t : ℕ} → P s → Star R s t → F s → F t
+  still F keeps p stay f = f
+  still F keeps p (then r q) f = still F keeps (σ .closed _ _ p r) q (keeps _ _ p f r)
+
   unmoved-variable : (v : ℕ) → moved v ≡ false → {s t : ℕ} → P s → Star R s t → m .get s v ≡ m .get t v
-  unmoved-variable v is p stay = refl
-  unmoved-variable v is p (then r q) = σ .fixed v is _ _ p r ∙ unmoved-variable v is (σ .closed _ _ p r) q
+  unmoved-variable v is {s} p r = still (λ x. m .get s v ≡ m .get x v) (λ a b q same x. same ∙ σ .fixed v is a b q x) p r refl
 
   pub unmoved-value : (e : Expr) → occurrences moved e ≡ 0 → {s t : ℕ} → P s → Star R s t → value m e s ≡ value m e t
   unmoved-value (lit c) unread p r = refl
   unmoved-value (var v) unread p r = ap (λ z. some (int z)) (unmoved-variable v (uncounted (moved v) unread) p r)
   unmoved-value (op o l r) unread p q = ap₂ (both (apply o)) (unmoved-value l (omega arith) p q) (unmoved-value r (omega arith) p q)
 
-  read-variable : (v t : ℕ) → P t → Read m R moved t (var v) (lit (int (m .get t v)))
-  read-variable v t p = record { cheaper = refl; no-more = omega arith; here = refl; beyond = by-moved (moved v) refl }
-    where
-      by-moved : (b : Bool) → moved v ≡ b → (0 < cond (moved v) 1 0) ⊎ ((u : ℕ) → Star R t u → value m (var v) u ≡ some (int (m .get t v)))
-      by-moved true is = inl (rw is (omega arith))
-      by-moved false is = inr (λ u r. ap (λ z. some (int z)) (sym (unmoved-variable v is p r)))
+  step-variable : (v t : ℕ) → P t → ExprStep m R moved t (var v) (lit (int (m .get t v)))
+  step-variable v t p = record {
+    cheaper = refl;
+    no-more = omega arith;
+    here = refl;
+    beyond = ⊎-map (λ is. rw is (omega arith)) (λ is u r. ap (λ z. some (int z)) (sym (unmoved-variable v is p r)))
+        (true-or-false (moved v));
+  }
 
-  read-left : (o : ℕ) (r : Expr) (t : ℕ) (l d : Expr) → Read m R moved t l d → Read m R moved t (op o l r) (op o d r)
-  read-left o r t l d step = record {
-      cheaper = omega arith;
-      no-more = omega arith;
-      here = ap (λ x. both (apply o) x (value m r t)) (step .here);
-      beyond = ⊎-map (λ less. omega arith) (λ same u q. ap (λ x. both (apply o) x (value m r u)) (same u q)) (step .beyond) }
+  step-left : (o : ℕ) (r : Expr) (t : ℕ) (l d : Expr) → ExprStep m R moved t l d → ExprStep m R moved t (op o l r) (op o d r)
+  step-left o r t l d step = record {
+    cheaper = omega arith;
+    no-more = omega arith;
+    here = ap (λ x. both (apply o) x (value m r t)) (step .here);
+    beyond = ⊎-map (λ less. omega arith) (λ same u q. ap (λ x. both (apply o) x (value m r u)) (same u q)) (step .beyond);
+  }
 
-  read-right : (o : ℕ) (l : Expr) (t : ℕ) (r d : Expr) → Read m R moved t r d → Read m R moved t (op o l r) (op o l d)
-  read-right o l t r d step = record {
-      cheaper = omega arith;
-      no-more = omega arith;
-      here = ap (both (apply o) (value m l t)) (step .here);
-      beyond = ⊎-map (λ less. omega arith) (λ same u q. ap (both (apply o) (value m l u)) (same u q)) (step .beyond) }
+  step-right : (o : ℕ) (l : Expr) (t : ℕ) (r d : Expr) → ExprStep m R moved t r d → ExprStep m R moved t (op o l r) (op o l d)
+  step-right o l t r d step = record {
+    cheaper = omega arith;
+    no-more = omega arith;
+    here = ap (both (apply o) (value m l t)) (step .here);
+    beyond = ⊎-map (λ less. omega arith) (λ same u q. ap (both (apply o) (value m l u)) (same u q)) (step .beyond);
+  }
 
-  read-result : (o : ℕ) (l r : Expr) (t : ℕ) {w : Val} → value m (op o l r) t ≡ some w → Each (Read m R moved t (op o l r)) (result o l r)
-  read-result o (lit a) (lit b) t {w} h = rw h (and {a = lit w} (record { cheaper = refl; no-more = omega arith; here = h; beyond = inr (λ u q. h) }) end)
-  read-result o (lit a) (var v) t h = end
-  read-result o (lit a) (op p l r) t h = end
-  read-result o (var v) r t h = end
-  read-result o (op p l q) r t h = end
+  step-result : (o : ℕ) (l r : Expr) (t : ℕ) {w : Val} → value m (op o l r) t ≡ some w → Each (ExprStep m R moved t (op o l r)) (result o l r)
+  step-result o (lit a) (lit b) t {w} h =
+      rw h (and {a = lit w} (record { cheaper = refl; no-more = omega arith; here = h; beyond = inr (λ u q. h) }) end)
+  step-result o (lit a) (var v) t h = end
+  step-result o (lit a) (op p l r) t h = end
+  step-result o (var v) r t h = end
+  step-result o (op p l q) r t h = end
 
   -- An expression with a value does not stand still.
-  reads : (e : Expr) (t : ℕ) → P t → {w : Val} → value m e t ≡ some w → Each (Read m R moved t e) (exprTurns m e t)
-  reads (lit c) t p h = end
-  reads (var v) t p h = and (read-variable v t p) end
-  reads (op o l r) t p h =
+  expr-steps : (e : Expr) (t : ℕ) → P t → {w : Val} → value m e t ≡ some w → Each (ExprStep m R moved t e) (exprTurns m e t)
+  expr-steps (lit c) t p h = end
+  expr-steps (var v) t p h = and (step-variable v t p) end
+  expr-steps (op o l r) t p h =
       let (x, y, at-l, at-r) = operands (apply o) (value m l t) (value m r t) h in
       each-append _ _
-      (each-append _ _ (each-map (λ d. op o d r) (read-left o r t l) _ (reads l t p at-l))
-      (each-map (λ d. op o l d) (read-right o l t r) _ (reads r t p at-r))) (read-result o l r t h)
+      (each-append _ _ (each-map (λ d. op o d r) (step-left o r t l) _ (expr-steps l t p at-l))
+      (each-map (λ d. op o l d) (step-right o l t r) _ (expr-steps r t p at-r))) (step-result o l r t h)
 
+  -- Others act: the remainder stays, and what it may be worth narrows.
   reading-later : {s t u : ℕ} {e d : Expr} → Star R t u → Reading m R moved s e d t → Reading m R moved s e d u
   reading-later r now = record { since = star-trans (now .since) r; few = now .few; was = λ x q. now .was x (star-trans r q) }
 
-  reading-on : {s t : ℕ} {e d d′ : Expr} → P t → Read m R moved t d d′ → Reading m R moved s e d t → Reading m R moved s e d′ t
+  -- The handler makes a step.
+  reading-on : {s t : ℕ} {e d d′ : Expr} → P t → ExprStep m R moved t d d′ → Reading m R moved s e d t → Reading m R moved s e d′ t
   reading-on {t} {d′} p step now = record {
-      since = now .since;
-      few = omega (arith, step .no-more, now .few);
-      was = λ u r. ⊎-elim
-          (λ less. let (τ, a, b, was) = now .was t stay in (τ, a, star-trans b r, was ∙ step .here ∙ unmoved-value d′ (omega (arith, now .few)) p r))
-          (λ same. let (τ, a, b, was) = now .was u r in (τ, a, b, was ∙ same u r)) (step .beyond) }
+    since = now .since;
+    few = omega (arith, step .no-more, now .few);
+    was = λ u r. ⊎-elim
+        (λ less. let (τ, a, b, was) = now .was t stay in
+        (τ, a, star-trans b r, was ∙ step .here ∙ unmoved-value d′ (omega (arith, now .few)) p r))
+        (λ same. let (τ, a, b, was) = now .was u r in (τ, a, b, was ∙ same u r)) (step .beyond);
+  }
 
-  -- A statement in which e is evaluated from a state of P, e having a value at each, is safe for a step for each of E e and
-  -- those after: if the last step is good wherever it is made with a value that e had since the start.
+  -- A statement that evaluates e from a state of P, e having a value at each of them, is safe for more than E e + j steps, if its
+  -- last step, made anywhere with a value that e had since the start, leaves what is safe for j.
   module _ {G : ℕ → ℕ → Type 0} {Z : ℕ → Type 0} {C : Expr → Stmt} {last : Expr → ℕ → List (Option Config)} (context : Context m C last)
       (e : Expr) {s j : ℕ} (p : P s) (defined : (u : ℕ) → P u → (w : Val) × (value m e u ≡ some w))
       (finish : (τ u : ℕ) (w : Val) → Star R s τ → Star R τ u → value m e τ ≡ some w
-          → Each (Kept G (λ c. Safe m R G Z j (c .rest) (c .state)) u) (last (lit w) u)) where
+      → Each (Kept G (λ c. Safe m R G Z j (c .rest) (c .state)) u) (last (lit w) u)) where
     last-turns : (k : ℕ) (d : Expr) (u : ℕ) → E d + j < suc k → Reading m R moved s e d u
         → Each (Kept G (Later m R G Z (suc k)) u) (last d u)
     last-turns k (lit w) u le now =
@@ -139,8 +153,9 @@ module _ {m : Machine} {P : ℕ → Type 0} {R : ℕ → ℕ → Type 0} {moved 
           ended = λ is. absurd (false≢true (sym (context .unended d) ∙ is));
           stepped = rw (context .turn d u) (each-append _ _
               (each-map (λ d′. at (C d′) u) (λ d′ step. (inl refl, later (next d′ (omega (arith, step .cheaper)) (reading-on in-P step now))))
-              _ (reads d u in-P (sym was ∙ has)))
-              (last-turns k d u le now)) }
+              _ (expr-steps d u in-P (sym was ∙ has)))
+              (last-turns k d u le now));
+        }
 
     evaluate-from : (k : ℕ) (d : Expr) (t : ℕ) → E d + j < k → Reading m R moved s e d t → Safe m R G Z k (C d) t
     evaluate-from zero d t le now = absurd (omega arith)

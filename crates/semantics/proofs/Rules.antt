@@ -13,37 +13,37 @@ use Rattle.semantics.specs.StepNumber.{E}
 use Rattle.semantics.specs.Conditions.{occurrences}
 use Rattle.semantics.proofs.Safe.{Star, stay, then, star-trans, star-keeps, Each, end, and, Kept, Safe, later, safe-intro, safe-weaken, safe-more}
 use Rattle.semantics.proofs.Composition.{can-end, safe-nil, safe-seq}
-use Rattle.semantics.proofs.Reading.{Stable, Context, still-in, unmoved-value, evaluate}
+use Rattle.semantics.proofs.Reading.{Stable, Context, still-in, still, unmoved-value, evaluate}
 use Rattle.semantics.proofs.Descent.{Descending, Short, short-below, short-later}
 
 -- What assignment and if share: nothing that they read moves, and the rely may act before and after.
 pub record Undisturbed (m : Machine) (P : ℕ → Type 0) (R Q : ℕ → ℕ → Type 0) (moved : ℕ → Bool) (e : Expr) : Type 0 where
-  pub stable : Stable m P R moved                                  -- 31
-  pub before : (s t u : ℕ) → P s → R s t → Q t u → Q s u           -- 32
-  pub after : (s t u : ℕ) → P s → Q s t → R t u → Q s u            -- 33
-  pub unmoved : occurrences moved e ≡ 0                            -- 41, 45
+  pub stable : Stable m P R moved  -- 31
+  pub before : (s t u : ℕ) → P s → R s t → Q t u → Q s u  -- 32
+  pub after : (s t u : ℕ) → P s → Q s t → R t u → Q s u  -- 33
+  pub unmoved : occurrences moved e ≡ 0  -- 41, 45
 
 pub record Assignment (m : Machine) (P : ℕ → Type 0) (R G Q : ℕ → ℕ → Type 0) (moved : ℕ → Bool) (v : ℕ) (e : Expr) : Type 0 where
   pub undisturbed : Undisturbed m P R Q moved e
-  pub stores : (s : ℕ) → P s → (s′ : ℕ) × (storeOf m s v (value m e s) ≡ some s′) × Q s s′ × ((s′ ≡ s) ⊎ G s s′)     -- 40, 42, 43
+  pub stores : (s : ℕ) → P s → (s′ : ℕ) × (storeOf m s v (value m e s) ≡ some s′) × Q s s′ × ((s′ ≡ s) ⊎ G s s′)  -- 40, 42, 43
 
 pub record Conditional (m : Machine) (P : ℕ → Type 0) (R G Q : ℕ → ℕ → Type 0) (moved : ℕ → Bool) (e : Expr) (b : Stmt) (n : ℕ) : Type 0 where
   pub undisturbed : Undisturbed m P R Q moved e
-  pub decided : (s : ℕ) → P s → (c : Bool) × (value m e s ≡ some (truth c))
+  pub decided : (s : ℕ) → P s → (c : Bool) × (value m e s ≡ some (truth c))  -- the test's kind
   pub body : (s : ℕ) → P s → value m e s ≡ some (truth true) → Safe m R G (Q s) n b s
-  pub skips : (s : ℕ) → P s → value m e s ≡ some (truth false) → Q s s                                               -- 46
+  pub skips : (s : ℕ) → P s → value m e s ≡ some (truth false) → Q s s  -- 46
 
 pub record Iteration (m : Machine) (P K : ℕ → Type 0) (R G Q W : ℕ → ℕ → Type 0) (moved : ℕ → Bool) (e : Expr) (b : Stmt) (N n : ℕ) : Type 0 where
-  pub stable : Stable m P R moved                                                              -- 31
-  pub decided : (s : ℕ) → P s → (c : Bool) × (value m e s ≡ some (truth c))
+  pub stable : Stable m P R moved  -- 31
+  pub decided : (s : ℕ) → P s → (c : Bool) × (value m e s ≡ some (truth c))  -- the test's kind
   pub inside : (s : ℕ) → P s → s < N
-  pub few : occurrences moved e ≤ 1                                                            -- 50
-  pub descending : Descending N W                                                              -- 51
-  pub enters : (s : ℕ) → P s → value m e s ≡ some (truth true) → K s                           -- 52
-  pub enabled : (s t : ℕ) → P s → K s → R s t → K t                                            -- 53
-  pub stays-false : (s t : ℕ) → P s → value m e s ≡ some (truth false) → R s t → value m e t ≡ some (truth false)       -- 54
-  pub advances : (s t : ℕ) → P s → R s t → (s ≡ t) ⊎ W s t                                     -- 55
-  pub exits : (s t : ℕ) → P s → (t ≡ s) ⊎ W s t → P t → value m e t ≡ some (truth false) → Q s t                        -- 56
+  pub few : occurrences moved e ≤ 1  -- 50
+  pub descending : Descending N W  -- 51
+  pub enters : (s : ℕ) → P s → value m e s ≡ some (truth true) → K s  -- 52
+  pub enabled : (s t : ℕ) → P s → K s → R s t → K t  -- 53
+  pub stays-false : (s t : ℕ) → P s → value m e s ≡ some (truth false) → R s t → value m e t ≡ some (truth false)  -- 54
+  pub advances : (s t : ℕ) → P s → R s t → (s ≡ t) ⊎ W s t  -- 55
+  pub exits : (s t : ℕ) → P s → (t ≡ s) ⊎ W s t → P t → value m e t ≡ some (truth false) → Q s t  -- 56
   pub body : (s : ℕ) → P s → K s → Safe m R G (λ u. W s u × P u) n b s
 
 assigning : (m : Machine) (v : ℕ) → Context m (assign v) (storing m v)
@@ -60,7 +60,7 @@ has-value m s v (some w) h = (w, refl)
 -- A test that is a truth value makes one of two last steps.
 either-branch : {F : Config → Type 0} {o : Option Val} (w : Val) (b : Stmt) (u : ℕ) → o ≡ some w → (c : Bool) × (o ≡ some (truth c))
     → (o ≡ some (truth true) → F (at b u)) → (o ≡ some (truth false) → F (at nil u)) → Each F (branch (lit w) b u)
-either-branch (int z) b u is (c, has) taken passed = absurd (let z : _≡_ {A = ℕ} 0 1 = cc in omega arith)
+either-branch (int z) b u is (c, has) taken passed = absurd (let clash : _≡_ {A = ℕ} 0 1 = cc in omega arith)
 either-branch (truth true) b u is decided taken passed = and (taken is) end
 either-branch (truth false) b u is decided taken passed = and (passed is) end
 
@@ -77,45 +77,49 @@ module _ {m : Machine} {P : ℕ → Type 0} {R Q : ℕ → ℕ → Type 0} {move
   present : {s τ u : ℕ} {w : Val} → P s → Star R s τ → Star R τ u → value m e τ ≡ some w → value m e u ≡ some w
   present p a b has = sym (unmoved-value (c .stable) e (c .unmoved) (still-in (c .stable) p a) b) ∙ has
 
-module _ {m : Machine} {P : ℕ → Type 0} {R G Q : ℕ → ℕ → Type 0} {moved : ℕ → Bool} where
-  pub rule-assign : {v : ℕ} {e : Expr} → Assignment m P R G Q moved v e
-      → (s : ℕ) → P s → Safe m R G (Q s) (E e + 1) (assign v e) s
-  rule-assign {v} {e} c s p = evaluate stable (assigning m v) e p defined finish (E e + 1) (omega (arith, c .undisturbed .unmoved)) (omega arith)
-    where
-      stable : Stable m P R moved
-      stable = c .undisturbed .stable
+module _ {m : Machine} {P : ℕ → Type 0} {R G Q : ℕ → ℕ → Type 0} {moved : ℕ → Bool} {v : ℕ} {e : Expr}
+    (c : Assignment m P R G Q moved v e) (s : ℕ) (p : P s) where
+  store-step : (τ u : ℕ) (w : Val) → Star R s τ → Star R τ u → value m e τ ≡ some w
+      → Each (Kept G (λ c. Safe m R G (Q s) 0 (c .rest) (c .state)) u) (storing m v (lit w) u)
+  store-step τ u w a b has =
+      let d = c .undisturbed in
+      let (s′, stores, in-Q, kept) = c .stores u (still-in (d .stable) p (star-trans a b)) in
+      let stored : storeOf m u v (some w) ≡ some s′ = rw (present d p a b has) at stores in
+      rw stored (and (kept, safe-nil (λ t r. ended-after d p (begun-before d p (star-trans a b) in-Q) r)) end)
 
-      defined : (u : ℕ) → P u → (w : Val) × (value m e u ≡ some w)
-      defined u p = has-value m u v (value m e u) (c .stores u p .1)
+  pub rule-assign : Safe m R G (Q s) (E e + 1) (assign v e) s
+  rule-assign =
+      let d = c .undisturbed in
+      evaluate (d .stable) (assigning m v) e p (λ u p. has-value m u v (value m e u) (c .stores u p .1)) store-step (E e + 1)
+      (omega (arith, d .unmoved)) (omega arith)
 
-      finish : (τ u : ℕ) (w : Val) → Star R s τ → Star R τ u → value m e τ ≡ some w
-          → Each (Kept G (λ c. Safe m R G (Q s) 0 (c .rest) (c .state)) u) (storing m v (lit w) u)
-      finish τ u w a b has =
-          let (s′, stores, in-Q, kept) = c .stores u (still-in stable p (star-trans a b)) in
-          let stored : storeOf m u v (some w) ≡ some s′ = rw (present (c .undisturbed) p a b has) at stores in
-          rw stored (and (kept, safe-nil (λ t r. ended-after (c .undisturbed) p (begun-before (c .undisturbed) p (star-trans a b) in-Q) r)) end)
+module _ {m : Machine} {P : ℕ → Type 0} {R G Q : ℕ → ℕ → Type 0} {moved : ℕ → Bool} {e : Expr} {b : Stmt} {n : ℕ}
+    (c : Conditional m P R G Q moved e b n) (s : ℕ) (p : P s) where
+  branch-step : (τ u : ℕ) (w : Val) → Star R s τ → Star R τ u → value m e τ ≡ some w
+      → Each (Kept G (λ c. Safe m R G (Q s) n (c .rest) (c .state)) u) (branch (lit w) b u)
+  branch-step τ u w x y has =
+      let d = c .undisturbed in
+      let in-P = still-in (d .stable) p (star-trans x y) in
+      let from-s : (t : ℕ) → Q u t → Q s t = λ t q. begun-before d p (star-trans x y) q in
+      either-branch w b u (present d p x y has) (c .decided u in-P)
+      (λ is. (inl refl, safe-weaken (λ a b r. r) (λ a b g. g) from-s (omega arith) (c .body u in-P is)))
+      (λ is. (inl refl, safe-more (omega arith) (safe-nil (λ t r. ended-after d p (from-s u (c .skips u in-P is)) r))))
 
-  pub rule-if : {e : Expr} {b : Stmt} {n : ℕ} → Conditional m P R G Q moved e b n
-      → (s : ℕ) → P s → Safe m R G (Q s) (E e + 1 + n) (if e b) s
-  rule-if {e} {b} {n} c s p = evaluate stable (testing m b) e p (λ u p. (_, c .decided u p .1)) finish (E e + 1 + n) (omega (arith, c .undisturbed .unmoved)) (omega arith)
-    where
-      stable : Stable m P R moved
-      stable = c .undisturbed .stable
+  pub rule-if : Safe m R G (Q s) (E e + 1 + n) (if e b) s
+  rule-if =
+      let d = c .undisturbed in
+      evaluate (d .stable) (testing m b) e p (λ u p. (_, c .decided u p .1)) branch-step (E e + 1 + n) (omega (arith, d .unmoved)) (omega arith)
 
-      finish : (τ u : ℕ) (w : Val) → Star R s τ → Star R τ u → value m e τ ≡ some w
-          → Each (Kept G (λ c. Safe m R G (Q s) n (c .rest) (c .state)) u) (branch (lit w) b u)
-      finish τ u w x y has =
-          let p-u = still-in stable p (star-trans x y) in
-          let back : (t : ℕ) → Q u t → Q s t = λ t q. begun-before (c .undisturbed) p (star-trans x y) q in
-          either-branch w b u (present (c .undisturbed) p x y has) (c .decided u p-u)
-          (λ is. (inl refl, safe-weaken (λ a b r. r) (λ a b g. g) back (omega arith) (c .body u p-u is)))
-          (λ is. (inl refl, safe-more (omega arith) (safe-nil (λ t r. ended-after (c .undisturbed) p (back u (c .skips u p-u is)) r))))
-
--- Where a while that began at s may begin its next round with no more than k rounds to come.
+-- Where a while that began at s may begin a round, with at most k more rounds to follow.
 record Round (P : ℕ → Type 0) (W : ℕ → ℕ → Type 0) (s k t : ℕ) : Type 0 where
+  began : P s
   in-P : P t
   reached : (t ≡ s) ⊎ W s t
   short : Short W k t
+
+-- What k bodies cost, each with the step to the while after it, and that while's own step, its test and its branch.
+abbrev ahead : ℕ → ℕ → ℕ → ℕ
+ahead test body k = k * (test + 2) + k * (body + 1)
 
 module _ {m : Machine} {P K : ℕ → Type 0} {R G Q W : ℕ → ℕ → Type 0} {moved : ℕ → Bool} {e : Expr} {b : Stmt} {N n : ℕ}
     (c : Iteration m P K R G Q W moved e b N n) where
@@ -129,49 +133,59 @@ module _ {m : Machine} {P K : ℕ → Type 0} {R G Q W : ℕ → ℕ → Type 0}
   still-short k short (inl e) = subst (Short W k) e short
   still-short k short (inr w) = short-later (c .descending) k short w
 
-  -- Others may act before a round.
+  -- Others may act before a round: 31 and 55.
   round-later : {s k t u : ℕ} → Star R t u → Round P W s k t → Round P W s k u
   round-later {s} {k} = star-keeps {P = Round P W s k} (λ a b h r. record {
-      in-P = c .stable .closed a b (h .in-P) r;
-      reached = onwards (h .reached) (c .advances a b (h .in-P) r);
-      short = still-short k (h .short) (c .advances a b (h .in-P) r) })
+    began = h .began;
+    in-P = c .stable .closed a b (h .in-P) r;
+    reached = onwards (h .reached) (c .advances a b (h .in-P) r);
+    short = still-short k (h .short) (c .advances a b (h .in-P) r);
+  })
 
-  enabled-later : {t u : ℕ} → P t → K t → Star R t u → K u
-  enabled-later {t} {u} p in-K r = star-keeps {P = λ x. P x × K x} (λ a b h x. (c .stable .closed a b (h .0) x, c .enabled a b (h .0) (h .1) x)) r (p, in-K) .1
+  -- False once, the test is false from then on (54), so that the while may end (56).
+  may-end : {s k t : ℕ} → Round P W s k t → value m e t ≡ some (truth false) → (u : ℕ) → Star R t u → Q s u
+  may-end {s} round is u r =
+      let at-u = round-later r round in
+      c .exits s u (at-u .began) (at-u .reached) (at-u .in-P)
+      (still (c .stable) (λ x. value m e x ≡ some (truth false)) (c .stays-false) (round .in-P) r is)
 
-  false-later : {t u : ℕ} → P t → value m e t ≡ some (truth false) → Star R t u → value m e u ≡ some (truth false)
-  false-later p is stay = is
-  false-later p is (then r q) = false-later (c .stable .closed _ _ p r) (c .stays-false _ _ p is r) q
+  -- The test of a round that began at t was read at τ. Where it was true, τ is in K (52) and so is the present state (53), at
+  -- which the body may begin.
+  test-step : {s k j t : ℕ} → Round P W s k t → ((u : ℕ) → Round P W s k u → K u → Safe m R G (Q s) j (seq b (while e b)) u)
+      → (τ u : ℕ) (w : Val) → Star R t τ → Star R τ u → value m e τ ≡ some w
+      → Each (Kept G (λ c. Safe m R G (Q s) j (c .rest) (c .state)) u) (branch (lit w) (seq b (while e b)) u)
+  test-step round body τ u w x y has =
+      let at-τ = round-later x round in
+      either-branch w (seq b (while e b)) u has (c .decided τ (at-τ .in-P))
+      (λ is. (inl refl, body u (round-later y at-τ) (still (c .stable) K (c .enabled) (at-τ .in-P) y (c .enters τ (at-τ .in-P) is))))
+      (λ is. (inl refl, safe-more (omega arith) (safe-nil (λ v r. may-end at-τ is v (star-trans y r)))))
 
-  -- A while whose body may begin wherever the test was true.
-  again : (j : ℕ) {s k : ℕ} → P s → ((u : ℕ) → Round P W s k u → K u → Safe m R G (Q s) j (seq b (while e b)) u)
+  -- A round is the while's own step, the test's, and the branch.
+  round-safe : (j : ℕ) {s k : ℕ} → ((u : ℕ) → Round P W s k u → K u → Safe m R G (Q s) j (seq b (while e b)) u)
       → (t : ℕ) → Round P W s k t → Safe m R G (Q s) (suc (suc (E e + j))) (while e b) t
-  again j {s} {k} p body t round = safe-intro (λ u r. record {
-      ended = λ is. absurd (false≢true is);
-      stepped = and (inl refl, later (evaluate (c .stable) (testing m (seq b (while e b))) e (round-later r round .in-P) (λ u p. (_, c .decided u p .1))
-          (finish u (round-later r round)) (suc (E e + j)) (c .few) (omega arith))) end })
-    where
-      finish : (t : ℕ) → Round P W s k t → (τ u : ℕ) (w : Val) → Star R t τ → Star R τ u → value m e τ ≡ some w
-          → Each (Kept G (λ c. Safe m R G (Q s) j (c .rest) (c .state)) u) (branch (lit w) (seq b (while e b)) u)
-      finish t round τ u w x y has =
-          let at-τ = round-later x round in
-          let at-u = round-later y at-τ in
-          either-branch w (seq b (while e b)) u has (c .decided τ (at-τ .in-P))
-          (λ is. (inl refl, body u at-u (enabled-later (at-τ .in-P) (c .enters τ (at-τ .in-P) is) y)))
-          (λ is. (inl refl, safe-more (omega arith) (safe-nil (λ v r.
-              let at-v = round-later r at-u in
-              c .exits s v p (at-v .reached) (at-v .in-P) (false-later (at-τ .in-P) is (star-trans y r))))))
+  round-safe j body t round = safe-intro (λ u r.
+      let at-u = round-later r round in
+      record {
+        ended = λ is. absurd (false≢true is);
+        stepped = and (
+          inl refl,
+          later (evaluate (c .stable) (testing m (seq b (while e b))) e (at-u .in-P) (λ u p. (_, c .decided u p .1))
+              (test-step at-u body) (suc (E e + j)) (c .few) (omega arith)),
+        ) end;
+      })
 
-  -- A body that can begin at a state can end, at a state that W leads to: with no such state the test cannot be true.
-  rounds : (k : ℕ) {s : ℕ} → P s → (u : ℕ) → Round P W s k u → K u → Safe m R G (Q s) (k * (E e + 2) + k * (n + 1)) (seq b (while e b)) u
-  rounds zero p u round in-K =
-      let (x, done) = can-end n (c .body u (round .in-P) in-K) in absurd (round .short x (done .0))
-  rounds (suc k) p u round in-K = safe-seq _ n (suc (suc (E e + (k * (E e + 2) + k * (n + 1))))) (omega arith) (c .body u (round .in-P) in-K)
-      (λ x (w, p-x). again (k * (E e + 2) + k * (n + 1)) p (rounds k p) x (record { in-P = p-x; reached = onwards (round .reached) (inr w); short = round .short x w }))
+  -- A body that may begin can end, and W leads to where it ends: so with no round to follow none begins.
+  body-safe : (k : ℕ) {s : ℕ} (u : ℕ) → Round P W s k u → K u → Safe m R G (Q s) (ahead (E e) n k) (seq b (while e b)) u
+  body-safe zero u round in-K =
+      let (x, ends) = can-end n (c .body u (round .in-P) in-K) in absurd (round .short x (ends .0))
+  body-safe (suc k) u round in-K =
+      safe-seq _ n (suc (suc (E e + ahead (E e) n k))) (omega arith) (c .body u (round .in-P) in-K)
+      (λ x ends. round-safe (ahead (E e) n k) (body-safe k) x
+      (record { began = round .began; in-P = ends .1; reached = onwards (round .reached) (inr (ends .0)); short = round .short x (ends .0) }))
 
   pub rule-while : (s : ℕ) → P s → Safe m R G (Q s) (N * (E e + 2) + (N - 1) * (n + 1)) (while e b) s
   rule-while s p =
       let below = c .inside s p in
-      let k : ℕ = N - 1 in
-      let whole : N ≡ k + 1 = omega arith in
-      safe-more (omega (arith, ap (λ x. x * (E e + 2)) whole)) (again (k * (E e + 2) + k * (n + 1)) p (rounds k p) s (record { in-P = p; reached = inl refl; short = short-below (c .descending) s below }))
+      let all : N ≡ N - 1 + 1 = omega arith in
+      safe-more (omega (arith, ap (λ x. x * (E e + 2)) all)) (round-safe (ahead (E e) n (N - 1)) (body-safe (N - 1)) s
+      (record { began = p; in-P = p; reached = inl refl; short = short-below (c .descending) s below }))
