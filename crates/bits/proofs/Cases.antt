@@ -21,7 +21,7 @@ pub last-fields :
 unfolding fieldAt isThere bitsAt bitAt
 last-fields = (refl, refl, refl, refl, refl)
 
--- No field has no bit or more than 64, and none ends past the last cursor.
+-- A field has 1 to 64 bits, and the largest cursor is answered.
 pub widths :
     (fieldAt handler 0 0 ≡ Missing) × (fieldAt (1 ∷ 1 ∷ 1 ∷ 1 ∷ 1 ∷ 1 ∷ handler) 0 64 ≡ Value 0x0101010101012220 64)
     × (fieldAt (1 ∷ 1 ∷ 1 ∷ 1 ∷ 1 ∷ 1 ∷ handler) 0 65 ≡ Missing) × (fieldAt handler 0xffffffffffffffff 1 ≡ Missing)

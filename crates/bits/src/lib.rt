@@ -4,7 +4,7 @@ ghost use mathlib.Core.Path.{_≡_};
 ghost use Prim.Native.Nat.{_+_};
 ghost use Rattle.bits.specs.Fields.{bitLength, bitAt, isThere, fieldAt, furtherByte, fillAt};
 
-// The last bit that a cursor can number.
+// The largest cursor.
 const LAST: usize = 18446744073709551615;
 
 // What reading a field finds: its value with the next cursor, or that the file does not hold it.
@@ -40,7 +40,8 @@ pub fn bit(src: &[u8], i: usize) -> u64
     }
 }
 
-// Whether a field of `width` bits at a cursor is there in full. Its last bit is tested by its byte: 8 * len need not fit.
+// Whether a field of `width` bits at a cursor is there in full. The byte of its last bit is tested, because 8 * len may not
+// fit.
 fn is_there(src: &[u8], at: usize, width: usize) -> bool
     ensures { λ r. ⌜ r ≡ isThere (now (src .entry)) at width ⌝ }
 {
@@ -65,7 +66,7 @@ pub fn read(src: &[u8], at: usize, width: usize) -> Field
     Field::Missing
 }
 
-// How the file ends where a byte at bit `at + skip` would be one too many. That bit may be past the last cursor.
+// How the file ends where a byte from bit `at + skip` on is one too many. That bit may be past the largest cursor.
 fn further_byte(src: &[u8], at: usize, skip: usize) -> Fill
     ensures { λ r. ⌜ r ≡ furtherByte (now (src .entry)) (at + skip) ⌝ }
 {
@@ -73,7 +74,11 @@ fn further_byte(src: &[u8], at: usize, skip: usize) -> Fill
         return Fill::Ends;
     }
     let next = at + skip;
-    if next / 8 < src.len() { Fill::Wrong(next) } else { Fill::Ends }
+    if next / 8 < src.len() {
+        Fill::Wrong(next)
+    } else {
+        Fill::Ends
+    }
 }
 
 // Whether the file ends as it must after its last field, or the first bit that is wrong.

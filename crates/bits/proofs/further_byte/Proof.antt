@@ -1,13 +1,11 @@
 -- The further byte is there, and a cursor can number its first bit, or the file ends.
 use Prim.Native.Nat.{_+_, _*_, _^_}
 use mathlib.Core.Bool.{and-false}
-use mathlib.Core.Path.{sym}
 use native.Mathlib.Omega.{arith}
 use borrow.Author.Needs.{needs}
-use borrow.Author.Tests.{le-ltb}
+use borrow.Author.Tests.{lt-ltb, le-ltb}
 use lib.ListN.{length}
 use Rattle.bits.specs.Fields.{furtherByte}
-use Rattle.bits.proofs.Laws.{further-byte}
 use Rattle.bits.proofs.further_byte.Statement.{statement}
 use Rattle.bits.proofs.further_byte.Tie as tie
 
@@ -18,7 +16,10 @@ returns c =
     simp (le-ltb (a .at + a .skip) (2 ^ 64) (omega arith), and-false)
 
 returns-2 : tie.Need-returns-2
-returns-2 c = sym (further-byte _ _ (omega arith) (omega arith))
+unfolding furtherByte
+returns-2 c =
+    let a = c .before .before .args in
+    simp (lt-ltb (a .at + a .skip) (8 * length (a .src .now)) (omega arith), lt-ltb (a .at + a .skip) (2 ^ 64) (omega arith))
 
 returns-3 : tie.Need-returns-3
 unfolding furtherByte

@@ -1,15 +1,18 @@
 -- Each test that fails is one that a field in full would pass; the last bit is in a byte of the file iff it is inside.
-use Prim.Native.Nat.{_+_, _-_, _/_}
-use mathlib.Core.Bool.{false, not-eq-not}
+use mathlib.Core.Bool.{Bool, true, false, not-eq-not}
 use mathlib.Core.Logic.{⊎-elim}
-use mathlib.Core.Path.{sym}
+use mathlib.Core.Path.{_≡_, refl, sym}
 use native.Mathlib.Omega.{arith}
 use borrow.Author.Needs.{needs}
-use borrow.Author.Tests.{ltb-true, ltb-false, lt-ltb}
-use lib.ListN.{length}
-use Rattle.bits.proofs.Laws.{is-there, in-full, same-test}
+use borrow.Author.Tests.{ltb-true, ltb-false}
+use Rattle.bits.proofs.Laws.{is-there, in-full}
 use Rattle.bits.proofs.is_there.Statement.{statement}
 use Rattle.bits.proofs.is_there.Tie as tie
+
+-- Two tests are one where the second passes after the first and not without it.
+same-test : (a b : Bool) → (a ≡ true → b ≡ true) → (a ≡ false → b ≡ true → ⊥) → a ≡ b
+same-test true b f g = sym (f refl)
+same-test false b f g = sym (not-eq-not {b = false} .0 (g refl))
 
 returns : tie.Need-returns
 returns c =
@@ -26,8 +29,9 @@ returns-2 : tie.Need-returns-2
 returns-2 c =
     let a = c .before .before .before .args in
     same-test _ _
-    (λ e. is-there (a .src .now) (a .at) (a .width) (omega arith) (omega (arith, ltb-false)) (omega (arith, ltb-true)) (omega (arith, ltb-false)))
-    (λ e. lt-ltb ((a .at + a .width - 1) / 8) (length (a .src .now)) (omega (arith, in-full (a .src .now) (a .at) (a .width) e)))
+    (λ h.
+    is-there (a .src .now) (a .at) (a .width) (omega arith) (omega (arith, ltb-false)) (omega (arith, ltb-true)) (omega (arith, ltb-false)))
+    (λ h e. omega (arith, ltb-false, in-full (a .src .now) (a .at) (a .width) e))
 
 pub is-there-spec : {M : Type 1} → statement M
 is-there-spec = tie.close (tie.spec (λ c. search needs) returns add-result (λ c. search needs) returns-2)

@@ -3,7 +3,7 @@ use Prim.Native.Nat.{ℕ, suc, _+_, _-_, _%_, _≤_, _<_}
 use mathlib.Core.Bool.{cond}
 use mathlib.Core.List.{List}
 use mathlib.Core.Option.{some}
-use mathlib.Core.Path.{_≡_, sym, _∙_}
+use mathlib.Core.Path.{_≡_, _∙_}
 use native.Mathlib.Nat.{add-zero, sub-zero}
 use native.Mathlib.Omega.{arith}
 use borrow.Author.Needs.{needs}
@@ -21,7 +21,7 @@ abbrev μ-loop : tie.MeasureT-loop
 
 -- The search from bit k of n on, in the code's numbers.
 search-from : (s : List ℕ) (at k n : ℕ) → k < n
-  → firstSet s (at + k) (n - k) ≡ cond (eqb (bitAt s (at + k)) 0) (firstSet s (at + (k + 1)) (n - (k + 1))) (some (at + k))
+    → firstSet s (at + k) (n - k) ≡ cond (eqb (bitAt s (at + k)) 0) (firstSet s (at + (k + 1)) (n - (k + 1))) (some (at + k))
 unfolding firstSet
 search-from s at k n h =
     let left : n - k ≡ suc (n - (k + 1)) = omega arith in
@@ -41,10 +41,11 @@ returns c =
 
 loop-again : tie.Need-loop-again Inv-loop μ-loop
 loop-again c =
-    let more = c .before .before .loop-test .taken in
-    (search needs,
-    rw (search-from, ← c .before .bit .ensures, eq-eqb _ _ (c .if1 .left))
-    at (c .before .before .before .loop .inv .1))
+    let more = c .before .before .loop-test .taken in (
+      search needs,
+      rw (search-from, ← c .before .bit .ensures, eq-eqb _ _ (c .if1 .left))
+          at (c .before .before .before .loop .inv .1),
+    )
 
 returns-2 : tie.Need-returns-2 Inv-loop μ-loop
 unfolding fillFrom firstSet
