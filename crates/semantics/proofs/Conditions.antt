@@ -6,7 +6,7 @@ use mathlib.Core.Logic.{_⊎_, inl, inr, ⊎-elim, ⊎-map}
 use mathlib.Core.Option.{Option, none, some, Option·none-ne-some}
 use lib.Dec.{leb, ltb, eqb}
 use lib.IntN.{ℤ, pos, negsuc}
-use borrow.Author.Tests.{ltb-true, leb-true, eqb-true, not-true, not-false}
+use borrow.Author.Tests.{ltb-true, leb-true, eqb-true, eq-eqb, not-true, not-false}
 use native.Mathlib.Nat.{le-antisymm}
 use Rattle.states.specs.Search.{all, Search, must, given, named, orElse, each}
 use Rattle.states.specs.Relations.{Reached, here, more, reach}
@@ -57,9 +57,14 @@ eqZ-true (pos a) (negsuc b) h = absurd (false≢true h)
 eqZ-true (negsuc a) (pos b) h = absurd (false≢true h)
 eqZ-true (negsuc a) (negsuc b) h = ap negsuc (le-antisymm (leb-true a b (and-right (leb b a) _ h)) (leb-true b a (and-left (leb b a) _ h)))
 
+unnamed : (s : ℕ) (x : Search) → named s x ≡ none → x ≡ none
+unfolding named
+unnamed s none h = refl
+unnamed s (some found) h = absurd (Option·none-ne-some _ (sym h))
+
 module _ (m : Machine) where
   -- A search over a set of states that finds no breach finds none at any member.
-  at-member : (p : ℕ → Bool) (f : ℕ → Search) → ((s : ℕ) → p s ≡ true → s < m .states) → inSet m p f ≡ none
+  pub at-member : (p : ℕ → Bool) (f : ℕ → Search) → ((s : ℕ) → p s ≡ true → s < m .states) → inSet m p f ≡ none
       → (s : ℕ) → p s ≡ true → f s ≡ none
   unfolding inSet
   at-member p f below e s h = given-none (p s) (f s) (each-none (m .states) _ e s (below s h)) h
@@ -76,6 +81,15 @@ module _ (m : Machine) where
   unfolding liesIn
   lies-in r q bounds e s t h =
       must-none (q s t) (at-member (r s) _ (λ u x. bounds s u x .1) (each-none (m .states) _ e s (bounds s t h .0)) t h)
+
+  -- The state that a store leaves, from the searches of 40, 42 and 43 at one start.
+  stored-at : (c : Spec) (s : ℕ) (o : Option ℕ) → inRange m o ≡ true → toAfter m o (λ s′. must (c .Q s s′)) ≡ none
+      → toAfter m o (λ s′. must (eqb s′ s || c .G s s′)) ≡ none
+      → (s′ : ℕ) × (o ≡ some s′) × (c .Q s s′ ≡ true) × ((s′ ≡ s) ⊎ (c .G s s′ ≡ true))
+  unfolding inRange toAfter
+  stored-at c s none r q g = absurd (false≢true r)
+  stored-at c s (some s′) r q g =
+      (s′, refl, must-none _ (unnamed s′ _ q), ⊎-map (eqb-true s′ s) (λ x. x) (or-cases (eqb s′ s) _ (must-none _ (unnamed s′ _ g))))
 
   module _ (c : Spec) (w : Within (m .states) c) where
     pub says31 : c31 m c ≡ none → (s t : ℕ) → c .P s ≡ true → c .R s t ≡ true → c .P t ≡ true
@@ -116,23 +130,8 @@ module _ (m : Machine) where
         → (s′ : ℕ) × (storeOf m s v (value m e s) ≡ some s′) × (c .Q s s′ ≡ true) × ((s′ ≡ s) ⊎ (c .G s s′ ≡ true))
     unfolding c40 c42 c43 afterStore
     stores v e e40 e42 e43 s p =
-        by (storeOf m s v (value m e s)) (must-none _ (at-member (c .P) _ (w .P-in) e40 s p))
+        stored-at c s (storeOf m s v (value m e s)) (must-none _ (at-member (c .P) _ (w .P-in) e40 s p))
         (at-member (c .P) _ (w .P-in) e42 s p) (at-member (c .P) _ (w .P-in) e43 s p)
-      where
-        name : (s′ : ℕ) (x : Search) → named s′ x ≡ none → x ≡ none
-        unfolding named
-        name s′ none h = refl
-        name s′ (some found) h = absurd (Option·none-ne-some _ (sym h))
-
-        by : (o : Option ℕ) → inRange m o ≡ true → toAfter m o (λ s′. must (c .Q s s′)) ≡ none
-            → toAfter m o (λ s′. must (eqb s′ s || c .G s s′)) ≡ none
-            → (s′ : ℕ) × (o ≡ some s′) × (c .Q s s′ ≡ true) × ((s′ ≡ s) ⊎ (c .G s s′ ≡ true))
-        unfolding inRange toAfter
-        by none r q g = absurd (false≢true r)
-        by (some s′) r q g =
-            (s′, refl, must-none _ (name s′ _ q),
-            ⊎-map (eqb-true s′ s) (λ x. x) (or-cases (eqb s′ s) _ (must-none _ (name s′ _ g))))
-
     pub says41 : (e : Expr) → c41 m c e ≡ none → occurrences (moves m c) e ≡ 0
     unfolding c41
     says41 e h = eqb-true _ 0 (must-none _ h)
@@ -140,3 +139,86 @@ module _ (m : Machine) where
     pub says46 : (e : Expr) → c46 m c e ≡ none → (s : ℕ) → c .P s ≡ true → value m e s ≡ some (truth false) → c .Q s s ≡ true
     unfolding c46 isFalse
     says46 e h s p is = must-none _ (given-none _ _ (at-member (c .P) _ (w .P-in) h s p) (truth-is false _ is))
+
+    -- While, with its K and W.
+    module _ (e : Expr) (K : ℕ → Bool) (W : ℕ → ℕ → Bool) (K-in : (s : ℕ) → K s ≡ true → s < m .states) (W-in : Between (m .states) W) where
+      pub says50 : c50 m c e K W ≡ none → occurrences (moves m c) e ≤ 1
+      unfolding c50
+      says50 h = leb-true _ 1 (must-none _ h)
+
+      pub says51 : c51 m c e K W ≡ none → Descending (m .states) (λ s t. W s t ≡ true)
+      unfolding c51
+      says51 h =
+          let (apart, joined) = orElse-none _ _ h in
+          record { transitive = λ s t u a b. must-none _ (at-member (W t) _ (λ x i. W-in t x i .1)
+                       (at-member (W s) _ (λ x i. W-in s x i .1) (each-none (m .states) _ joined s (W-in s t a .0)) t a) u b)
+                 ; irreflexive = λ s a. false≢true (sym (not-true _ (must-none _ (each-none (m .states) _ apart s (W-in s s a .0)))) ∙ a)
+                 ; bounded = λ s t a. W-in s t a .1 }
+
+      pub says52 : c52 m c e K W ≡ none → (s : ℕ) → c .P s ≡ true → value m e s ≡ some (truth true) → K s ≡ true
+      unfolding c52 isTrue
+      says52 h s p is = must-none _ (given-none _ _ (at-member (c .P) _ (w .P-in) h s p) (truth-is true _ is))
+
+      pub says53 : c53 m c e K W ≡ none → (s t : ℕ) → c .P s ≡ true → K s ≡ true → c .R s t ≡ true → K t ≡ true
+      unfolding c53
+      says53 h s t p k r =
+          must-none _ (at-member (c .R s) _ (λ x i. w .R-in s x i .1) (given-none _ _ (at-member (c .P) _ (w .P-in) h s p) k) t r)
+
+      pub says54 : c54 m c e K W ≡ none → (s t : ℕ) → c .P s ≡ true → value m e s ≡ some (truth false) → c .R s t ≡ true
+          → value m e t ≡ some (truth false)
+      unfolding c54 isFalse
+      says54 h s t p is r =
+          is-truth false _ (must-none _ (at-member (c .R s) _ (λ x i. w .R-in s x i .1)
+          (given-none _ _ (at-member (c .P) _ (w .P-in) h s p) (truth-is false _ is)) t r))
+
+      pub says55 : c55 m c e K W ≡ none → (s t : ℕ) → c .P s ≡ true → c .R s t ≡ true → (s ≡ t) ⊎ (W s t ≡ true)
+      unfolding c55
+      says55 h s t p r =
+          ⊎-map (eqb-true s t) (λ x. x) (or-cases (eqb s t) _
+          (must-none _ (at-member (c .R s) _ (λ x i. w .R-in s x i .1) (at-member (c .P) _ (w .P-in) h s p) t r)))
+
+      pub says56 : c56 m c e K W ≡ none → (s t : ℕ) → c .P s ≡ true → (t ≡ s) ⊎ (W s t ≡ true) → c .P t ≡ true
+          → value m e t ≡ some (truth false) → c .Q s t ≡ true
+      unfolding c56 isFalse
+      says56 h s t p near p-t is =
+          must-none _ (at-member _ _ (λ x i. w .P-in x (and-right (eqb x s || W s x) _ (and-left _ (isTruth false (value m e x)) i)))
+          (at-member (c .P) _ (w .P-in) h s p) t
+          (and-both _ _ (and-both _ _ (⊎-elim (λ x. or-left _ _ (eq-eqb t s x)) (or-right (eqb t s) _) near) p-t) (truth-is false _ is)))
+
+    -- Sequence and parallel, with the children's tables.
+    module _ (l r : Spec) (wl : Within (m .states) l) (wr : Within (m .states) r) where
+      pub says60 : c60 m c l r ≡ none → (s t : ℕ) → c .P s ≡ true → l .Q s t ≡ true → r .P t ≡ true
+      unfolding c60
+      says60 h s t p q = must-none _ (at-member (l .Q s) _ (λ x i. wl .Q-in s x i .1) (at-member (c .P) _ (w .P-in) h s p) t q)
+
+      pub says61 : c61 m c l r ≡ none → (s t u : ℕ) → c .P s ≡ true → l .Q s t ≡ true → r .Q t u ≡ true → c .Q s u ≡ true
+      unfolding c61
+      says61 h s t u p q q′ =
+          must-none _ (at-member (r .Q t) _ (λ x i. wr .Q-in t x i .1)
+          (at-member (l .Q s) _ (λ x i. wl .Q-in s x i .1) (at-member (c .P) _ (w .P-in) h s p) t q) u q′)
+
+      -- What others or either side may do, as the pairs of 66.
+      anyone : ℕ → ℕ → Bool
+      anyone a b = c .R a b || l .G a b || r .G a b
+
+      anyone-in : Between (m .states) anyone
+      unfolding anyone
+      anyone-in a b h =
+          ⊎-elim (λ x. ⊎-elim (w .R-in a b) (wl .G-in a b) (or-cases (c .R a b) _ x)) (wr .G-in a b) (or-cases (c .R a b || l .G a b) _ h)
+
+      reached : (s : ℕ) {t u : ℕ} → Reached (eqb s) anyone t → Star (Change (λ a b. c .R a b ≡ true) (λ a b. l .G a b ≡ true) (λ a b. r .G a b ≡ true)) t u
+          → Reached (eqb s) anyone u
+      unfolding anyone
+      reached s before stay = before
+      reached s before (then {s = a} {t = b} (inl x) rest) = reached s (more before (or-left _ (r .G a b) (or-left _ (l .G a b) x))) rest
+      reached s before (then {s = a} {t = b} (inr (inl x)) rest) = reached s (more before (or-left _ (r .G a b) (or-right (c .R a b) _ x))) rest
+      reached s before (then {s = a} {t = b} (inr (inr x)) rest) = reached s (more before (or-right (c .R a b || l .G a b) _ x)) rest
+
+      pub says66 : c66 m c l r ≡ none → (s t : ℕ) → c .P s ≡ true
+          → Star (Change (λ a b. c .R a b ≡ true) (λ a b. l .G a b ≡ true) (λ a b. r .G a b ≡ true)) s t
+          → l .Q s t ≡ true → r .Q s t ≡ true → c .Q s t ≡ true
+      unfolding c66 anyone
+      says66 h s t p way q q′ =
+          must-none _ (at-member _ _ (λ x i. wl .Q-in s x (and-left _ (r .Q s x) (and-left _ (reach (m .states) anyone s x) i)) .1)
+          (at-member (c .P) _ (w .P-in) h s p) t
+          (and-both _ _ (and-both _ _ q q′) (reach-exact (m .states) anyone anyone-in s t .1 (reached s (here (eq-eqb s s refl)) way))))
