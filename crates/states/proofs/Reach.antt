@@ -2,13 +2,13 @@
 use Prim.Native.Nat.{ℕ, zero, suc, _+_, _<_, _≤_, zero-le}
 use native.Mathlib.Numerals.{add-one}
 use native.Mathlib.Omega.{arith}
-use mathlib.Core.Path.{_≡_, refl, sym, ap, ap₂, _∙_}
+use mathlib.Core.Path.{_≡_, refl, ap, ap₂}
 use mathlib.Core.Logic.{_⊎_, ⊎-elim, inl, inr, _↔_}
-use mathlib.Core.Bool.{Bool, true, false, cond, not, _&&_, _||_, true≢false, false≢true}
+use mathlib.Core.Bool.{Bool, true, false, cond, _&&_, _||_}
 use lib.Dec.{eqb}
 use Rattle.states.specs.Search.{implies, all, any}
 use Rattle.states.specs.Relations.{Reached, here, more, within, reach}
-use Rattle.states.proofs.Search.{and-left, and-right, and-both, or-left, or-right, or-cases, implies-intro, implies-at, implies-false, true-or-false, below-cases, all-at, all-intro, all-false, any-intro, any-true, any-cong}
+use Rattle.states.proofs.Search.{and-left, and-right, and-both, or-left, or-right, or-cases, implies-at, implies-false, true-or-false, below-cases, all-at, all-false, any-intro, any-true, any-cong}
 
 -- The relation is between the states below n.
 abbrev pub Between : ℕ → (ℕ → ℕ → Bool) → Type 0
@@ -136,4 +136,4 @@ module _ (n : ℕ) (r : ℕ → ℕ → Bool) (between : Between n r) where
   -- Condition 66's reach, from any state.
   pub reach-exact : (s t : ℕ) → (reach n r s t ≡ true) ↔ Reached (eqb s) r t
   unfolding reach
-  reach-exact s t = rw (within-rounds n s t) (rounds-exact (eqb s) t)
+  reach-exact s t = let same : reach n r s t ≡ rounds n r (eqb s) n t = within-rounds n s t in rw same (rounds-exact (eqb s) t)

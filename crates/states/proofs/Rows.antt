@@ -1,21 +1,20 @@
 -- Relations as rows of words: a pair lies between states below n, and a row holds at most 64 states.
-use Prim.Native.Nat.{ℕ, zero, suc, _+_, _<_, _≤_}
+use Prim.Native.Nat.{ℕ, _+_, _<_, _≤_}
 use native.Mathlib.Nat.{not-suc-le-zero}
 use native.Mathlib.Numerals.{add-one}
 use native.Mathlib.Decide.{decLt}
 use native.Mathlib.Omega.{arith}
-use mathlib.Core.Path.{_≡_, refl, sym, ap, ap₂, _∙_, subst}
-use mathlib.Core.Bool.{Bool, true, false, _&&_, _||_, true≢false}
+use mathlib.Core.Path.{_≡_, sym, ap, _∙_}
+use mathlib.Core.Bool.{Bool, true, false, _&&_, true≢false}
 use mathlib.Core.List.{List, [], _∷_}
 use lib.ListN.{getD, length, set, length-set, List·getD-eq-default}
 use lib.Seq.{getD-set-same, getD-set-other}
 use lib.Dec.{ltb}
 use borrow.Author.Tests.{ltb-true, lt-ltb, le-ltb}
-use Rattle.states.specs.declared.StateSet.{StateSet}
-use Rattle.states.specs.Search.{all, any}
-use Rattle.states.specs.Sets.{mem, has}
+use Rattle.states.specs.Search.{all}
+use Rattle.states.specs.Sets.{mem}
 use Rattle.states.specs.Relations.{rel}
-use Rattle.states.proofs.Search.{and-left, and-right, and-both, bool-ext, not-true-false, below-cases, all-at, all-intro, all-cong}
+use Rattle.states.proofs.Search.{and-left, and-right, and-both, bool-ext, not-true-false, below-cases, all-at, all-intro}
 use Rattle.states.proofs.Words.{bit, mem-bit, mem-nought}
 use Rattle.states.proofs.Reach.{Between}
 

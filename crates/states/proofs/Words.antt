@@ -1,17 +1,17 @@
 -- Sets as lists of words: an operation that acts bit by bit acts state by state, and words below 2 ^ 64 are equal where their members are.
-use Prim.Native.Nat.{ℕ, zero, suc, _+_, _-_, _*_, _/_, _%_, _^_, _<_, _≤_, zero-le}
-use native.Mathlib.Nat.{zero-div, mod-lt, pow-suc, pow-zero, div-one, div-div-eq-div-mul, mul-comm, div-lt-iff-lt-mul, lt-of-lt-of-le, one-mul}
+use Prim.Native.Nat.{ℕ, zero, suc, _+_, _-_, _*_, _/_, _%_, _^_, _<_, zero-le}
+use native.Mathlib.Nat.{zero-div, mod-lt, pow-suc, div-one, div-div-eq-div-mul, mul-comm, one-mul}
 use native.Mathlib.Decide.{decLt}
 use native.Mathlib.Omega.{arith}
-use mathlib.Core.Path.{_≡_, refl, sym, ap, ap₂, _∙_, subst}
-use mathlib.Core.Logic.{_⊎_, ⊎-elim, inl, inr, _↔_}
+use mathlib.Core.Path.{_≡_, refl, sym, ap, _∙_}
+use mathlib.Core.Logic.{_↔_}
 use mathlib.Core.Bool.{Bool, true, false, not, xor, _&&_, _||_, Bool·beq, and-false, true≢false, false≢true}
 use mathlib.Core.List.{List, [], _∷_, zipWith}
 use lib.ListN.{getD, length}
 use lib.Seq.{ext-getD}
 use lib.Dec.{eqb, ltb, eqb·suc-suc, eqb·zero-suc, eqb·suc-zero, leb·suc-suc}
 use lib.Bits.{bitAnd, bitOr, bitXor, and-shr, or-shr, xor-shr, and-mod, or-mod, xor-mod, and-lt}
-use lib.Pow.{pow-pos, pow-mono, shl-exact}
+use lib.Pow.{pow-pos, shl-exact}
 use borrow.Author.Tests.{eqb-true, eq-eqb, lt-ltb, le-ltb}
 use Rattle.states.specs.Search.{implies, all, any}
 use Rattle.states.specs.Sets.{mem}

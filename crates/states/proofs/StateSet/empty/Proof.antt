@@ -1,5 +1,4 @@
 -- The word 0 has no bit.
-use mathlib.Core.Path.{refl}
 use Rattle.states.specs.Sets.{has}
 use Rattle.states.proofs.Words.{mem-nought}
 use Rattle.states.proofs.StateSet.empty.Statement.{statement}

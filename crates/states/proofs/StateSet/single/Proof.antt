@@ -14,7 +14,7 @@ use Rattle.states.proofs.StateSet.single.Tie as tie
 returns : tie.Need-returns
 unfolding has
 returns c t =
-    mem-bit _ t ∙ ap (λ x. ltb t 64 && bit x t) (shifted (c .before .args .s) (c .if1 .taken))
+    mem-bit _ t ∙ ap (λ x. ltb t 64 && bit x t) (shifted (c .before .args .s) (omega arith))
     ∙ ap (λ b. ltb t 64 && b) (bit-power (c .before .args .s) t)
 
 returns-2 : tie.Need-returns-2

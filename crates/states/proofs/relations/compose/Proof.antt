@@ -1,7 +1,6 @@
 -- Row s is the image by b of the row of a. The rows below s are filled.
 use Prim.Native.Nat.{ℕ, _-_}
-use native.Mathlib.Omega.{arith}
-use mathlib.Core.Path.{_≡_, _∙_, ap, refl}
+use mathlib.Core.Path.{_∙_, ap, refl}
 use mathlib.Core.Bool.{Bool, _&&_}
 use mathlib.Core.List.{List}
 use borrow.Author.Needs.{needs}
@@ -28,9 +27,6 @@ Inv-loop n a b rows₀ s₀ rows s = Filled (composed n a b) s rows
 abbrev μ-loop : tie.MeasureT-loop
 μ-loop n a b rows₀ s₀ rows s = 64 - s
 
-loop-holds : tie.Need-loop-holds Inv-loop μ-loop
-loop-holds c = filled-none _ _ refl
-
 loop-again : tie.Need-loop-again Inv-loop μ-loop
 unfolding has
 loop-again c =
@@ -43,4 +39,7 @@ returns : tie.Need-returns Inv-loop μ-loop
 returns c = filled-rel _ _ _ _ (composed-between _ _ _) (c .loop-test .left) (c .before .loop .inv)
 
 pub compose-spec : {M : Type 1} → statement M
-compose-spec = tie.close (tie.spec Inv-loop μ-loop loop-holds (λ c κs. search needs) (λ c κs. search needs) (λ c. search needs) (λ c. search needs) (λ c. search needs) (λ c. search needs) (λ c. search needs) loop-again returns)
+compose-spec =
+    tie.close
+    (tie.spec Inv-loop μ-loop (λ c. filled-none _ _ refl) (λ c κs. search needs) (λ c κs. search needs) (λ c. search needs)
+    (λ c. search needs) (λ c. search needs) (λ c. search needs) (λ c. search needs) loop-again returns)

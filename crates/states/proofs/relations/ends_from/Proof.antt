@@ -1,9 +1,8 @@
 -- The row of s is joined where s is in the set, and is not asked for where it is not.
 use mathlib.Core.Path.{_∙_, sym, ap}
-use mathlib.Core.Bool.{_&&_, _||_, or-false}
+use mathlib.Core.Bool.{_||_, or-false}
 use borrow.Author.Needs.{needs}
 use Rattle.states.specs.Sets.{has}
-use Rattle.states.specs.Relations.{rel}
 use Rattle.states.proofs.relations.ends_from.Statement.{statement}
 use Rattle.states.proofs.relations.ends_from.Tie as tie
 

@@ -28,4 +28,7 @@ returns : tie.Need-returns Inv-loop μ-loop
 returns c t = c .before .loop .inv .1 t ∙ any-done _ _ _ (c .before .loop .inv .0) (c .loop-test .left)
 
 pub image-spec : {M : Type 1} → statement M
-image-spec = tie.close (tie.spec Inv-loop μ-loop (λ c κs. search needs) loop-holds (λ c κs. search needs) (λ c. search needs) (λ c. search needs) loop-again returns)
+image-spec =
+    tie.close
+    (tie.spec Inv-loop μ-loop (λ c κs. search needs) loop-holds (λ c κs. search needs) (λ c. search needs) (λ c. search needs)
+    loop-again returns)

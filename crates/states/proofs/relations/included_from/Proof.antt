@@ -1,5 +1,5 @@
 -- The rows below s that start in the set are included. `all-next` adds the next.
-use Prim.Native.Nat.{ℕ, _≤_, _-_}
+use Prim.Native.Nat.{_≤_, _-_}
 use native.Mathlib.Omega.{arith}
 use mathlib.Core.Path.{_≡_, _∙_, sym, ap₂, refl}
 use mathlib.Core.Bool.{_&&_}
@@ -29,4 +29,6 @@ returns : tie.Need-returns Inv-loop μ-loop
 returns c = c .before .loop .inv .1 ∙ all-done _ _ _ (c .before .loop .inv .0) (c .loop-test .left)
 
 pub included-from-spec : {M : Type 1} → statement M
-included-from-spec = tie.close (tie.spec Inv-loop μ-loop loop-holds (λ c κs. search needs) (λ c. search needs) (λ c. search needs) loop-again returns)
+included-from-spec =
+    tie.close
+    (tie.spec Inv-loop μ-loop loop-holds (λ c κs. search needs) (λ c. search needs) (λ c. search needs) loop-again returns)

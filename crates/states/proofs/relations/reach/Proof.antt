@@ -25,8 +25,12 @@ loop-holds c = (omega arith, λ t. refl)
 
 loop-again : tie.Need-loop-again Inv-loop μ-loop
 loop-again c =
-    let l = c .before .before .before .loop in
-    (omega arith, λ t. c .join .ensures t ∙ ap (λ b. has (l .reached) t || b) (c .before .image .ensures t) ∙ rounds-next _ _ _ (l .counter) (has (l .reached)) (l .inv .1) t)
+    let l = c .before .before .before .loop in (
+      omega arith,
+      λ t.
+          c .join .ensures t ∙ ap (λ b. has (l .reached) t || b) (c .before .image .ensures t)
+          ∙ rounds-next _ _ _ (l .counter) (has (l .reached)) (l .inv .1) t,
+    )
 
 returns : tie.Need-returns Inv-loop μ-loop
 returns c t =
@@ -38,4 +42,7 @@ returns c t =
     rw exact (rounds-exact (a .n) r (rel-between (a .n) (a .rows .now)) (has (a .from)) t)
 
 pub reach-spec : {M : Type 1} → statement M
-reach-spec = tie.close (tie.spec Inv-loop μ-loop loop-holds (λ c κs. search needs) (λ c κs. search needs) (λ c. search needs) (λ c. search needs) loop-again returns)
+reach-spec =
+    tie.close
+    (tie.spec Inv-loop μ-loop loop-holds (λ c κs. search needs) (λ c κs. search needs) (λ c. search needs) (λ c. search needs)
+    loop-again returns)

@@ -23,4 +23,6 @@ returns-2 c t =
     c .empty .ensures t ∙ sym (not-true-false _ (λ e. omega (arith, rel-between (a .n) (a .rows .now) (a .s) t e .0)))
 
 pub row-spec : {M : Type 1} → statement M
-row-spec = tie.close (tie.spec (λ c κs. search needs) (λ c κs. search needs) (λ c κs. search needs) (λ c κs. search needs) returns returns-2)
+row-spec =
+    tie.close
+    (tie.spec (λ c κs. search needs) (λ c κs. search needs) (λ c κs. search needs) (λ c κs. search needs) returns returns-2)
