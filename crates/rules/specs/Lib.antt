@@ -1,0 +1,3 @@
+-- The tables as the work words hold them, and the verdict on two files.
+pub mod Words
+pub mod Verdicts
