@@ -115,11 +115,14 @@ module _ (m : Machine) where
     -- 31, and what "moves" leaves alone.
     pub stable : c31 m c ≡ none → Stable m (λ s. c .P s ≡ true) (λ s t. c .R s t ≡ true) (moves m c)
     unfolding moves
-    stable e = record { closed = says31 e; fixed = λ v still s t p r.
-        let at-s = any-at (m .states) _ still s (w .P-in s p) in
-        let ends = by (c .P s) _ p at-s in
-        let at-t = any-at (m .states) _ ends t (w .R-in s t r .1) in
-        eqZ-true _ _ (not-false _ (by (c .R s t) _ r at-t)) }
+    stable e = record {
+      closed = says31 e;
+      fixed = λ v still s t p r.
+          let at-s = any-at (m .states) _ still s (w .P-in s p) in
+          let ends = by (c .P s) _ p at-s in
+          let at-t = any-at (m .states) _ ends t (w .R-in s t r .1) in
+          eqZ-true _ _ (not-false _ (by (c .R s t) _ r at-t));
+    }
       where
         by : (a b : Bool) → a ≡ true → (a && b) ≡ false → b ≡ false
         by true b h e = e
@@ -132,6 +135,7 @@ module _ (m : Machine) where
     stores v e e40 e42 e43 s p =
         stored-at c s (storeOf m s v (value m e s)) (must-none _ (at-member (c .P) _ (w .P-in) e40 s p))
         (at-member (c .P) _ (w .P-in) e42 s p) (at-member (c .P) _ (w .P-in) e43 s p)
+
     pub says41 : (e : Expr) → c41 m c e ≡ none → occurrences (moves m c) e ≡ 0
     unfolding c41
     says41 e h = eqb-true _ 0 (must-none _ h)
@@ -150,10 +154,12 @@ module _ (m : Machine) where
       unfolding c51
       says51 h =
           let (apart, joined) = orElse-none _ _ h in
-          record { transitive = λ s t u a b. must-none _ (at-member (W t) _ (λ x i. W-in t x i .1)
-                       (at-member (W s) _ (λ x i. W-in s x i .1) (each-none (m .states) _ joined s (W-in s t a .0)) t a) u b)
-                 ; irreflexive = λ s a. false≢true (sym (not-true _ (must-none _ (each-none (m .states) _ apart s (W-in s s a .0)))) ∙ a)
-                 ; bounded = λ s t a. W-in s t a .1 }
+          record {
+            transitive = λ s t u a b. must-none _ (at-member (W t) _ (λ x i. W-in t x i .1)
+                (at-member (W s) _ (λ x i. W-in s x i .1) (each-none (m .states) _ joined s (W-in s t a .0)) t a) u b);
+            irreflexive = λ s a. false≢true (sym (not-true _ (must-none _ (each-none (m .states) _ apart s (W-in s s a .0)))) ∙ a);
+            bounded = λ s t a. W-in s t a .1;
+          }
 
       pub says52 : c52 m c e K W ≡ none → (s : ℕ) → c .P s ≡ true → value m e s ≡ some (truth true) → K s ≡ true
       unfolding c52 isTrue

@@ -121,8 +121,12 @@ module _ (m : Machine) where
       → Body c d P′ Q′
   as-body c d w wd P′ Q′ below e34 =
       let (same-P, same-R, same-G, same-Q) = four _ _ _ _ e34 in
-      record { enters = into-set (d .P) P′ below same-P; rely = into (d .R) (c .R) (w .R-in) same-R;
-          guarantee = out-of (d .G) (c .G) (wd .G-in) same-G; post = out-of (d .Q) Q′ (wd .Q-in) same-Q }
+      record {
+        enters = into-set (d .P) P′ below same-P;
+        rely = into (d .R) (c .R) (w .R-in) same-R;
+        guarantee = out-of (d .G) (c .G) (wd .G-in) same-G;
+        post = out-of (d .Q) Q′ (wd .Q-in) same-Q;
+      }
 
   if-safe : (c d : Spec) → Within (m .states) c → Within (m .states) d → (e : Expr) (b : Stmt) (n : ℕ) → fits Truth e ≡ true
       → c31 m c ≡ none → c32 m c ≡ none → c33 m c ≡ none → c34if m c e d ≡ none → c41 m c e ≡ none → c46 m c e ≡ none
@@ -131,11 +135,12 @@ module _ (m : Machine) where
   if-safe c d w wd e b n kinds e31 e32 e33 e34 e45 e46 body =
       let inner = as-body c d w wd (λ s. c .P s && isTrue m e s) (c .Q) (λ s h. w .P-in s (and-left (c .P s) _ h)) e34 in
       rule-if (record {
-          undisturbed = undisturbed c w e e31 e32 e33 e45;
-          decided = λ s p. fits-truth m e s kinds;
-          body = λ s p is. safe-weaken (inner .rely) (inner .guarantee) (inner .post s) (le-refl n)
-              (body s (inner .enters s (and-both (c .P s) _ p (truth-is true _ is))));
-          skips = says46 m c w e e46 })
+        undisturbed = undisturbed c w e e31 e32 e33 e45;
+        decided = λ s p. fits-truth m e s kinds;
+        body = λ s p is. safe-weaken (inner .rely) (inner .guarantee) (inner .post s) (le-refl n)
+            (body s (inner .enters s (and-both (c .P s) _ p (truth-is true _ is))));
+        skips = says46 m c w e e46;
+      })
 
   while-safe : (c d : Spec) → Within (m .states) c → Within (m .states) d → (e : Expr) (b : Stmt) (n : ℕ) → fits Truth e ≡ true
       → (K : ℕ → Bool) (W : ℕ → ℕ → Bool) (K-in : (s : ℕ) → K s ≡ true → s < m .states) (W-in : Between (m .states) W)
@@ -147,19 +152,20 @@ module _ (m : Machine) where
   while-safe c d w wd e b n kinds K W K-in W-in e31 e34 e50 e51 e52 e53 e54 e55 e56 body =
       let inner = as-body c d w wd (λ s. c .P s && K s) (λ s t. W s t && c .P t) (λ s h. w .P-in s (and-left (c .P s) _ h)) e34 in
       rule-while (record {
-          stable = stable m c w e31;
-          decided = λ s p. fits-truth m e s kinds;
-          inside = w .P-in;
-          few = says50 m c w e K W K-in W-in e50;
-          descending = says51 m c w e K W K-in W-in e51;
-          enters = says52 m c w e K W K-in W-in e52;
-          enabled = says53 m c w e K W K-in W-in e53;
-          stays-false = says54 m c w e K W K-in W-in e54;
-          advances = says55 m c w e K W K-in W-in e55;
-          exits = says56 m c w e K W K-in W-in e56;
-          body = λ s p k. safe-weaken (inner .rely) (inner .guarantee)
-              (λ u q. let both = inner .post s u q in (and-left (W s u) _ both, and-right (W s u) _ both)) (le-refl n)
-              (body s (inner .enters s (and-both (c .P s) _ p k))) })
+        stable = stable m c w e31;
+        decided = λ s p. fits-truth m e s kinds;
+        inside = w .P-in;
+        few = says50 m c w e K W K-in W-in e50;
+        descending = says51 m c w e K W K-in W-in e51;
+        enters = says52 m c w e K W K-in W-in e52;
+        enabled = says53 m c w e K W K-in W-in e53;
+        stays-false = says54 m c w e K W K-in W-in e54;
+        advances = says55 m c w e K W K-in W-in e55;
+        exits = says56 m c w e K W K-in W-in e56;
+        body = λ s p k. safe-weaken (inner .rely) (inner .guarantee)
+            (λ u q. let both = inner .post s u q in (and-left (W s u) _ both, and-right (W s u) _ both)) (le-refl n)
+            (body s (inner .enters s (and-both (c .P s) _ p k)));
+      })
 
   sequence-safe : (c l r : Spec) → Within (m .states) c → Within (m .states) l → Within (m .states) r → (L T : Stmt) (n j : ℕ)
       → c34sequence m c l r ≡ none → c60 m c l r ≡ none → c61 m c l r ≡ none
@@ -170,9 +176,9 @@ module _ (m : Machine) where
       let (same-Pl, same-Rl, same-Gl, same-Rr, same-Gr) = five _ _ _ _ _ e34 in
       safe-seq (n + j + 1) n j (omega arith)
       (safe-weaken (into (l .R) (c .R) (w .R-in) same-Rl) (out-of (l .G) (c .G) (wl .G-in) same-Gl) (λ u q. q) (le-refl n)
-          (left s (into-set (l .P) (c .P) (w .P-in) same-Pl s p)))
+      (left s (into-set (l .P) (c .P) (w .P-in) same-Pl s p)))
       (λ t q. safe-weaken (into (r .R) (c .R) (w .R-in) same-Rr) (out-of (r .G) (c .G) (wr .G-in) same-Gr)
-          (λ u q′. says61 m c w l r wl wr e61 s t u p q q′) (le-refl j) (right t (says60 m c w l r wl wr e60 s t p q)))
+      (λ u q′. says61 m c w l r wl wr e61 s t u p q q′) (le-refl j) (right t (says60 m c w l r wl wr e60 s t p q)))
 
   parallel-safe : (c l r : Spec) → Within (m .states) c → Within (m .states) l → Within (m .states) r → (L T : Stmt) (n j : ℕ)
       → c34parallel m c l r ≡ none → c65 m c l r ≡ none → c66 m c l r ≡ none
@@ -183,12 +189,13 @@ module _ (m : Machine) where
       let (same-Pl, same-Pr, same-Rl, same-Rr) = four _ _ _ _ e34 in
       let (left-in, right-in) = orElse-none _ _ e65 in
       safe-par (record {
-          others-left = λ a b h. into (l .R) (λ a b. c .R a b || r .G a b) (either (c .R) (r .G) (w .R-in) (wr .G-in)) same-Rl a b (or-left (c .R a b) _ h);
-          right-left = λ a b h. into (l .R) (λ a b. c .R a b || r .G a b) (either (c .R) (r .G) (w .R-in) (wr .G-in)) same-Rl a b (or-right (c .R a b) _ h);
-          others-right = λ a b h. into (r .R) (λ a b. c .R a b || l .G a b) (either (c .R) (l .G) (w .R-in) (wl .G-in)) same-Rr a b (or-left (c .R a b) _ h);
-          left-right = λ a b h. into (r .R) (λ a b. c .R a b || l .G a b) (either (c .R) (l .G) (w .R-in) (wl .G-in)) same-Rr a b (or-right (c .R a b) _ h);
-          left-kept = lies-in m (l .G) (c .G) (wl .G-in) left-in;
-          right-kept = lies-in m (r .G) (c .G) (wr .G-in) right-in })
+        others-left = λ a b h. into (l .R) (λ a b. c .R a b || r .G a b) (either (c .R) (r .G) (w .R-in) (wr .G-in)) same-Rl a b (or-left (c .R a b) _ h);
+        right-left = λ a b h. into (l .R) (λ a b. c .R a b || r .G a b) (either (c .R) (r .G) (w .R-in) (wr .G-in)) same-Rl a b (or-right (c .R a b) _ h);
+        others-right = λ a b h. into (r .R) (λ a b. c .R a b || l .G a b) (either (c .R) (l .G) (w .R-in) (wl .G-in)) same-Rr a b (or-left (c .R a b) _ h);
+        left-right = λ a b h. into (r .R) (λ a b. c .R a b || l .G a b) (either (c .R) (l .G) (w .R-in) (wl .G-in)) same-Rr a b (or-right (c .R a b) _ h);
+        left-kept = lies-in m (l .G) (c .G) (wl .G-in) left-in;
+        right-kept = lies-in m (r .G) (c .G) (wr .G-in) right-in;
+      })
       (n + j + 1) n j s (omega arith) stay (λ t way q q′. says66 m c w l r wl wr e66 s t p way q q′)
       (left s (into-set (l .P) (c .P) (w .P-in) same-Pl s p)) (right s (into-set (r .P) (c .P) (w .P-in) same-Pr s p))
 
@@ -218,42 +225,43 @@ module _ (t : Tables) where
       let (e30, (e31, (e32, (e33, (e35, _))))) = clear (owed t (skip h) S) (no-number n _ e) in
       let c = specOf t h in
       as-made (skip h) S 0 e30 kinds (λ _ s p. safe-nil (λ u r.
-          star-keeps (λ a b q x. says33 (t .machine) c (within t h) e33 s a b p q x) r (says35 (t .machine) c (within t h) e35 s p)))
+      star-keeps (λ a b q x. says33 (t .machine) c (within t h) e33 s a b p q x) r (says35 (t .machine) c (within t h) e35 s p)))
   sound (assignment h) S n e kinds =
       let (e30, (e31, (e32, (e33, (e40, (e41, (e42, (e43, _)))))))) = clear (owed t (assignment h) S) (no-number n _ e) in
       let c = specOf t h in
       as-made (assignment h) S 1 e30 kinds (λ _. rule-assign (record {
-          undisturbed = undisturbed (t .machine) c (within t h) (exprOf S) e31 e32 e33 e41;
-          stores = stores (t .machine) c (within t h) (targetOf S) (exprOf S) e40 e42 e43 }))
+        undisturbed = undisturbed (t .machine) c (within t h) (exprOf S) e31 e32 e33 e41;
+        stores = stores (t .machine) c (within t h) (targetOf S) (exprOf S) e40 e42 e43;
+      }))
   sound (sequence h l r) S n e kinds =
       let (own, below) = neither _ _ e in
       let (on-left, on-right) = neither _ _ below in
       let (e30, (e31, (e32, (e33, (e34, (e60, (e61, _))))))) = clear (owed t (sequence h l r) S) (no-number n _ own) in
       as-made (sequence h l r) S 2 e30 kinds (λ k. sequence-safe (t .machine) (specOf t h) (specOf t (namesOf l)) (specOf t (namesOf r))
-          (within t h) (within t (namesOf l)) (within t (namesOf r)) (firstOf S) (secondOf S) _ _ e34 e60 e61
-          (sound l (firstOf S) (suc n) on-left (and-left (kindsFit (firstOf S)) _ k))
-          (sound r (secondOf S) (suc n + nodes l) on-right (and-right (kindsFit (firstOf S)) _ k)))
+      (within t h) (within t (namesOf l)) (within t (namesOf r)) (firstOf S) (secondOf S) _ _ e34 e60 e61
+      (sound l (firstOf S) (suc n) on-left (and-left (kindsFit (firstOf S)) _ k))
+      (sound r (secondOf S) (suc n + nodes l) on-right (and-right (kindsFit (firstOf S)) _ k)))
   sound (parallel h l r) S n e kinds =
       let (own, below) = neither _ _ e in
       let (on-left, on-right) = neither _ _ below in
       let (e30, (e31, (e32, (e33, (e34, (e65, (e66, _))))))) = clear (owed t (parallel h l r) S) (no-number n _ own) in
       as-made (parallel h l r) S 3 e30 kinds (λ k. parallel-safe (t .machine) (specOf t h) (specOf t (namesOf l)) (specOf t (namesOf r))
-          (within t h) (within t (namesOf l)) (within t (namesOf r)) (firstOf S) (secondOf S) _ _ e34 e65 e66
-          (sound l (firstOf S) (suc n) on-left (and-left (kindsFit (firstOf S)) _ k))
-          (sound r (secondOf S) (suc n + nodes l) on-right (and-right (kindsFit (firstOf S)) _ k)))
+      (within t h) (within t (namesOf l)) (within t (namesOf r)) (firstOf S) (secondOf S) _ _ e34 e65 e66
+      (sound l (firstOf S) (suc n) on-left (and-left (kindsFit (firstOf S)) _ k))
+      (sound r (secondOf S) (suc n + nodes l) on-right (and-right (kindsFit (firstOf S)) _ k)))
   sound (conditional h d) S n e kinds =
       let (own, below) = neither _ _ e in
       let (e30, (e31, (e32, (e33, (e34, (e45, (e46, _))))))) = clear (owed t (conditional h d) S) (no-number n _ own) in
       as-made (conditional h d) S 4 e30 kinds (λ k. if-safe (t .machine) (specOf t h) (specOf t (namesOf d)) (within t h) (within t (namesOf d))
-          (exprOf S) (firstOf S) _ (and-left (fits Truth (exprOf S)) _ k) e31 e32 e33 e34 e45 e46
-          (sound d (firstOf S) (suc n) below (and-right (fits Truth (exprOf S)) _ k)))
+      (exprOf S) (firstOf S) _ (and-left (fits Truth (exprOf S)) _ k) e31 e32 e33 e34 e45 e46
+      (sound d (firstOf S) (suc n) below (and-right (fits Truth (exprOf S)) _ k)))
   sound (iteration h K W d) S n e kinds =
       let (own, below) = neither _ _ e in
       let (e30, (e31, (e32, (e33, (e34, (e50, (e51, (e52, (e53, (e54, (e55, (e56, _)))))))))))) = clear (owed t (iteration h K W d) S) (no-number n _ own) in
       as-made (iteration h K W d) S 5 e30 kinds (λ k. while-safe (t .machine) (specOf t h) (specOf t (namesOf d)) (within t h) (within t (namesOf d))
-          (exprOf S) (firstOf S) _ (and-left (fits Truth (exprOf S)) _ k) (setOf t K) (relationOf t W) (set-in t K) (relation-in t W)
-          e31 e34 e50 e51 e52 e53 e54 e55 e56
-          (sound d (firstOf S) (suc n) below (and-right (fits Truth (exprOf S)) _ k)))
+      (exprOf S) (firstOf S) _ (and-left (fits Truth (exprOf S)) _ k) (setOf t K) (relationOf t W) (set-in t K) (relation-in t W)
+      e31 e34 e50 e51 e52 e53 e54 e55 e56
+      (sound d (firstOf S) (suc n) below (and-right (fits Truth (exprOf S)) _ k)))
   sound (weaken h d) S n e kinds =
       let (own, below) = neither _ _ e in
       let (e30, (e31, (e32, (e33, (e70, (e71, (e72, (e73, _)))))))) = clear (owed t (weaken h d) S) (no-number n _ own) in
