@@ -6,7 +6,7 @@ use mathlib.Core.Logic.{_⊎_, inl, inr, ⊎-elim, ⊎-map}
 use mathlib.Core.Option.{Option, none, some, Option·none-ne-some}
 use lib.Dec.{leb, ltb, eqb}
 use lib.IntN.{ℤ, pos, negsuc}
-use borrow.Author.Tests.{ltb-true, leb-true, eqb-true, eq-eqb, not-true, not-false}
+use borrow.Author.Tests.{ltb-true, lt-ltb, leb-true, eqb-true, eq-eqb, not-true, not-false}
 use native.Mathlib.Nat.{le-antisymm}
 use Rattle.states.specs.Search.{all, Search, must, given, named, orElse, each}
 use Rattle.states.specs.Relations.{Reached, here, more, reach}
@@ -140,56 +140,64 @@ module _ (m : Machine) where
     unfolding c41
     says41 e h = eqb-true _ 0 (must-none _ h)
 
-    pub says46 : (e : Expr) → c46 m c e ≡ none → (s : ℕ) → c .P s ≡ true → value m e s ≡ some (truth false) → c .Q s s ≡ true
-    unfolding c46 isFalse
-    says46 e h s p is = must-none _ (given-none _ _ (at-member (c .P) _ (w .P-in) h s p) (truth-is false _ is))
+    -- A test's value at a state of P, as membership of the states where it is true or false.
+    pub true-at : (e : Expr) (s : ℕ) → c .P s ≡ true → value m e s ≡ some (truth true) → isTrue m e s ≡ true
+    unfolding isTrue
+    true-at e s p is = and-both _ _ (lt-ltb s _ (w .P-in s p)) (truth-is true _ is)
+
+    pub false-at : (e : Expr) (s : ℕ) → c .P s ≡ true → value m e s ≡ some (truth false) → isFalse m e s ≡ true
+    unfolding isFalse
+    false-at e s p is = and-both _ _ (lt-ltb s _ (w .P-in s p)) (truth-is false _ is)
+
+    pub says46 : (e : Expr) → c46 m c (isFalse m e) ≡ none → (s : ℕ) → c .P s ≡ true → value m e s ≡ some (truth false) → c .Q s s ≡ true
+    unfolding c46
+    says46 e h s p is = must-none _ (given-none _ _ (at-member (c .P) _ (w .P-in) h s p) (false-at e s p is))
 
     -- While, with its K and W.
-    module _ (e : Expr) (K : ℕ → Bool) (W : ℕ → ℕ → Bool) (K-in : (s : ℕ) → K s ≡ true → s < m .states) (W-in : Between (m .states) W) where
-      pub says50 : c50 m c e K W ≡ none → occurrences (moves m c) e ≤ 1
-      unfolding c50
-      says50 h = leb-true _ 1 (must-none _ h)
+    pub says50 : (e : Expr) → c50 m c e ≡ none → occurrences (moves m c) e ≤ 1
+    unfolding c50
+    says50 e h = leb-true _ 1 (must-none _ h)
 
-      pub says51 : c51 m c e K W ≡ none → Descending (m .states) (λ s t. W s t ≡ true)
-      unfolding c51
-      says51 h =
-          let (apart, joined) = orElse-none _ _ h in
-          record {
-            transitive = λ s t u a b. must-none _ (at-member (W t) _ (λ x i. W-in t x i .1)
-                (at-member (W s) _ (λ x i. W-in s x i .1) (each-none (m .states) _ joined s (W-in s t a .0)) t a) u b);
-            irreflexive = λ s a. false≢true (sym (not-true _ (must-none _ (each-none (m .states) _ apart s (W-in s s a .0)))) ∙ a);
-            bounded = λ s t a. W-in s t a .1;
-          }
+    pub says51 : (W : ℕ → ℕ → Bool) → Between (m .states) W → c51 m c W ≡ none → Descending (m .states) (λ s t. W s t ≡ true)
+    unfolding c51
+    says51 W W-in h =
+        let (apart, joined) = orElse-none _ _ h in
+        record {
+          transitive = λ s t u a b. must-none _ (at-member (W t) _ (λ x i. W-in t x i .1)
+              (at-member (W s) _ (λ x i. W-in s x i .1) (each-none (m .states) _ joined s (W-in s t a .0)) t a) u b);
+          irreflexive = λ s a. false≢true (sym (not-true _ (must-none _ (each-none (m .states) _ apart s (W-in s s a .0)))) ∙ a);
+          bounded = λ s t a. W-in s t a .1;
+        }
 
-      pub says52 : c52 m c e K W ≡ none → (s : ℕ) → c .P s ≡ true → value m e s ≡ some (truth true) → K s ≡ true
-      unfolding c52 isTrue
-      says52 h s p is = must-none _ (given-none _ _ (at-member (c .P) _ (w .P-in) h s p) (truth-is true _ is))
+    pub says52 : (e : Expr) (K : ℕ → Bool) → c52 m c (isTrue m e) K ≡ none → (s : ℕ) → c .P s ≡ true → value m e s ≡ some (truth true) → K s ≡ true
+    unfolding c52
+    says52 e K h s p is = must-none _ (given-none _ _ (at-member (c .P) _ (w .P-in) h s p) (true-at e s p is))
 
-      pub says53 : c53 m c e K W ≡ none → (s t : ℕ) → c .P s ≡ true → K s ≡ true → c .R s t ≡ true → K t ≡ true
-      unfolding c53
-      says53 h s t p k r =
-          must-none _ (at-member (c .R s) _ (λ x i. w .R-in s x i .1) (given-none _ _ (at-member (c .P) _ (w .P-in) h s p) k) t r)
+    pub says53 : (K : ℕ → Bool) → c53 m c K ≡ none → (s t : ℕ) → c .P s ≡ true → K s ≡ true → c .R s t ≡ true → K t ≡ true
+    unfolding c53
+    says53 K h s t p k r =
+        must-none _ (at-member (c .R s) _ (λ x i. w .R-in s x i .1) (given-none _ _ (at-member (c .P) _ (w .P-in) h s p) k) t r)
 
-      pub says54 : c54 m c e K W ≡ none → (s t : ℕ) → c .P s ≡ true → value m e s ≡ some (truth false) → c .R s t ≡ true
-          → value m e t ≡ some (truth false)
-      unfolding c54 isFalse
-      says54 h s t p is r =
-          is-truth false _ (must-none _ (at-member (c .R s) _ (λ x i. w .R-in s x i .1)
-          (given-none _ _ (at-member (c .P) _ (w .P-in) h s p) (truth-is false _ is)) t r))
+    pub says54 : (e : Expr) → c54 m c (isFalse m e) ≡ none → (s t : ℕ) → c .P s ≡ true → value m e s ≡ some (truth false) → c .R s t ≡ true
+        → value m e t ≡ some (truth false)
+    unfolding c54 isFalse
+    says54 e h s t p is r =
+        is-truth false _ (and-right (ltb t (m .states)) _ (must-none _ (at-member (c .R s) _ (λ x i. w .R-in s x i .1)
+        (given-none _ _ (at-member (c .P) _ (w .P-in) h s p) (false-at e s p is)) t r)))
 
-      pub says55 : c55 m c e K W ≡ none → (s t : ℕ) → c .P s ≡ true → c .R s t ≡ true → (s ≡ t) ⊎ (W s t ≡ true)
-      unfolding c55
-      says55 h s t p r =
-          ⊎-map (eqb-true s t) (λ x. x) (or-cases (eqb s t) _
-          (must-none _ (at-member (c .R s) _ (λ x i. w .R-in s x i .1) (at-member (c .P) _ (w .P-in) h s p) t r)))
+    pub says55 : (W : ℕ → ℕ → Bool) → c55 m c W ≡ none → (s t : ℕ) → c .P s ≡ true → c .R s t ≡ true → (s ≡ t) ⊎ (W s t ≡ true)
+    unfolding c55
+    says55 W h s t p r =
+        ⊎-map (eqb-true s t) (λ x. x) (or-cases (eqb s t) _
+        (must-none _ (at-member (c .R s) _ (λ x i. w .R-in s x i .1) (at-member (c .P) _ (w .P-in) h s p) t r)))
 
-      pub says56 : c56 m c e K W ≡ none → (s t : ℕ) → c .P s ≡ true → (t ≡ s) ⊎ (W s t ≡ true) → c .P t ≡ true
-          → value m e t ≡ some (truth false) → c .Q s t ≡ true
-      unfolding c56 isFalse
-      says56 h s t p near p-t is =
-          must-none _ (at-member _ _ (λ x i. w .P-in x (and-right (eqb x s || W s x) _ (and-left _ (isTruth false (value m e x)) i)))
-          (at-member (c .P) _ (w .P-in) h s p) t
-          (and-both _ _ (and-both _ _ (⊎-elim (λ x. or-left _ _ (eq-eqb t s x)) (or-right (eqb t s) _) near) p-t) (truth-is false _ is)))
+    pub says56 : (e : Expr) (W : ℕ → ℕ → Bool) → c56 m c (isFalse m e) W ≡ none → (s t : ℕ) → c .P s ≡ true → (t ≡ s) ⊎ (W s t ≡ true) → c .P t ≡ true
+        → value m e t ≡ some (truth false) → c .Q s t ≡ true
+    unfolding c56
+    says56 e W h s t p near p-t is =
+        must-none _ (at-member _ _ (λ x i. w .P-in x (and-right (eqb x s || W s x) _ (and-left _ (isFalse m e x) i)))
+        (at-member (c .P) _ (w .P-in) h s p) t
+        (and-both _ _ (and-both _ _ (⊎-elim (λ x. or-left _ _ (eq-eqb t s x)) (or-right (eqb t s) _) near) p-t) (false-at e t p-t is)))
 
     -- Sequence and parallel, with the children's tables.
     module _ (l r : Spec) (wl : Within (m .states) l) (wr : Within (m .states) r) where

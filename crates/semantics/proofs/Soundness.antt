@@ -19,14 +19,14 @@ use Rattle.semantics.specs.Language.{Expr, Stmt, nil, assign, seq, par, 
 use Rattle.semantics.specs.States.{Machine, value}
 use Rattle.semantics.specs.StepNumber.{E, steps}
 use Rattle.semantics.specs.Derivations.{Names, Derivation, skip, assignment, sequence, parallel, conditional, iteration, weaken, namesOf, nodes, Tables, Spec, setOf, relationOf, specOf}
-use Rattle.semantics.specs.Conditions.{codeOf, targetOf, exprOf, firstOf, secondOf, sameSet, sameRelation, isTrue, moves, c31, c32, c33, c41, c46, c34if, c34while, c50, c51, c52, c53, c54, c55, c56, c34sequence, c60, c61, c34parallel, c65, c66, c70, c71, c72, c73, inSet}
+use Rattle.semantics.specs.Conditions.{codeOf, targetOf, exprOf, firstOf, secondOf, sameSet, sameRelation, isTrue, isFalse, moves, c31, c32, c33, c41, c46, c34if, c34while, c50, c51, c52, c53, c54, c55, c56, c34sequence, c60, c61, c34parallel, c65, c66, c70, c71, c72, c73, inSet}
 use Rattle.semantics.specs.Checking.{Condition, Broken, orNumber, firstBroken, orBroken, atNode, owed, firstFault}
 use Rattle.semantics.specs.Promise.{Promise}
 use Rattle.semantics.proofs.Safe.{Star, stay, star-keeps, Safe, safe-weaken}
 use Rattle.semantics.proofs.Composition.{safe-nil, safe-seq, Joint, safe-par}
 use Rattle.semantics.proofs.Rules.{Undisturbed, rule-assign, rule-if, rule-while}
 use Rattle.semantics.proofs.Values.{fits-truth}
-use Rattle.semantics.proofs.Conditions.{Within, within, set-in, relation-in, truth-is, at-member, same-set, same-relation, lies-in, says31, says32, says33, says35, stable, stores, says41, says46, says50, says51, says52, says53, says54, says55, says56, says60, says61, says66}
+use Rattle.semantics.proofs.Conditions.{Within, within, relation-in, true-at, at-member, same-set, same-relation, lies-in, says31, says32, says33, says35, stable, stores, says41, says46, says50, says51, says52, says53, says54, says55, says56, says60, says61, says66}
 use Rattle.semantics.proofs.Runs.{promise}
 
 -- Every condition of a list holds.
@@ -129,7 +129,7 @@ module _ (m : Machine) where
       }
 
   if-safe : (c d : Spec) → Within (m .states) c → Within (m .states) d → (e : Expr) (b : Stmt) (n : ℕ) → fits Truth e ≡ true
-      → c31 m c ≡ none → c32 m c ≡ none → c33 m c ≡ none → c34if m c e d ≡ none → c41 m c e ≡ none → c46 m c e ≡ none
+      → c31 m c ≡ none → c32 m c ≡ none → c33 m c ≡ none → c34if m c (isTrue m e) d ≡ none → c41 m c e ≡ none → c46 m c (isFalse m e) ≡ none
       → ((s : ℕ) → d .P s ≡ true → SafeAt d n b s) → (s : ℕ) → c .P s ≡ true → SafeAt c (E e + 1 + n) (if e b) s
   unfolding c34if isTrue
   if-safe c d w wd e b n kinds e31 e32 e33 e34 e45 e46 body =
@@ -138,30 +138,30 @@ module _ (m : Machine) where
         undisturbed = undisturbed c w e e31 e32 e33 e45;
         decided = λ s p. fits-truth m e s kinds;
         body = λ s p is. safe-weaken (inner .rely) (inner .guarantee) (inner .post s) (le-refl n)
-            (body s (inner .enters s (and-both (c .P s) _ p (truth-is true _ is))));
+            (body s (inner .enters s (and-both (c .P s) _ p (true-at m c w e s p is))));
         skips = says46 m c w e e46;
       })
 
   while-safe : (c d : Spec) → Within (m .states) c → Within (m .states) d → (e : Expr) (b : Stmt) (n : ℕ) → fits Truth e ≡ true
-      → (K : ℕ → Bool) (W : ℕ → ℕ → Bool) (K-in : (s : ℕ) → K s ≡ true → s < m .states) (W-in : Between (m .states) W)
-      → c31 m c ≡ none → c34while m c e K W d ≡ none → c50 m c e K W ≡ none → c51 m c e K W ≡ none → c52 m c e K W ≡ none
-      → c53 m c e K W ≡ none → c54 m c e K W ≡ none → c55 m c e K W ≡ none → c56 m c e K W ≡ none
+      → (K : ℕ → Bool) (W : ℕ → ℕ → Bool) (W-in : Between (m .states) W)
+      → c31 m c ≡ none → c34while m c K W d ≡ none → c50 m c e ≡ none → c51 m c W ≡ none → c52 m c (isTrue m e) K ≡ none
+      → c53 m c K ≡ none → c54 m c (isFalse m e) ≡ none → c55 m c W ≡ none → c56 m c (isFalse m e) W ≡ none
       → ((s : ℕ) → d .P s ≡ true → SafeAt d n b s)
       → (s : ℕ) → c .P s ≡ true → SafeAt c (m .states * (E e + 2) + (m .states - 1) * (n + 1)) (while e b) s
   unfolding c34while
-  while-safe c d w wd e b n kinds K W K-in W-in e31 e34 e50 e51 e52 e53 e54 e55 e56 body =
+  while-safe c d w wd e b n kinds K W W-in e31 e34 e50 e51 e52 e53 e54 e55 e56 body =
       let inner = as-body c d w wd (λ s. c .P s && K s) (λ s t. W s t && c .P t) (λ s h. w .P-in s (and-left (c .P s) _ h)) e34 in
       rule-while (record {
         stable = stable m c w e31;
         decided = λ s p. fits-truth m e s kinds;
         inside = w .P-in;
-        few = says50 m c w e K W K-in W-in e50;
-        descending = says51 m c w e K W K-in W-in e51;
-        enters = says52 m c w e K W K-in W-in e52;
-        enabled = says53 m c w e K W K-in W-in e53;
-        stays-false = says54 m c w e K W K-in W-in e54;
-        advances = says55 m c w e K W K-in W-in e55;
-        exits = says56 m c w e K W K-in W-in e56;
+        few = says50 m c w e e50;
+        descending = says51 m c w W W-in e51;
+        enters = says52 m c w e K e52;
+        enabled = says53 m c w K e53;
+        stays-false = says54 m c w e e54;
+        advances = says55 m c w W e55;
+        exits = says56 m c w e W e56;
         body = λ s p k. safe-weaken (inner .rely) (inner .guarantee)
             (λ u q. let both = inner .post s u q in (and-left (W s u) _ both, and-right (W s u) _ both)) (le-refl n)
             (body s (inner .enters s (and-both (c .P s) _ p k)));
@@ -259,7 +259,7 @@ module _ (t : Tables) where
       let (own, below) = neither _ _ e in
       let (e30, (e31, (e32, (e33, (e34, (e50, (e51, (e52, (e53, (e54, (e55, (e56, _)))))))))))) = clear (owed t (iteration h K W d) S) (no-number n _ own) in
       as-made (iteration h K W d) S 5 e30 kinds (λ k. while-safe (t .machine) (specOf t h) (specOf t (namesOf d)) (within t h) (within t (namesOf d))
-      (exprOf S) (firstOf S) _ (and-left (fits Truth (exprOf S)) _ k) (setOf t K) (relationOf t W) (set-in t K) (relation-in t W)
+      (exprOf S) (firstOf S) _ (and-left (fits Truth (exprOf S)) _ k) (setOf t K) (relationOf t W) (relation-in t W)
       e31 e34 e50 e51 e52 e53 e54 e55 e56
       (sound d (firstOf S) (suc n) below (and-right (fits Truth (exprOf S)) _ k)))
   sound (weaken h d) S n e kinds =

@@ -6,9 +6,10 @@ use mathlib.Core.List.{List, [], _∷_, _++_}
 use mathlib.Core.Option.{Option, none, some}
 use lib.Dec.{eqb}
 use Rattle.states.specs.Search.{Search, must}
-use Rattle.semantics.specs.Language.{Stmt}
+use Rattle.semantics.specs.Language.{Expr, Stmt}
+use Rattle.semantics.specs.States.{Machine}
 use Rattle.semantics.specs.Derivations.{Names, Derivation, skip, assignment, sequence, parallel, conditional, iteration, weaken, namesOf, nodes, Tables, Spec, setOf, relationOf, specOf}
-use Rattle.semantics.specs.Conditions.{codeOf, targetOf, exprOf, firstOf, secondOf, c31, c32, c33, c35, c40, c41, c42, c43, c34if, c46, c34while, c50, c51, c52, c53, c54, c55, c56, c34sequence, c60, c61, c34parallel, c65, c66, c70, c71, c72, c73}
+use Rattle.semantics.specs.Conditions.{codeOf, targetOf, exprOf, firstOf, secondOf, isTrue, isFalse, c31, c32, c33, c35, c40, c41, c42, c43, c34if, c46, c34while, c50, c51, c52, c53, c54, c55, c56, c34sequence, c60, c61, c34parallel, c65, c66, c70, c71, c72, c73}
 
 -- A condition by its number, and what looking for a breach of it finds.
 pub record Condition : Type 0 where
@@ -40,49 +41,50 @@ abbrev pub atNode : ℕ → Option ℕ → Option Broken
 atNode node none = none
 atNode node (some k) = some (record { number = k; node = node })
 
-module _ (t : Tables) where
-  abbrev spec : Names → Spec
-  spec h = specOf t h
+-- 30 to 33, which every node owes. 30: the rule is that of the statement at hand.
+abbrev pub common : Machine → Bool → Spec → List Condition
+common m fits c = numbered 30 (must fits) ∷ numbered 31 (c31 m c) ∷ numbered 32 (c32 m c) ∷ numbered 33 (c33 m c) ∷ []
 
+-- What a node of each rule owes, in the order of the numbers, of its own tables c and its children's.
+abbrev pub skipOwes : Machine → Bool → Spec → List Condition
+skipOwes m fits c = common m fits c ++ numbered 35 (c35 m c) ∷ []
+
+abbrev pub assignmentOwes : Machine → Bool → Spec → ℕ → Expr → List Condition
+assignmentOwes m fits c v e =
+    common m fits c ++ numbered 40 (c40 m c v e) ∷ numbered 41 (c41 m c e) ∷ numbered 42 (c42 m c v e) ∷ numbered 43 (c43 m c v e) ∷ []
+
+abbrev pub sequenceOwes : Machine → Bool → Spec → Spec → Spec → List Condition
+sequenceOwes m fits c l r = common m fits c ++ numbered 34 (c34sequence m c l r) ∷ numbered 60 (c60 m c l r) ∷ numbered 61 (c61 m c l r) ∷ []
+
+abbrev pub parallelOwes : Machine → Bool → Spec → Spec → Spec → List Condition
+parallelOwes m fits c l r = common m fits c ++ numbered 34 (c34parallel m c l r) ∷ numbered 65 (c65 m c l r) ∷ numbered 66 (c66 m c l r) ∷ []
+
+abbrev pub ifOwes : Machine → Bool → Spec → Expr → Spec → List Condition
+ifOwes m fits c e d = common m fits c ++ numbered 34 (c34if m c (isTrue m e) d) ∷ numbered 45 (c41 m c e) ∷ numbered 46 (c46 m c (isFalse m e)) ∷ []
+
+abbrev pub whileOwes : Machine → Bool → Spec → Expr → (ℕ → Bool) → (ℕ → ℕ → Bool) → Spec → List Condition
+whileOwes m fits c e K W d =
+    common m fits c ++ numbered 34 (c34while m c K W d) ∷ numbered 50 (c50 m c e) ∷ numbered 51 (c51 m c W)
+    ∷ numbered 52 (c52 m c (isTrue m e) K) ∷ numbered 53 (c53 m c K) ∷ numbered 54 (c54 m c (isFalse m e)) ∷ numbered 55 (c55 m c W)
+    ∷ numbered 56 (c56 m c (isFalse m e) W) ∷ []
+
+abbrev pub weakenOwes : Machine → Spec → Spec → List Condition
+weakenOwes m c d =
+    common m true c ++ numbered 70 (c70 m c d) ∷ numbered 71 (c71 m c d) ∷ numbered 72 (c72 m c d) ∷ numbered 73 (c73 m c d) ∷ []
+
+module _ (t : Tables) where
   abbrev specOn : Derivation → Spec
   specOn d = specOf t (namesOf d)
 
-  -- 30 to 33, which every node owes. 30: the rule is that of the statement at hand.
-  abbrev pub common : Bool → Names → List Condition
-  common fits h =
-      numbered 30 (must fits) ∷ numbered 31 (c31 (t .machine) (spec h)) ∷ numbered 32 (c32 (t .machine) (spec h))
-      ∷ numbered 33 (c33 (t .machine) (spec h)) ∷ []
-
-  -- A node's conditions over the statement at hand, in the order of their numbers.
+  -- A node's conditions over the statement at hand; weaken fits every statement.
   abbrev pub owed : Derivation → Stmt → List Condition
-  owed (skip h) S = common (eqb (codeOf S) 0) h ++ numbered 35 (c35 (t .machine) (spec h)) ∷ []
-  owed (assignment h) S =
-      common (eqb (codeOf S) 1) h ++ numbered 40 (c40 (t .machine) (spec h) (targetOf S) (exprOf S))
-      ∷ numbered 41 (c41 (t .machine) (spec h) (exprOf S)) ∷ numbered 42 (c42 (t .machine) (spec h) (targetOf S) (exprOf S))
-      ∷ numbered 43 (c43 (t .machine) (spec h) (targetOf S) (exprOf S)) ∷ []
-  owed (sequence h l r) S =
-      common (eqb (codeOf S) 2) h ++ numbered 34 (c34sequence (t .machine) (spec h) (specOn l) (specOn r))
-      ∷ numbered 60 (c60 (t .machine) (spec h) (specOn l) (specOn r))
-      ∷ numbered 61 (c61 (t .machine) (spec h) (specOn l) (specOn r)) ∷ []
-  owed (parallel h l r) S =
-      common (eqb (codeOf S) 3) h ++ numbered 34 (c34parallel (t .machine) (spec h) (specOn l) (specOn r))
-      ∷ numbered 65 (c65 (t .machine) (spec h) (specOn l) (specOn r))
-      ∷ numbered 66 (c66 (t .machine) (spec h) (specOn l) (specOn r)) ∷ []
-  owed (conditional h d) S =
-      common (eqb (codeOf S) 4) h ++ numbered 34 (c34if (t .machine) (spec h) (exprOf S) (specOn d))
-      ∷ numbered 45 (c41 (t .machine) (spec h) (exprOf S)) ∷ numbered 46 (c46 (t .machine) (spec h) (exprOf S)) ∷ []
-  owed (iteration h k w d) S =
-      common (eqb (codeOf S) 5) h ++ numbered 34 (c34while (t .machine) (spec h) (exprOf S) (setOf t k) (relationOf t w) (specOn d))
-      ∷ numbered 50 (c50 (t .machine) (spec h) (exprOf S) (setOf t k) (relationOf t w))
-      ∷ numbered 51 (c51 (t .machine) (spec h) (exprOf S) (setOf t k) (relationOf t w))
-      ∷ numbered 52 (c52 (t .machine) (spec h) (exprOf S) (setOf t k) (relationOf t w))
-      ∷ numbered 53 (c53 (t .machine) (spec h) (exprOf S) (setOf t k) (relationOf t w))
-      ∷ numbered 54 (c54 (t .machine) (spec h) (exprOf S) (setOf t k) (relationOf t w))
-      ∷ numbered 55 (c55 (t .machine) (spec h) (exprOf S) (setOf t k) (relationOf t w))
-      ∷ numbered 56 (c56 (t .machine) (spec h) (exprOf S) (setOf t k) (relationOf t w)) ∷ []
-  owed (weaken h d) S =
-      common true h ++ numbered 70 (c70 (t .machine) (spec h) (specOn d)) ∷ numbered 71 (c71 (t .machine) (spec h) (specOn d))
-      ∷ numbered 72 (c72 (t .machine) (spec h) (specOn d)) ∷ numbered 73 (c73 (t .machine) (spec h) (specOn d)) ∷ []
+  owed (skip h) S = skipOwes (t .machine) (eqb (codeOf S) 0) (specOf t h)
+  owed (assignment h) S = assignmentOwes (t .machine) (eqb (codeOf S) 1) (specOf t h) (targetOf S) (exprOf S)
+  owed (sequence h l r) S = sequenceOwes (t .machine) (eqb (codeOf S) 2) (specOf t h) (specOn l) (specOn r)
+  owed (parallel h l r) S = parallelOwes (t .machine) (eqb (codeOf S) 3) (specOf t h) (specOn l) (specOn r)
+  owed (conditional h d) S = ifOwes (t .machine) (eqb (codeOf S) 4) (specOf t h) (exprOf S) (specOn d)
+  owed (iteration h k w d) S = whileOwes (t .machine) (eqb (codeOf S) 5) (specOf t h) (exprOf S) (setOf t k) (relationOf t w) (specOn d)
+  owed (weaken h d) S = weakenOwes (t .machine) (specOf t h) (specOn d)
 
   -- The first fault of a derivation of a statement whose root has a number: the node's own, then its children's.
   abbrev pub firstFault : Derivation → Stmt → ℕ → Option Broken

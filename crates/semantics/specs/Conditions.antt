@@ -2,7 +2,7 @@
 use Prim.Native.Nat.{ℕ, _+_}
 use mathlib.Core.Bool.{Bool, true, false, cond, not, _&&_, _||_, Bool·beq}
 use mathlib.Core.Option.{Option, none, some}
-use lib.Dec.{leb, eqb}
+use lib.Dec.{leb, ltb, eqb}
 use Rattle.states.specs.Search.{all, any, Search, must, given, named, orElse, each}
 use Rattle.states.specs.Relations.{reach}
 use Rattle.semantics.specs.Language.{Expr, lit, var, op, int, Stmt, nil, assign, seq, par, if, while, eqZ}
@@ -75,11 +75,12 @@ module _ (m : Machine) where
   unfoldable pub liesIn : (ℕ → ℕ → Bool) → (ℕ → ℕ → Bool) → Search
   liesIn r q = each (m .states) (λ s. inSet (r s) (λ t. must (q s t)))
 
+  -- The states at which a test is true, and those at which it is false.
   unfoldable pub isTrue : Expr → ℕ → Bool
-  isTrue e s = isTruth true (value m e s)
+  isTrue e s = ltb s (m .states) && isTruth true (value m e s)
 
   unfoldable pub isFalse : Expr → ℕ → Bool
-  isFalse e s = isTruth false (value m e s)
+  isFalse e s = ltb s (m .states) && isTruth false (value m e s)
 
   -- s', the state after an assignment's store, named where there is one.
   unfoldable pub afterStore : ℕ → Expr → ℕ → Option ℕ
@@ -132,53 +133,52 @@ module _ (m : Machine) where
     unfoldable pub c41 : Expr → Search
     c41 e = must (eqb (occurrences (moves c) e) 0)
 
-    -- 34, if: P and the test true; same R, G, Q.
-    unfoldable pub c34if : Expr → Spec → Search
-    c34if e d =
-        must (sameSet (d .P) (λ s. c .P s && isTrue e s) && sameRelation (d .R) (c .R) && sameRelation (d .G) (c .G)
-        && sameRelation (d .Q) (c .Q))
+    -- If, with the states T at which its test is true and F at which it is false, over its body's tables.
+    -- 34: P and the test true; same R, G, Q.
+    unfoldable pub c34if : (ℕ → Bool) → Spec → Search
+    c34if T d =
+        must (sameSet (d .P) (λ s. c .P s && T s) && sameRelation (d .R) (c .R) && sameRelation (d .G) (c .G) && sameRelation (d .Q) (c .Q))
 
     -- 46: s in P, test false: (s,s) in Q.
-    unfoldable pub c46 : Expr → Search
-    c46 e = inSet (c .P) (λ s. given (isFalse e s) (must (c .Q s s)))
+    unfoldable pub c46 : (ℕ → Bool) → Search
+    c46 F = inSet (c .P) (λ s. given (F s) (must (c .Q s s)))
 
-    -- While, over its test, its K and W, and its body's tables.
-    module _ (e : Expr) (K : ℕ → Bool) (W : ℕ → ℕ → Bool) where
-      -- 34: P met with K; same R, G; Q the pairs of W that end in P.
-      unfoldable pub c34while : Spec → Search
-      c34while d =
-          must (sameSet (d .P) (λ s. c .P s && K s) && sameRelation (d .R) (c .R) && sameRelation (d .G) (c .G)
-          && sameRelation (d .Q) (λ s t. W s t && c .P t))
+    -- While, with its K and W, and T and F as for an if, over its body's tables.
+    -- 34: P met with K; same R, G; Q the pairs of W that end in P.
+    unfoldable pub c34while : (ℕ → Bool) → (ℕ → ℕ → Bool) → Spec → Search
+    c34while K W d =
+        must (sameSet (d .P) (λ s. c .P s && K s) && sameRelation (d .R) (c .R) && sameRelation (d .G) (c .G)
+        && sameRelation (d .Q) (λ s t. W s t && c .P t))
 
-      -- 50: at most one variable occurrence in the test is of a variable that R moves.
-      unfoldable pub c50 : Search
-      c50 = must (leb (occurrences (moves c) e) 1)
+    -- 50: at most one variable occurrence in the test is of a variable that R moves.
+    unfoldable pub c50 : Expr → Search
+    c50 e = must (leb (occurrences (moves c) e) 1)
 
-      -- 51: W is transitive and has no (s,s).
-      unfoldable pub c51 : Search
-      c51 =
-          orElse (each (m .states) (λ s. must (not (W s s))))
-          (each (m .states) (λ s. inSet (W s) (λ t. inSet (W t) (λ u. must (W s u)))))
+    -- 51: W is transitive and has no (s,s).
+    unfoldable pub c51 : (ℕ → ℕ → Bool) → Search
+    c51 W =
+        orElse (each (m .states) (λ s. must (not (W s s))))
+        (each (m .states) (λ s. inSet (W s) (λ t. inSet (W t) (λ u. must (W s u)))))
 
-      -- 52: s in P, test true: s in K.
-      unfoldable pub c52 : Search
-      c52 = inSet (c .P) (λ s. given (isTrue e s) (must (K s)))
+    -- 52: s in P, test true: s in K.
+    unfoldable pub c52 : (ℕ → Bool) → (ℕ → Bool) → Search
+    c52 T K = inSet (c .P) (λ s. given (T s) (must (K s)))
 
-      -- 53: s in P and K, (s,t) in R: t in K.
-      unfoldable pub c53 : Search
-      c53 = inSet (c .P) (λ s. given (K s) (inSet (c .R s) (λ t. must (K t))))
+    -- 53: s in P and K, (s,t) in R: t in K.
+    unfoldable pub c53 : (ℕ → Bool) → Search
+    c53 K = inSet (c .P) (λ s. given (K s) (inSet (c .R s) (λ t. must (K t))))
 
-      -- 54: s in P, test false, (s,t) in R: test false at t.
-      unfoldable pub c54 : Search
-      c54 = inSet (c .P) (λ s. given (isFalse e s) (inSet (c .R s) (λ t. must (isFalse e t))))
+    -- 54: s in P, test false, (s,t) in R: test false at t.
+    unfoldable pub c54 : (ℕ → Bool) → Search
+    c54 F = inSet (c .P) (λ s. given (F s) (inSet (c .R s) (λ t. must (F t))))
 
-      -- 55: s in P, (s,t) in R: s = t or (s,t) in W.
-      unfoldable pub c55 : Search
-      c55 = inSet (c .P) (λ s. inSet (c .R s) (λ t. must (eqb s t || W s t)))
+    -- 55: s in P, (s,t) in R: s = t or (s,t) in W.
+    unfoldable pub c55 : (ℕ → ℕ → Bool) → Search
+    c55 W = inSet (c .P) (λ s. inSet (c .R s) (λ t. must (eqb s t || W s t)))
 
-      -- 56: s in P, t = s or (s,t) in W, t in P, test false at t: (s,t) in Q.
-      unfoldable pub c56 : Search
-      c56 = inSet (c .P) (λ s. inSet (λ t. (eqb t s || W s t) && c .P t && isFalse e t) (λ t. must (c .Q s t)))
+    -- 56: s in P, t = s or (s,t) in W, t in P, test false at t: (s,t) in Q.
+    unfoldable pub c56 : (ℕ → Bool) → (ℕ → ℕ → Bool) → Search
+    c56 F W = inSet (c .P) (λ s. inSet (λ t. (eqb t s || W s t) && c .P t && F t) (λ t. must (c .Q s t)))
 
     -- Sequence and parallel, over the tables of the left child and of the right.
     module _ (l r : Spec) where
