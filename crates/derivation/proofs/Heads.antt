@@ -41,6 +41,9 @@ second-name bytes first second at i next e under f =
 abbrev pub Sound : NodeHead → Type 0
 Sound h = (k place : ℕ) → h ≡ Fault k place → ⊥
 
+pub node-sound : (h : NodeHead) (rule P R G Q K W next : ℕ) → h ≡ Node rule P R G Q K W next → Sound h
+node-sound h rule P R G Q K W next e k place f = let z : _≡_ {A = ℕ} 0 1 = cc in omega arith
+
 -- A node is judged first by its place: some level left below it, and fewer than 127 nodes before it.
 module _ (bytes : List ℕ) (sets relations at : ℕ) where
   pub head-any : (below before : ℕ) → 0 < below → before < 127
