@@ -20,3 +20,20 @@ pub fn read_proof(src: &[u8], n: u32) -> ProofFile
         },
     }
 }
+
+// Reads a proof file over n states and leaves its tables in the work words, or 0 in all of them after a fault.
+pub fn load(src: &[u8], n: u32, work: &mut [u64]) -> ProofFile
+    ensures answer { λ r. ⌜ r ≡ fileOf (readProof (now (src .entry)) n) ⌝ }
+    ensures tables { λ _. ⌜ now (work .exit) ≡ written (wordsOf (now (src .entry)) n (readProof (now (src .entry)) n)) (now (work .entry)) ⌝ }
+{
+    match read_proof(src, n) {
+        ProofFile::Fault(fault, place) => {
+            words::clear(work);
+            ProofFile::Fault(fault, place)
+        }
+        ProofFile::Proof(sets, relations, root) => {
+            words::fill(src, n as usize, sets as usize, relations as usize, work);
+            ProofFile::Proof(sets, relations, root)
+        }
+    }
+}
