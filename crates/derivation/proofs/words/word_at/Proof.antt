@@ -1,50 +1,44 @@
+-- While `left` bits are left in front, the word is that of the bits behind them.
+use Prim.Native.Nat.{_+_, _-_, _*_, _^_, _≤_, _<_}
+use mathlib.Core.Path.{_≡_, refl}
+use native.Mathlib.Nat.{sub-self, add-zero, sub-zero}
+use native.Mathlib.Omega.{arith}
+use borrow.Author.Needs.{needs}
+use Rattle.derivation.specs.Tables.{wordAt}
+use Rattle.derivation.proofs.Membership.{word-fits, word-more}
 use Rattle.derivation.proofs.words.word_at.Statement.{statement}
 use Rattle.derivation.proofs.words.word_at.Tie as tie
-use Rattle.derivation.proofs.words.word_at.Reads as reads
-use Rattle.derivation.proofs.words.word_at.Lts as lts
-use Rattle.bits.proofs.bit.Reads as bit-reads
 
 abbrev Inv-loop : tie.InvT-loop
-Inv-loop src at n word₀ left₀ word left = ?
+Inv-loop src at n word₀ left₀ word left = (left ≤ n) × (word ≡ wordAt src (at + left) (n - left))
 
 abbrev μ-loop : tie.MeasureT-loop
-μ-loop src at n word₀ left₀ word left = ?
+μ-loop src at n word₀ left₀ word left = left
 
--- src/words.rt:14:5
 loop-holds : tie.Need-loop-holds Inv-loop μ-loop
-loop-holds c = ?
+unfolding wordAt
+loop-holds c = (search needs, rw sub-self)
 
--- src/words.rt:15:9
-sub-left : tie.Need-sub-left Inv-loop μ-loop
-sub-left c = ?
+more : (c : tie.After-bit Inv-loop μ-loop) →
+    let a = c .before .before .before .before .args in
+    let left = c .before .before .loop .left in
+    c .before .before .loop .word * 2 + c .bit .result ≡ wordAt (a .src .now) (a .at + (left - 1)) (a .n - (left - 1))
+more c =
+    let a = c .before .before .before .before .args in
+    omega (arith, word-more (a .src .now) (a .at) (a .n) (c .before .before .loop .left) (search needs) (search needs))
 
--- src/words.rt:16:36
-add-bit : tie.Need-add-bit Inv-loop μ-loop
-add-bit c = ?
+-- One more bit of at most 64 fits.
+room : (c : tie.After-bit Inv-loop μ-loop) → c .before .before .loop .word * 2 + c .bit .result < 2 ^ 64
+room c =
+    let a = c .before .before .before .before .args in
+    let left = c .before .before .loop .left in
+    omega (arith, more c, word-fits (a .src .now) (a .at + (left - 1)) (a .n - (left - 1)) (omega arith))
 
--- src/words.rt:16:13
-bit-requires : tie.Need-bit-requires Inv-loop μ-loop
-bit-requires c κs = ?
-
--- src/words.rt:17:16
-mul-word : tie.Need-mul-word Inv-loop μ-loop
-mul-word c = ?
-
--- src/words.rt:17:16
-add-word : tie.Need-add-word Inv-loop μ-loop
-add-word c = ?
-
--- src/words.rt:14:5
-loop-less : tie.Need-loop-less Inv-loop μ-loop
-loop-less c = ?
-
--- src/words.rt:14:5
-loop-again : tie.Need-loop-again Inv-loop μ-loop
-loop-again c = ?
-
--- src/words.rt:8:1
 returns : tie.Need-returns Inv-loop μ-loop
-returns c = ?
+returns c =
+    let l = c .before .loop in
+    let none : l .left ≡ 0 = omega arith in
+    rw (l .inv .1, none, add-zero, sub-zero)
 
 pub word-at-spec : {M : Type 1} → statement M
 word-at-spec =
@@ -53,11 +47,11 @@ word-at-spec =
     Inv-loop
     μ-loop
     loop-holds
-    sub-left
-    add-bit
-    bit-requires
-    mul-word
-    add-word
-    loop-less
-    loop-again
+    (λ c. search needs)
+    (λ c. search needs)
+    (λ c κs. search needs)
+    (λ c. omega (arith, room c))
+    (λ c. omega (arith, room c))
+    (λ c. search needs)
+    (λ c. (search needs, more c))
     returns)
