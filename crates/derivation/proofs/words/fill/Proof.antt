@@ -1,55 +1,44 @@
+-- After j turns the first j words are the tables' and the others as they were; `fill-more` adds one.
+use Prim.Native.Nat.{_+_, _-_, min, _≤_, _<_}
+use mathlib.Core.List.{_++_}
+use mathlib.Core.Path.{_≡_, refl, sym, _∙_, ap}
+use native.Mathlib.Omega.{arith}
+use borrow.Author.Needs.{needs}
+use lib.ListN.{length, drop}
+use Rattle.derivation.specs.Tables.{tableWord, tabulate, written}
+use Rattle.derivation.proofs.Buffers.{length-filled, fill-more}
 use Rattle.derivation.proofs.words.fill.Statement.{statement}
 use Rattle.derivation.proofs.words.fill.Tie as tie
-use Rattle.derivation.proofs.words.fill.Reads as reads
-use Rattle.derivation.proofs.words.fill.Lts as lts
-use Rattle.derivation.proofs.words.table_word.Reads as table-word-reads
-use Rattle.derivation.proofs.words.table_words.Reads as table-words-reads
 
 abbrev Inv-loop : tie.InvT-loop
-Inv-loop src n sets relations work₀ count j₀ work j = ?
+Inv-loop src n sets relations work₀ count j₀ work j =
+    (j ≤ count) × (work ≡ tabulate j (tableWord src n sets relations) ++ drop j work₀)
 
 abbrev μ-loop : tie.MeasureT-loop
-μ-loop src n sets relations work₀ count j₀ work j = ?
+μ-loop src n sets relations work₀ count j₀ work j = count - j
 
--- src/words.rt:53:9
-table-words-requires : tie.Need-table-words-requires Inv-loop μ-loop
-table-words-requires c κs = ?
-
--- src/words.rt:54:5
 loop-holds : tie.Need-loop-holds Inv-loop μ-loop
-loop-holds c = ?
+unfolding tabulate
+loop-holds c = (search needs, refl)
 
--- src/words.rt:55:13
-table-word-requires : tie.Need-table-word-requires Inv-loop μ-loop
-table-word-requires c κs = ?
+-- The buffer keeps its length.
+kept : (c : tie.At-loop Inv-loop μ-loop) → length (c .loop .work) ≡ length (c .before .before .before .before .args .work .now)
+kept c =
+    let a = c .before .before .before .before .args in
+    ap length (c .loop .inv .1)
+    ∙ length-filled (tableWord (a .src .now) (a .n) (a .sets) (a .relations)) (a .work .now) (c .loop .j) (omega arith)
 
--- src/words.rt:56:9
-mul-work : tie.Need-mul-work Inv-loop μ-loop
-mul-work c = ?
-
--- src/words.rt:56:9
-slice-write-work : tie.Need-slice-write-work Inv-loop μ-loop
-slice-write-work c = ?
-
--- src/words.rt:54:9
-add-j : tie.Need-add-j Inv-loop μ-loop
-add-j c = ?
-
--- src/words.rt:54:5
-loop-less : tie.Need-loop-less Inv-loop μ-loop
-loop-less c = ?
-
--- src/words.rt:54:5
 loop-again : tie.Need-loop-again Inv-loop μ-loop
-loop-again c = ?
+loop-again c =
+    let l = c .before .before .loop in
+    (search needs, rw (l .inv .1, c .table-word .ensures) (fill-more _ _ (l .j) (omega arith)))
 
--- src/words.rt:49:1
-same-length : tie.Need-same-length Inv-loop μ-loop
-same-length c = ?
-
--- src/words.rt:49:1
 returns : tie.Need-returns Inv-loop μ-loop
-returns c = ?
+unfolding written
+returns c =
+    let l = c .before .loop in
+    let all : l .j ≡ min 1040 (length (c .before .before .before .before .before .args .work .now)) = omega arith in
+    rw (l .inv .1, all)
 
 pub fill-spec : {M : Type 1} → statement M
 fill-spec =
@@ -57,13 +46,13 @@ fill-spec =
     (tie.spec
     Inv-loop
     μ-loop
-    table-words-requires
+    (λ c κs. search needs)
     loop-holds
-    table-word-requires
-    mul-work
-    slice-write-work
-    add-j
-    loop-less
+    (λ c κs. search needs)
+    (λ c. omega (arith, kept (c .before .before)))
+    (λ c. omega (arith, kept (c .before .before)))
+    (λ c. search needs)
+    (λ c. search needs)
     loop-again
-    same-length
+    (λ c. kept (c .before))
     returns)

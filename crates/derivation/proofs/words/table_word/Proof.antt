@@ -1,57 +1,65 @@
+-- The tests are the definition's, and no cursor within the tables is large.
+use Prim.Native.Nat.{_-_, _*_, _%_, _≤_}
+use mathlib.Core.Bool.{and-false}
+use mathlib.Core.Logic.{⊎-elim}
+use mathlib.Core.Path.{sym, _∙_}
+use native.Mathlib.Omega.{arith}
 use borrow.Author.Needs.{needs}
+use borrow.Author.Tests.{lt-ltb, le-ltb, leb-true, leb-false}
+use Rattle.derivation.specs.Tables.{setAt, tableWord}
+use Rattle.derivation.proofs.Counts.{row-offsets, row-small}
 use Rattle.derivation.proofs.words.table_word.Statement.{statement}
 use Rattle.derivation.proofs.words.table_word.Tie as tie
-use Rattle.derivation.proofs.words.table_word.Reads as reads
-use Rattle.derivation.proofs.words.table_word.Lts as lts
-use Rattle.derivation.proofs.header.row_at.Reads as row-at-reads
-use Rattle.derivation.proofs.words.word_at.Reads as word-at-reads
 
--- src/words.rt:29:38
-mul-word-at : tie.Need-mul-word-at
-mul-word-at c = ?
+set-small : (c : tie.Then2) → c .before .before .before .args .n * c .before .before .before .args .j ≤ 1024
+set-small c =
+    let a = c .before .before .before .args in
+    row-offsets (a .n) 0 (a .j) 0 (search needs) (omega arith) (omega arith) (omega arith) .0
 
--- src/words.rt:29:33
-add-word-at : tie.Need-add-word-at
-add-word-at c = ?
-
--- src/words.rt:29:13
-word-at-requires : tie.Need-word-at-requires
-word-at-requires c κs = ?
-
--- src/words.rt:29:13
 returns : tie.Need-returns
-returns c = ?
+unfolding tableWord setAt
+returns c = rw (lt-ltb _ 16 (c .before .before .if1 .taken), lt-ltb _ _ (c .before .if2 .taken)) (c .word-at .ensures)
 
--- src/words.rt:31:9
 returns-2 : tie.Need-returns-2
-returns-2 c = ?
+unfolding tableWord
+returns-2 c = rw (lt-ltb _ 16 (c .before .if1 .taken), le-ltb _ _ (c .if2 .left))
 
--- src/words.rt:36:9
 returns-3 : tie.Need-returns-3
-returns-3 c = ?
+unfolding tableWord
+returns-3 c =
+    let a = c .before .before .before .args in
+    rw (le-ltb _ 16 (c .before .if1 .left))
+    (⊎-elim
+    (λ h. rw (le-ltb _ _ (h .taken)))
+    (λ h. simp (le-ltb ((a .j - 16) % 64) (a .n) (omega (arith, leb-true)), and-false))
+    (c .if3 .came))
 
--- src/words.rt:38:18
-row-at-requires : tie.Need-row-at-requires
-row-at-requires c κs = search needs
-
--- src/words.rt:38:5
 word-at-requires-2 : tie.Need-word-at-requires-2
-word-at-requires-2 c κs = ?
+word-at-requires-2 c κs =
+    let few = c .before .before .before .before .before .pre in
+    (rw (c .row-at .ensures) (row-small _ _ _ _ (few .0) (few .1) (omega arith) (omega arith)), few .0)
 
--- src/words.rt:23:1
 returns-4 : tie.Need-returns-4
-returns-4 c = ?
+unfolding tableWord
+returns-4 c =
+    let row = c .before .before in
+    rw
+    (le-ltb _ 16 (row .before .before .if1 .left),
+    lt-ltb _ _ (row .before .if3 .left),
+    lt-ltb _ _ (leb-false _ _ (row .if4 .left)),
+    ← c .before .row-at .ensures)
+    (c .word-at2 .ensures)
 
 pub table-word-spec : {M : Type 1} → statement M
 table-word-spec =
     tie.close
     (tie.spec
-    mul-word-at
-    add-word-at
-    word-at-requires
+    (λ c. omega (arith, set-small c))
+    (λ c. omega (arith, set-small c))
+    (λ c κs. omega (arith, set-small c))
     returns
     returns-2
     returns-3
-    row-at-requires
+    (λ c κs. search needs)
     word-at-requires-2
     returns-4)
