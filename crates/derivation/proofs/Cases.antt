@@ -25,8 +25,14 @@ eight =
 abbrev deep : List ℕ
 deep = 0x08 ∷ 0x6C ∷ eight ++ eight ++ eight
 
+-- Opens every definition of reading, for the cases to compute.
+reading : List ℕ → ℕ → ProofRead
+unfolding readProof tablesAt setsRead relationsRead isCount tablesThere rowAt wholeNode nodeAt nodeHead ruleHead namesHead loopHead
+    named onName fieldAt isThere bitsAt bitAt bitLength fillAt fillFrom furtherByte fillBits firstSet
+reading = readProof
+
 pub sample-read : readProof sample 2 ≡ proof 1 3 24 (assignment (record { P = 0; R = 0; G = 1; Q = 2 }))
-unfolding readProof tablesAt setsRead relationsRead isCount tablesThere rowAt wholeNode nodeAt nodeHead ruleHead namesHead loopHead named onName fieldAt isThere bitsAt bitAt fillAt fillFrom furtherByte fillBits firstSet
+unfolding reading
 sample-read = refl
 
 -- Its set is word 0, row 0 of relation 1 is word 80, the rows of relation 2 are words 144 and 145.
@@ -47,14 +53,14 @@ pub past-the-end :
     (readProof [] 2 ≡ refused 20 0) × (readProof (0x08 ∷ []) 2 ≡ refused 20 8) × (readProof (0x08 ∷ 0xF0 ∷ []) 2 ≡ refused 20 16)
     × (readProof (over []) 2 ≡ refused 20 24) × (readProof (over (0x20 ∷ [])) 2 ≡ refused 20 32)
     × (readProof sample 0 ≡ refused 20 48) × (readProof sample 65 ≡ refused 20 48)
-unfolding readProof tablesAt setsRead relationsRead isCount tablesThere rowAt wholeNode nodeAt nodeHead ruleHead namesHead loopHead named onName fieldAt isThere bitsAt bitAt bitLength fillAt fillFrom furtherByte fillBits firstSet
+unfolding reading
 past-the-end = (refl, refl, refl, refl, refl, refl, refl)
 
 -- 21: no sets, 17 sets with no second field, no relations, 17 relations.
 pub counts :
     (readProof (0x00 ∷ 0xF0 ∷ []) 2 ≡ refused 21 0) × (readProof (0x88 ∷ []) 2 ≡ refused 21 0)
     × (readProof (0x08 ∷ 0x00 ∷ []) 2 ≡ refused 21 5) × (readProof (0x0C ∷ 0x40 ∷ []) 2 ≡ refused 21 5)
-unfolding readProof tablesAt setsRead relationsRead isCount fieldAt isThere bitsAt bitAt
+unfolding reading
 counts = (refl, refl, refl, refl)
 
 -- 22: rule code 7. 23: set 1 of one, relation 3 of three; a while's K and W after its other names.
@@ -62,19 +68,19 @@ pub codes-and-names :
     (readProof (over (0xE0 ∷ 0x02 ∷ 0x40 ∷ [])) 2 ≡ refused 22 24) × (readProof (over (0x22 ∷ 0x02 ∷ 0x40 ∷ [])) 2 ≡ refused 23 27)
     × (readProof (over (0x20 ∷ 0x62 ∷ 0x40 ∷ [])) 2 ≡ refused 23 31)
     × (readProof (over (0xA0 ∷ 0x02 ∷ 0x42 ∷ 0x40 ∷ [])) 2 ≡ refused 23 43) × (readProof (over (0xA0 ∷ 0x02 ∷ 0x40 ∷ 0x60 ∷ [])) 2 ≡ refused 23 47)
-unfolding readProof tablesAt setsRead relationsRead isCount tablesThere rowAt wholeNode nodeAt nodeHead ruleHead namesHead loopHead named onName fieldAt isThere bitsAt bitAt fillAt fillFrom furtherByte fillBits firstSet
+unfolding reading
 codes-and-names = (refl, refl, refl, refl, refl)
 
 -- 24: the node at level 25, and the 128th node; a field that is not there goes before it, an unused code after it.
 pub too-many :
     (readProof deep 1 ≡ refused 24 468) × (nodeHead sample 1 3 24 127 24 ≡ Fault 24 24) × (nodeHead sample 1 3 1 126 24 ≡ Node 1 0 0 1 2 0 0 43)
     × (nodeHead sample 1 3 0 0 24 ≡ Fault 24 24) × (nodeHead sample 1 3 0 0 48 ≡ Fault 20 48) × (nodeHead (0xE0 ∷ []) 1 3 24 127 0 ≡ Fault 24 0)
-unfolding readProof tablesAt setsRead relationsRead isCount tablesThere rowAt wholeNode nodeAt nodeHead ruleHead namesHead loopHead named onName fieldAt isThere bitsAt bitAt bitLength fillAt fillFrom furtherByte fillBits firstSet
+unfolding reading
 too-many = (refl, refl, refl, refl, refl, refl)
 
 -- 25: the first fill bit, the last, and a further byte.
 pub misfilled :
     (readProof (over (0x20 ∷ 0x02 ∷ 0x51 ∷ [])) 2 ≡ refused 25 43) × (readProof (over (0x20 ∷ 0x02 ∷ 0x41 ∷ [])) 2 ≡ refused 25 47)
     × (readProof (sample ++ 0x00 ∷ []) 2 ≡ refused 25 48)
-unfolding readProof tablesAt setsRead relationsRead isCount tablesThere rowAt wholeNode nodeAt nodeHead ruleHead namesHead loopHead named onName fieldAt isThere bitsAt bitAt fillAt fillFrom furtherByte fillBits firstSet
+unfolding reading
 misfilled = (refl, refl, refl)

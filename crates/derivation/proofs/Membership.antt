@@ -30,7 +30,7 @@ module _ (bytes : List ℕ) where
 
   -- One more bit in front, in the numbers of a count down.
   pub word-more : (at n left : ℕ) → 0 < left → left ≤ n
-    → wordAt bytes (at + (left - 1)) (n - (left - 1)) ≡ wordAt bytes (at + left) (n - left) * 2 + bitAt bytes (at + (left - 1))
+      → wordAt bytes (at + (left - 1)) (n - (left - 1)) ≡ wordAt bytes (at + left) (n - left) * 2 + bitAt bytes (at + (left - 1))
   unfolding wordAt
   word-more at n left some within =
       let longer : n - (left - 1) ≡ suc (n - left) = omega arith in
@@ -52,7 +52,7 @@ module _ (bytes : List ℕ) where
   word-member at n s most = by (ltb s n) refl (ltb s 64) refl
     where
       by : (b : Bool) → ltb s n ≡ b → (c : Bool) → ltb s 64 ≡ c
-        → eqb (getD (wordAt bytes at n ∷ []) (s / 64) 0 / 2 ^ (s % 64) % 2) 1 ≡ (b && eqb (bitAt bytes (at + s)) 1)
+          → eqb (getD (wordAt bytes at n ∷ []) (s / 64) 0 / 2 ^ (s % 64) % 2) 1 ≡ (b && eqb (bitAt bytes (at + s)) 1)
       by true t c u =
           let under = ltb-true s n t in
           let word : s / 64 ≡ 0 = omega arith in
@@ -75,8 +75,9 @@ module _ (bytes : List ℕ) where
       either : (b : Bool) (at : ℕ) → cond b (wordAt bytes at n) 0 < 2 ^ n
       either true at = word-below at n
       either false at = pow-pos n
+
       by : (set inside row : Bool)
-        → cond set (cond inside (wordAt bytes (setAt n j) n) 0) (cond row (wordAt bytes (rowAt n sets ((j - 16) / 64) ((j - 16) % 64)) n) 0) < 2 ^ n
+          → cond set (cond inside (wordAt bytes (setAt n j) n) 0) (cond row (wordAt bytes (rowAt n sets ((j - 16) / 64) ((j - 16) % 64)) n) 0) < 2 ^ n
       by true inside row = either inside (setAt n j)
       by false inside row = either row (rowAt n sets ((j - 16) / 64) ((j - 16) % 64))
 
@@ -97,7 +98,7 @@ module _ (bytes : List ℕ) (n sets relations at : ℕ) (d : Derivation) (read :
 
   -- State s is in set i as the words hold it iff it is a state and the file has it in the set.
   pub set-member : (i s : ℕ) → i < sets
-    → mem (getD (written (wordsOf bytes n (readProof bytes n)) work) i 0 ∷ []) s ≡ (ltb s n && inSetOf bytes n i s)
+      → mem (getD (written (wordsOf bytes n (readProof bytes n)) work) i 0 ∷ []) s ≡ (ltb s n && inSetOf bytes n i s)
   unfolding tableWord inSetOf
   set-member i s under =
       let c = few in
@@ -106,8 +107,8 @@ module _ (bytes : List ℕ) (n sets relations at : ℕ) (d : Derivation) (read :
 
   -- The pair (s,t) likewise, for each of the 64 rows that the words have room for.
   pub pair-member : (r s t : ℕ) → r < relations → s < 64
-    → mem (getD (written (wordsOf bytes n (readProof bytes n)) work) (16 + 64 * r + s) 0 ∷ []) t
-    ≡ (ltb s n && ltb t n && inRelationOf bytes n sets r s t)
+      → mem (getD (written (wordsOf bytes n (readProof bytes n)) work) (16 + 64 * r + s) 0 ∷ []) t
+      ≡ (ltb s n && ltb t n && inRelationOf bytes n sets r s t)
   unfolding tableWord inRelationOf wordAt
   pair-member r s t under row =
       let c = few in
