@@ -1,0 +1,39 @@
+-- A while reads two more names; what is read behind them is the node itself.
+use mathlib.Core.Path.{_≡_, sym}
+use borrow.Author.Needs.{needs}
+use borrow.Author.Tests.{eq-eqb, ne-eqb}
+use Rattle.derivation.specs.declared.NodeHead.the-variants.{Node}
+use Rattle.derivation.specs.Nodes.{onPair, loopHead}
+use Rattle.derivation.proofs.nodes.loop_head.Statement.{statement}
+use Rattle.derivation.proofs.nodes.loop_head.Tie as tie
+
+returns : tie.Need-returns
+unfolding loopHead
+returns c = rw (ne-eqb _ 5 (c .if1 .taken))
+
+-- The pair, read with the node behind it.
+pair : (c : tie.After-names-at) →
+    let a = c .before .before .before .args in
+    loopHead (a .src .now) (a .sets) (a .relations) (a .rule) (a .p) (a .r) (a .g) (a .q) (a .at)
+    ≡ onPair (c .names-at .result) (Node (a .rule) (a .p) (a .r) (a .g) (a .q))
+unfolding loopHead
+pair c = rw (eq-eqb _ 5 (c .before .if1 .left)) (c .names-at .ensures _)
+
+returns-2 : tie.Need-returns-2
+unfolding onPair
+returns-2 c = sym (rw (c .before .fault .given .1) at (pair (c .before .before .before)))
+
+returns-3 : tie.Need-returns-3
+unfolding onPair
+returns-3 c = sym (rw (c .before .k .given .1) at (pair (c .before .before .before)))
+
+pub loop-head-spec : {M : Type 1} → statement M
+loop-head-spec =
+    tie.close
+    (tie.spec
+    returns
+    (λ c κs. search needs)
+    (λ c. search needs)
+    (λ c. search needs)
+    returns-2
+    returns-3)
