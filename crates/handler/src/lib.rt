@@ -1,5 +1,6 @@
 // The handler file, read from its bits: nothing is kept in memory, a statement or an expression is the number of its first bit.
-ghost use mathlib.Core.Path.{_≡_};
+pub mod expressions;
+pub mod head;
 
 // What the head of the file finds: how many variables, N and the statement's first bit; or the fault and its place.
 pub enum Header {
