@@ -1,0 +1,2 @@
+-- Laws of reading that the proofs here and callers cite; each function's proof stands in its own folder.
+pub mod Folds
