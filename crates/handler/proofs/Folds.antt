@@ -2,20 +2,26 @@
 -- known of an expression that was read.
 use Prim.Native.Nat.{ℕ, zero, suc, _+_, _-_, _≤_, _<_}
 use mathlib.Core.Bool.{Bool, true, false, cond}
-use mathlib.Core.List.{List}
+use mathlib.Core.List.{List, [], _∷_}
+use mathlib.Core.Logic.{⊎-elim}
 use mathlib.Core.Path.{_≡_, refl}
+use native.Mathlib.Numerals.{add-one}
 use native.Mathlib.Omega.{arith}
-use borrow.Author.Tests.{leb-false, ltb-true, eqb-false}
+use borrow.Author.Tests.{leb-false, ltb-true, eqb-false, lt-ltb}
 use lib.Dec.{leb, ltb, eqb}
+use denote.Enum.Declared.{tagOf}
+use types.Run.{OneOf}
 use Rattle.bits.specs.Fields.{fieldAt}
 use Rattle.bits.specs.declared.Field.{Field}
 use Rattle.bits.specs.declared.Field.the-variants.{Value, Missing}
 use Rattle.bits.proofs.Laws.{there}
-use Rattle.semantics.specs.Language.{Expr, lit, var, op, int, truth}
+use Rattle.semantics.specs.Language.{Expr, lit, var, op, int, truth, rowOf}
+use Rattle.semantics.specs.declared.Row.the-variants.{Unused}
 use Rattle.semantics.specs.StepNumber.{E}
 use Rattle.semantics.specs.Conditions.{occurrences}
 use Rattle.handler.specs.declared.ExprHead.{ExprHead}
 use Rattle.handler.specs.declared.ExprHead.the-variants.{Integer, Truth, Variable, Operation, Fault}
+use Rattle.handler.proofs.ExprHead.{the-type}
 use Rattle.handler.specs.Expressions.{integerHead, truthHead, variableHead, operationHead, payloadHead, tagHead, exprHead, ExprRead, good, bad, joined, operands, onExprHead, exprAt}
 use Rattle.handler.specs.Kinds.{width}
 
@@ -27,6 +33,27 @@ expr-step bytes count zero nodes at head more e = absurd (omega arith)
 expr-step bytes count (suc levels) nodes at head more e =
     let less : suc levels - 1 ≡ levels = omega arith in
     rw (e, less)
+
+pub inner-step : (bytes : List ℕ) (count levels nodes at o next : ℕ) → 0 < levels → exprHead bytes count nodes at ≡ Operation o next
+  → exprAt levels bytes count nodes at ≡ operands o (exprAt (levels - 1) bytes count (nodes + 1) next) (exprAt (levels - 1) bytes count)
+inner-step bytes count levels nodes at o next more e = rw (add-one nodes) (expr-step bytes count levels nodes at _ more e)
+
+-- A head that is no operation, by its tag, asks for no operands.
+pub childless : (head : ExprHead) → OneOf (0 ∷ 1 ∷ 2 ∷ 4 ∷ []) (tagOf the-type head) → (nodes : ℕ) (f g : ℕ → ℕ → ExprRead)
+  → onExprHead head nodes f ≡ onExprHead head nodes g
+childless (Integer z next) tag nodes f g = refl
+childless (Truth b next) tag nodes f g = refl
+childless (Variable v next) tag nodes f g = refl
+childless (Operation o next) tag nodes f g =
+    absurd (⊎-elim (eqb-false 3 0 refl) (⊎-elim (eqb-false 3 1 refl) (⊎-elim (eqb-false 3 2 refl) (eqb-false 3 4 refl))) tag)
+childless (Fault k place) tag nodes f g = refl
+
+-- Every operation that is read has a row.
+pub row-used : (o : ℕ) → o < 7 → rowOf o ≡ Unused → ⊥
+row-used o small e =
+    let used = rw (lt-ltb o 7 small) at e in
+    let z : _≡_ {A = ℕ} 0 1 = cc in
+    omega arith
 
 -- What is known where a node's head is no fault: there was room for the node, and where the head ends.
 unfoldable pub Headed : ℕ → ℕ → ℕ → ExprHead → Type 0
@@ -76,9 +103,9 @@ module _ (bytes : List ℕ) (count nodes : ℕ) where
         pick (eqb tag 0) _ _ (on-integer _ refl)
         (pick (eqb tag 1) _ _ (on-truth _ refl) (pick (eqb tag 2) _ _ (on-variable _ refl) (on-operation _ refl)))
 
-  pub headed : (at : ℕ) → Headed count nodes at (exprHead bytes count nodes at)
+  heads : (at : ℕ) → Headed count nodes at (exprHead bytes count nodes at)
   unfolding Headed exprHead tagHead
-  headed at = by (fieldAt bytes at 2) refl
+  heads at = by (fieldAt bytes at 2) refl
     where
       full : (tag next : ℕ) → next ≡ at + 2 → (b : Bool) → leb 31 nodes ≡ b → Headed count nodes at (cond b (Fault 17 at) (payloadHead bytes count next tag))
       full tag next moved true t = tt
@@ -86,6 +113,9 @@ module _ (bytes : List ℕ) (count nodes : ℕ) where
       by : (f : Field) → fieldAt bytes at 2 ≡ f → Headed count nodes at (tagHead bytes count nodes at f)
       by Missing e = tt
       by (Value tag next) e = full tag next (there bytes at 2 tag next e .moved) _ refl
+
+  pub headed : (at : ℕ) (head : ExprHead) → exprHead bytes count nodes at ≡ head → Headed count nodes at head
+  headed at head e = rw e at (heads at)
 
 -- What is known of an expression that was read: where it ends, and that its nodes count for its E and are at most 31.
 pub record Read (nodes at : ℕ) (e : Expr) (after next : ℕ) : Type 0 where
@@ -100,7 +130,7 @@ AllRead nodes at (bad k place) = Unit {0}
 all-read : (levels : ℕ) (bytes : List ℕ) (count nodes at : ℕ) → AllRead nodes at (exprAt levels bytes count nodes at)
 unfolding exprAt Headed
 all-read zero bytes count nodes at = tt
-all-read (suc levels) bytes count nodes at = by (exprHead bytes count nodes at) (headed bytes count nodes at) (all-read levels bytes count)
+all-read (suc levels) bytes count nodes at = by (exprHead bytes count nodes at) (heads bytes count nodes at) (all-read levels bytes count)
   where
     right : (o next : ℕ) → nodes < 31 → next ≡ at + 5 → (l : Expr) (after behind : ℕ) → Read (suc nodes) next l after behind
       → (x : ExprRead) → AllRead after behind x → AllRead nodes at (joined o l x)

@@ -1,2 +1,3 @@
 -- Laws of reading that the proofs here and callers cite; each function's proof stands in its own folder.
 pub mod Folds
+pub mod Shapes

@@ -29,6 +29,11 @@ abbrev pub asMisfit : Option ℕ → Misfit
 asMisfit none = Fits
 asMisfit (some place) = At place
 
+-- The first misfit of two parts, in file order.
+abbrev pub earlierOf : Misfit → Misfit → Misfit
+earlierOf Fits second = second
+earlierOf (At place) second = At place
+
 -- Whether variable v is in a mask: its bit v.
 abbrev pub inMask : ℕ → ℕ → Bool
 inMask mask v = eqb (mask / 2 ^ v % 2) 1
