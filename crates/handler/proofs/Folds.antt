@@ -103,9 +103,9 @@ module _ (bytes : List ℕ) (count nodes : ℕ) where
         pick (eqb tag 0) _ _ (on-integer _ refl)
         (pick (eqb tag 1) _ _ (on-truth _ refl) (pick (eqb tag 2) _ _ (on-variable _ refl) (on-operation _ refl)))
 
-  heads : (at : ℕ) → Headed count nodes at (exprHead bytes count nodes at)
+  pub headed : (at : ℕ) → Headed count nodes at (exprHead bytes count nodes at)
   unfolding Headed exprHead tagHead
-  heads at = by (fieldAt bytes at 2) refl
+  headed at = by (fieldAt bytes at 2) refl
     where
       full : (tag next : ℕ) → next ≡ at + 2 → (b : Bool) → leb 31 nodes ≡ b → Headed count nodes at (cond b (Fault 17 at) (payloadHead bytes count next tag))
       full tag next moved true t = tt
@@ -114,8 +114,8 @@ module _ (bytes : List ℕ) (count nodes : ℕ) where
       by Missing e = tt
       by (Value tag next) e = full tag next (there bytes at 2 tag next e .moved) _ refl
 
-  pub headed : (at : ℕ) (head : ExprHead) → exprHead bytes count nodes at ≡ head → Headed count nodes at head
-  headed at head e = rw e at (heads at)
+  pub headed-as : (at : ℕ) (head : ExprHead) → exprHead bytes count nodes at ≡ head → Headed count nodes at head
+  headed-as at head e = rw e at (headed at)
 
 -- What is known of an expression that was read: where it ends, and that its nodes count for its E and are at most 31.
 pub record Read (nodes at : ℕ) (e : Expr) (after next : ℕ) : Type 0 where
@@ -130,7 +130,7 @@ AllRead nodes at (bad k place) = Unit {0}
 all-read : (levels : ℕ) (bytes : List ℕ) (count nodes at : ℕ) → AllRead nodes at (exprAt levels bytes count nodes at)
 unfolding exprAt Headed
 all-read zero bytes count nodes at = tt
-all-read (suc levels) bytes count nodes at = by (exprHead bytes count nodes at) (heads bytes count nodes at) (all-read levels bytes count)
+all-read (suc levels) bytes count nodes at = by (exprHead bytes count nodes at) (headed bytes count nodes at) (all-read levels bytes count)
   where
     right : (o next : ℕ) → nodes < 31 → next ≡ at + 5 → (l : Expr) (after behind : ℕ) → Read (suc nodes) next l after behind
       → (x : ExprRead) → AllRead after behind x → AllRead nodes at (joined o l x)

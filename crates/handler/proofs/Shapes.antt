@@ -17,7 +17,7 @@ use Rattle.handler.specs.declared.ExprShape.{ExprShape}
 use Rattle.handler.specs.declared.ExprShape.the-variants as expr
 use Rattle.handler.specs.declared.ExprHead.the-variants.{Operation}
 use Rattle.handler.specs.Expressions.{exprHead, ExprRead, good, bad, exprAt}
-use Rattle.handler.proofs.Folds.{inner-step, Headed, headed, expr-read, occurs-below}
+use Rattle.handler.proofs.Folds.{inner-step, Headed, headed-as, expr-read, occurs-below}
 use Rattle.handler.specs.Kinds.{width, orPlace, misfit}
 use Rattle.handler.specs.Shapes.{asMisfit, earlierOf, inMask, exprShape}
 
@@ -103,7 +103,7 @@ module _ (bytes : List ℕ) (count levels nodes at o next : ℕ) (more : 0 < lev
       op-shape m′ f those last end q =
           let l = shaped a moved next first m e these so-far behind p in
           let r = shaped b moved behind (second so-far behind) m′ f those last end q in
-          let placed = headed bytes count nodes at _ head in
+          let placed = headed-as bytes count nodes at _ head in
           let ends = expr-read (levels - 1) bytes count (nodes + 1) next (l .tree) so-far behind (l .was) .ends in
           rw
           (inner-step bytes count levels nodes at o next more head, l .was, r .was)

@@ -11,7 +11,7 @@ use borrow.Fn.Kinds.{In}
 use borrow.Fn.PlainCycle.{Measures, is, falls, and}
 use Rattle.handler.specs.Expressions.{exprHead, bad, exprAt}
 use Rattle.handler.specs.Shapes.{exprShape}
-use Rattle.handler.proofs.Folds.{expr-step, childless, row-used, Headed, headed}
+use Rattle.handler.proofs.Folds.{expr-step, childless, row-used, Headed, headed-as}
 use Rattle.handler.proofs.Shapes.{shape-small, left-fault, right-fault, op-shape}
 use Rattle.handler.proofs.expressions.expr_walk.Reads as expr-walk
 use Rattle.handler.proofs.expressions.expr_walk.Kinds as expr-walk-kinds
@@ -86,7 +86,7 @@ right-is t c = sym (c .before .before .before .expr-walk2 .ensures) ∙ c .befor
 room : (t : ℕ) (c : expr-walk-lts.After-known-told (callees t) (expr-walk-at t) expr-walk.Post)
   → c .before .before .before .before .before .before .args .nodes < 31
 unfolding Headed
-room t c = headed _ _ _ _ _ (head-is t c) .0
+room t c = headed-as _ _ _ _ _ (head-is t c) .0
 
 -- What the sums need: the numbers of an operand are at most 31.
 abbrev Small : ℕ → ℕ → ℕ → Type 0
@@ -116,7 +116,7 @@ expr-walk-returns-3 : (t : ℕ) → expr-walk-lts.Need-returns-3 (callees t) (ex
 unfolding Headed
 expr-walk-returns-3 t c =
     let head = sym (c .before .before .before .before .before .before .expr-head-at .ensures) ∙ c .before .before .before .before .head .given .1 in
-    absurd (row-used _ (headed _ _ _ _ _ head .2) (sym (c .before .before .row-of .ensures) ∙ c .enum-told .given .1))
+    absurd (row-used _ (headed-as _ _ _ _ _ head .2) (sym (c .before .before .row-of .ensures) ∙ c .enum-told .given .1))
 
 expr-walk-returns-4 : (t : ℕ) → expr-walk-lts.Need-returns-4 (callees t) (expr-walk-at t) expr-walk.Post
 expr-walk-returns-4 t c =
@@ -151,28 +151,28 @@ pub +expr-walk-spec : {M : Type 1} → statement M
     (expr-walk-at t)
     expr-walk.Post
     (expr-walk-returns t)
-    (λ c κs. search needs) -- expr-walk-expr-head-at-requires
-    (λ c. search needs) -- expr-walk-enum-known-head
-    (λ c κs. search needs) -- expr-walk-leaf-of-requires
+    (λ c κs. search needs)
+    (λ c. search needs)
+    (λ c κs. search needs)
     (expr-walk-returns-2 t)
-    (λ c. search needs) -- expr-walk-cast-row-of
-    (λ c κs. search needs) -- expr-walk-row-of-requires
-    (λ c. search needs) -- expr-walk-enum-known-a
-    (λ c. search needs) -- expr-walk-enum-told
+    (λ c. search needs)
+    (λ c κs. search needs)
+    (λ c. search needs)
+    (λ c. search needs)
     (expr-walk-returns-3 t)
-    (λ c. search needs) -- expr-walk-sub-expr-walk
-    (λ c. search needs) -- expr-walk-add-expr-walk
+    (λ c. search needs)
+    (λ c. search needs)
     (λ c κs. (search needs, omega (arith, room t (c .before .before .before .before))))
-    (λ c. search needs) -- expr-walk-enum-known-left
-    (λ c. search needs) -- expr-walk-enum-told-2
+    (λ c. search needs)
+    (λ c. search needs)
     (expr-walk-returns-4 t)
-    (λ c. search needs) -- expr-walk-sub-expr-walk-2
+    (λ c. search needs)
     (λ c κs. (search needs, small-left t c .2))
-    (λ c. search needs) -- expr-walk-enum-known-right
-    (λ c. search needs) -- expr-walk-enum-told-3
+    (λ c. search needs)
+    (λ c. search needs)
     (expr-walk-returns-5 t)
-    (λ c κs. search needs) -- expr-walk-earlier-of-requires
-    (λ c κs. search needs) -- expr-walk-wanted-of-requires
+    (λ c κs. search needs)
+    (λ c κs. search needs)
     (λ c. omega (arith, small-left t (c .before .before .before .before .before .before), small-right t (c .before .before)))
     (λ c. omega (arith, small-left t (c .before .before .before .before .before .before), small-right t (c .before .before)))
     (λ c. omega (arith, small-left t (c .before .before .before .before .before .before), small-right t (c .before .before)))
