@@ -4,3 +4,4 @@ pub mod Expressions
 pub mod Statements
 pub mod Kinds
 pub mod Reading
+pub mod Values
