@@ -1,3 +1,4 @@
--- The laws of what was read that callers cite.
-pub mod Integers
+-- Laws of reading that the proofs here and callers cite; each function's proof stands in its own folder.
+pub mod Heads
 pub mod Sizes
+pub mod Integers

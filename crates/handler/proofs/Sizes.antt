@@ -1,18 +1,22 @@
 -- The sizes of a file's variables: each stands at its place, and where their product is not 0, neither is the product of the
 -- later ones, nor is it larger.
-use Prim.Native.Nat.{ℕ, zero, suc, _+_, _*_, _≤_, _<_, zero-le}
-use native.Mathlib.Nat.{mul-comm, le-mul-of-pos-right, eq-or-lt-of-le, zero-mul, mul-zero}
-use native.Mathlib.Numerals.{add-one}
+use Prim.Native.Nat.{ℕ, zero, suc, _+_, _-_, _*_, _≤_, _<_}
+use native.Mathlib.Nat.{mul-comm, le-mul-of-pos-right, zero-mul, mul-zero}
 use native.Mathlib.Omega.{arith}
 use mathlib.Core.List.{List, [], _∷_, _++_}
-use mathlib.Core.Logic.{⊎-elim}
-use mathlib.Core.Path.{_≡_, refl, sym, ap, _∙_}
+use mathlib.Core.Path.{_≡_, refl, _∙_}
 use lib.ListN.{length, getD, drop, length-append, List·getD-append, List·getD-eq-default, drop-of-length-le}
 use lib.Seq.{drop-cons, getD-at}
 use Rattle.states.proofs.Search.{below-cases}
-use Rattle.bits.specs.Fields.{bitsAt}
-use Rattle.semantics.specs.States.{product, weight, valueOf}
-use Rattle.handler.specs.Header.{sizesOf}
+use Rattle.bits.specs.Fields.{bitsAt, fieldAt}
+use Rattle.bits.specs.declared.Field.the-variants.{Missing}
+use Rattle.bits.proofs.Laws.{found}
+use Rattle.semantics.specs.States.{product}
+use Rattle.handler.specs.declared.Header.{Header}
+use Rattle.handler.specs.declared.Header.the-variants.{Sizes, Fault}
+use Rattle.handler.specs.Header.{headerAt, sizesOf}
+use Rattle.handler.specs.Values.{countOf}
+use Rattle.handler.proofs.Heads.{head-read}
 
 pub sizes-length : (s : List ℕ) (k : ℕ) → length (sizesOf s k) ≡ k
 unfolding sizesOf
@@ -52,9 +56,33 @@ one-size (size ∷ sizes) (suc v) h =
     let one = one-size sizes v (rest .0) in
     (one .0, omega arith)
 
--- The product of the sizes from k on.
-pub product-next : (sizes : List ℕ) (k : ℕ) → k < length sizes → product (drop k sizes) ≡ product (drop (suc k) sizes) * getD sizes k 1
-product-next sizes k h = rw (drop-cons sizes k 1 h) (mul-comm _ _)
+-- The product of the sizes from k - 1 on, from that of those from k on; there are none from `count` on.
+pub product-before : (s : List ℕ) (count k : ℕ) → 0 < k → k ≤ count
+    → product (drop k (sizesOf s count)) * getD (sizesOf s count) (k - 1) 1 ≡ product (drop (k - 1) (sizesOf s count))
+product-before s count zero more h = absurd (omega arith)
+product-before s count (suc k) more h =
+    let less : suc k - 1 ≡ k = omega arith in
+    rw (less, drop-cons (sizesOf s count) k 1 (omega (arith, sizes-length s count))) (mul-comm _ _)
 
-pub product-past : (sizes : List ℕ) (k : ℕ) → length sizes ≤ k → product (drop k sizes) ≡ 1
-product-past sizes k h = rw (drop-of-length-le sizes h)
+pub product-none : (s : List ℕ) (count k : ℕ) → count ≤ k → product (drop k (sizesOf s count)) ≡ 1
+product-none s count k h = rw (drop-of-length-le (sizesOf s count) {i = k} (omega (arith, sizes-length s count)))
+
+-- What the head of a file, faulty or not, says of the sizes of the variables that it declares.
+pub record Sound (s : List ℕ) (count : ℕ) : Type 0 where
+  pub placed : (v : ℕ) → v < count → fieldAt s (3 + 5 * v) 5 ≡ Missing → ⊥
+  pub least : 0 < product (sizesOf s count)
+  pub most : product (sizesOf s count) ≤ 64
+
+pub sound : (s : List ℕ) (count : ℕ) → count ≡ countOf (headerAt s) → Sound s count
+unfolding sizesOf
+sound s count = by (headerAt s) refl
+  where
+    by : (h : Header) → headerAt s ≡ h → count ≡ countOf h → Sound s count
+    by (Sizes c n at) e same =
+        let read = head-read s c n at e in
+        let total = read .sized .total in
+        rw same (record {
+          placed = λ v h e. let f = found s (3 + 5 * v) 5 (omega arith) (omega arith) (omega arith) (omega arith) in let z : _≡_ {A = ℕ} 0 1 = cc in omega arith;
+          least = omega arith;
+          most = omega arith })
+    by (Fault k place) e same = rw same (record { placed = λ v h e. absurd (omega arith); least = omega arith; most = omega arith })
