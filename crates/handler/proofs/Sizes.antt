@@ -40,7 +40,7 @@ factor zero b h = absurd (omega (arith, zero-mul b))
 factor (suc a) zero h = absurd (omega (arith, mul-zero (suc a)))
 factor (suc a) (suc b) h = (omega arith, rw (mul-comm (suc a) (suc b)) (le-mul-of-pos-right (suc b) (omega arith)))
 
-pub later-sizes : (sizes : List ℕ) (k : ℕ) → 0 < product sizes → (0 < product (drop k sizes)) × (product (drop k sizes) ≤ product sizes)
+later-sizes : (sizes : List ℕ) (k : ℕ) → 0 < product sizes → (0 < product (drop k sizes)) × (product (drop k sizes) ≤ product sizes)
 later-sizes sizes zero h = (h, omega arith)
 later-sizes [] (suc k) h = (h, omega arith)
 later-sizes (size ∷ sizes) (suc k) h =
@@ -48,7 +48,7 @@ later-sizes (size ∷ sizes) (suc k) h =
     let later = later-sizes sizes k (rest .0) in
     (later .0, omega arith)
 
-pub one-size : (sizes : List ℕ) (v : ℕ) → 0 < product sizes → (0 < getD sizes v 1) × (getD sizes v 1 ≤ product sizes)
+one-size : (sizes : List ℕ) (v : ℕ) → 0 < product sizes → (0 < getD sizes v 1) × (getD sizes v 1 ≤ product sizes)
 one-size [] v h = (omega arith, omega arith)
 one-size (size ∷ sizes) zero h = rw (mul-comm size (product sizes)) (factor (product sizes) size (rw (mul-comm (product sizes) size) h))
 one-size (size ∷ sizes) (suc v) h =
@@ -70,8 +70,8 @@ product-none s count k h = rw (drop-of-length-le (sizesOf s count) {i = k} (omeg
 -- What the head of a file, faulty or not, says of the sizes of the variables that it declares.
 pub record Sound (s : List ℕ) (count : ℕ) : Type 0 where
   pub placed : (v : ℕ) → v < count → fieldAt s (3 + 5 * v) 5 ≡ Missing → ⊥
-  pub least : 0 < product (sizesOf s count)
-  pub most : product (sizesOf s count) ≤ 64
+  pub later : (k : ℕ) → (0 < product (drop k (sizesOf s count))) × (product (drop k (sizesOf s count)) ≤ 64)
+  pub size : (v : ℕ) → (0 < getD (sizesOf s count) v 1) × (getD (sizesOf s count) v 1 ≤ 64)
 
 pub sound : (s : List ℕ) (count : ℕ) → count ≡ countOf (headerAt s) → Sound s count
 unfolding sizesOf
@@ -83,6 +83,10 @@ sound s count = by (headerAt s) refl
         let total = read .sized .total in
         rw same (record {
           placed = λ v h e. let f = found s (3 + 5 * v) 5 (omega arith) (omega arith) (omega arith) (omega arith) in let z : _≡_ {A = ℕ} 0 1 = cc in omega arith;
-          least = omega arith;
-          most = omega arith })
-    by (Fault k place) e same = rw same (record { placed = λ v h e. absurd (omega arith); least = omega arith; most = omega arith })
+          later = λ k. omega (arith, later-sizes (sizesOf s c) k (omega arith));
+          size = λ v. omega (arith, one-size (sizesOf s c) v (omega arith)) })
+    by (Fault k place) e same =
+        rw same (record {
+          placed = λ v h e. absurd (omega arith);
+          later = λ k. omega (arith, later-sizes [] k (omega arith));
+          size = λ v. omega arith })

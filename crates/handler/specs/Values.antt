@@ -1,5 +1,5 @@
 -- Document 01, "States and steps": what an expression of the file is worth at a state, and what a store of it leads to.
-use Prim.Native.Nat.{ℕ}
+use Prim.Native.Nat.{ℕ, _-_, _*_, _≤_, _<_}
 use mathlib.Core.Bool.{Bool, cond, _&&_}
 use mathlib.Core.List.{List}
 use mathlib.Core.Option.{Option, none, some}
@@ -39,6 +39,11 @@ magnitude Nothing = 0
 abbrev pub worthRead : Machine → ℕ → ExprRead → WorthRead
 worthRead m s (good e nodes next) = Whole (worthOf (value m e s)) nodes next
 worthRead m s (bad k place) = Fault k place
+
+-- What a walk keeps: each node adds at most 128 to what an integer can be, and there are at most 31.
+abbrev pub Small : ℕ → WorthRead → Type 0
+Small nodes (Whole worth after next) = (magnitude worth < 128 * (after - nodes)) × (nodes < after) × (after ≤ 31)
+Small nodes (Fault k place) = Unit {0}
 
 abbrev pub valueRead : Machine → ℕ → ExprRead → Option Val
 valueRead m s (good e nodes next) = value m e s

@@ -62,6 +62,7 @@ pub enum Part {
     Pair(u32, usize, usize),
     Test(u32, usize, usize),
     Nothing,
+}
 
 // What an expression is worth at a state: an integer, a truth value, or nothing where the kinds do not fit.
 pub enum Worth {

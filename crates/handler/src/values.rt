@@ -1,16 +1,27 @@
 // What expressions are worth at states, by re-reading the file.
 use bits::Field;
+use states::StateSet;
+use crate::After;
+use crate::ExprHead;
+use crate::Header;
 use crate::Worth;
+use crate::WorthRead;
+use crate::expressions::expr_head_at;
+use crate::head::read_header;
 ghost use mathlib.Core.Path.{_≡_};
+ghost use mathlib.Core.Bool.{_&&_, _||_};
 ghost use mathlib.Core.Option.{none};
-ghost use Prim.Native.Nat.{_+_, _≤_, _<_};
+ghost use Prim.Native.Nat.{ℕ, _+_, _≤_, _<_};
+ghost use lib.Dec.{ltb, eqb};
+ghost use lib.IntN.{pos};
 ghost use lib.ListN.{getD};
 ghost use lib.Signed.{mag};
+ghost use Rattle.states.specs.Sets.{has};
 ghost use Rattle.semantics.specs.Language.{ofIntegers, ofTruths, apply};
-ghost use Rattle.semantics.specs.States.{both};
-ghost use Rattle.handler.specs.Values.{countOf, worthOf, valIn, magnitude};
-ghost use Rattle.semantics.specs.States.{weight, valueOf};
+ghost use Rattle.semantics.specs.States.{machineOf, both, isTruth, weight, valueOf, stored};
 ghost use Rattle.handler.specs.Header.{headerAt, sizesOf};
+ghost use Rattle.handler.specs.Expressions.{exprAt};
+ghost use Rattle.handler.specs.Values.{countOf, worthOf, valIn, magnitude, worthRead, Small, afterOf, valueAt, whereAt, afterAt, agreeAt};
 
 // The size of variable v; 1 where there is no such variable.
 fn size_of(src: &[u8], count: u32, v: u32) -> u32
@@ -97,5 +108,38 @@ fn apply_op(o: u32, left: Worth, right: Worth) -> Worth
             Worth::Nothing => Worth::Nothing,
         },
         Worth::Nothing => Worth::Nothing,
+    }
+}
+
+// The worth at state s of the expression at a cursor, where `nodes` of its nodes stand before it. A node adds at most 128 to
+// what an integer can be, so that sums of 31 nodes fit.
+fn value_walk(src: &[u8], count: u32, s: u32, levels: u32, nodes: u32, at: usize) -> WorthRead
+    requires { ⌜ count ≡ countOf (headerAt (now src)) ⌝ }
+    ensures exact { λ r. ⌜ r ≡ worthRead (machineOf (sizesOf (now (src .entry)) count)) s (exprAt levels (now (src .entry)) count nodes at) ⌝ }
+    ensures small { λ r. ⌜ Small nodes r ⌝ }
+{
+    if levels == 0 {
+        return WorthRead::Fault(17, at);
+    }
+    let head = expr_head_at(src, count, nodes, at);
+    match head {
+        ExprHead::Integer(z, next) => WorthRead::Whole(Worth::Integer(z), nodes + 1, next),
+        ExprHead::Truth(b, next) => WorthRead::Whole(Worth::Truth(b), nodes + 1, next),
+        ExprHead::Variable(v, next) => {
+            let value = value_of(src, count, s, v);
+            WorthRead::Whole(Worth::Integer(value as i64), nodes + 1, next)
+        }
+        ExprHead::Operation(o, next) => {
+            let first = value_walk(src, count, s, levels - 1, nodes + 1, next);
+            let WorthRead::Whole(left, seen, middle) = first else {
+                return first;
+            };
+            let second = value_walk(src, count, s, levels - 1, seen, middle);
+            let WorthRead::Whole(right, all, behind) = second else {
+                return second;
+            };
+            WorthRead::Whole(apply_op(o, left, right), all, behind)
+        }
+        ExprHead::Fault(k, place) => WorthRead::Fault(k, place),
     }
 }

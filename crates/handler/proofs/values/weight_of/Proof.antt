@@ -6,7 +6,7 @@ use borrow.Author.Needs.{needs}
 use lib.ListN.{drop}
 use Rattle.semantics.specs.States.{product}
 use Rattle.handler.specs.Header.{sizesOf}
-use Rattle.handler.proofs.Sizes.{product-none, product-before, later-sizes, sound}
+use Rattle.handler.proofs.Sizes.{product-none, product-before, sound}
 use Rattle.handler.proofs.values.weight_of.Statement.{statement}
 use Rattle.handler.proofs.values.weight_of.Tie as tie
 
@@ -21,7 +21,7 @@ returns c = let a = c .before .before .args in sym (product-none (a .src .now) (
 
 loop-holds : tie.Need-loop-holds Inv-loop μ-loop
 loop-holds c =
-    let a = c .before .before .before .args in
+    let a = c .before .before .args in
     (omega arith, omega arith, sym (product-none (a .src .now) (a .count) (a .count) (omega arith)))
 
 one-more : (c : tie.After-size-of Inv-loop μ-loop) → let a = c .before .before .before .before .before .args in let l = c .before .before .loop in
@@ -33,7 +33,7 @@ mul-product : tie.Need-mul-product Inv-loop μ-loop
 mul-product c =
     let a = c .before .before .before .before .before .args in
     let known = sound (a .src .now) (a .count) (c .before .before .before .before .before .pre) in
-    omega (arith, one-more c, later-sizes (sizesOf (a .src .now) (a .count)) (c .before .before .loop .later - 1) (known .least))
+    omega (arith, one-more c, known .later (c .before .before .loop .later - 1))
 
 loop-again : tie.Need-loop-again Inv-loop μ-loop
 loop-again c = (omega arith, omega arith, one-more c)
