@@ -3,3 +3,4 @@ pub mod Folds
 pub mod Heads
 pub mod Sizes
 pub mod Integers
+pub mod Worths

@@ -1,9 +1,19 @@
+-- One level of reading says what stands here; the walks of the operands say what theirs are worth, and bound it.
 use Prim.Native.Nat.{ℕ, _<_}
+use native.Mathlib.Nat.{pos-of-ne-zero}
+use native.Mathlib.Omega.{arith}
+use mathlib.Core.Path.{_≡_, refl, sym, ap, _∙_}
+use lib.IntN.{pos}
+use mir.Syntax.{w64}
+use mir.Facts.{toZ-ofZ}
+use borrow.Author.Needs.{needs}
 use borrow.Fn.Kinds.{In}
 use borrow.Fn.PlainCycle.{Measures, is, falls, and}
+use Rattle.handler.proofs.Folds.{Headed}
+use Rattle.handler.proofs.Worths.{walked-out, head-known, walked-integer, walked-truth, walked-variable, walked-fault, walked-left, walked-right, operands-small, walked-both}
 use Rattle.handler.proofs.values.value_walk.Reads as value-walk
 use Rattle.handler.proofs.values.value_walk.Kinds as value-walk-kinds
-use Rattle.handler.proofs.values.+value_walk.Lts-value_walk as value-walk-lts
+use Rattle.handler.proofs.values.+value_walk.Lts-value_walk as lts
 use Rattle.handler.proofs.expressions.expr_head_at.Reads as expr-head-at-reads
 use Rattle.handler.proofs.values.apply_op.Reads as apply-op-reads
 use Rattle.handler.proofs.values.value_of.Reads as value-of-reads
@@ -11,432 +21,123 @@ use Rattle.handler.proofs.values.+value_walk.{statement}
 use Rattle.handler.proofs.values.+value_walk.Tie.{close}
 
 abbrev μ-value-walk : Measures 1 value-walk-kinds.ps ℕ
-μ-value-walk κs a = ?
+μ-value-walk κs a = a .1 .1 .1 .0
 
-abbrev value-walk-at : ℕ → In 1 value-walk-kinds.ps
-value-walk-at t =
-    and 1 value-walk-kinds.ps (is 1 value-walk-kinds.ps μ-value-walk t) value-walk.Pre
+abbrev now-at : ℕ → In 1 value-walk-kinds.ps
+now-at t = and 1 value-walk-kinds.ps (is 1 value-walk-kinds.ps μ-value-walk t) value-walk.Pre
 
-abbrev value-walk-below : ℕ → In 1 value-walk-kinds.ps
-value-walk-below t =
-    and 1 value-walk-kinds.ps (falls 1 value-walk-kinds.ps _<_ μ-value-walk t) value-walk.Pre
+abbrev callees : ℕ → lts.Claims
+callees t = (expr-head-at-reads.Asked, expr-head-at-reads.Learnt, value-of-reads.Asked, value-of-reads.Learnt,
+    and 1 value-walk-kinds.ps (falls 1 value-walk-kinds.ps _<_ μ-value-walk t) value-walk.Pre, value-walk.Post,
+    apply-op-reads.Asked, apply-op-reads.Learnt)
 
--- src/values.rt:122:9
-value-walk-returns : (t : ℕ) → value-walk-lts.Need-returns (
-  expr-head-at-reads.Asked,
-  expr-head-at-reads.Learnt,
-  value-of-reads.Asked,
-  value-of-reads.Learnt,
-  value-walk-below t,
-  value-walk.Post,
-  apply-op-reads.Asked,
-  apply-op-reads.Learnt,
-) (value-walk-at t) value-walk.Post
-value-walk-returns t c = ?
+more : {n : ℕ} → (n ≡ 0 → ⊥) → 0 < n
+more f = pos-of-ne-zero f
 
--- src/values.rt:124:9
-value-walk-expr-head-at-requires : (t : ℕ) → value-walk-lts.Need-expr-head-at-requires (
-  expr-head-at-reads.Asked,
-  expr-head-at-reads.Learnt,
-  value-of-reads.Asked,
-  value-of-reads.Learnt,
-  value-walk-below t,
-  value-walk.Post,
-  apply-op-reads.Asked,
-  apply-op-reads.Learnt,
-) (value-walk-at t) value-walk.Post
-value-walk-expr-head-at-requires t c κs = ?
+returns : (t : ℕ) → lts.Need-returns (callees t) (now-at t) value-walk.Post
+returns t c = walked-out _ _ _ _ _ _ (c .if1 .taken)
 
--- src/values.rt:126:27
-value-walk-enum-known-head : (t : ℕ) → value-walk-lts.Need-enum-known-head (
-  expr-head-at-reads.Asked,
-  expr-head-at-reads.Learnt,
-  value-of-reads.Asked,
-  value-of-reads.Learnt,
-  value-walk-below t,
-  value-walk.Post,
-  apply-op-reads.Asked,
-  apply-op-reads.Learnt,
-) (value-walk-at t) value-walk.Post
-value-walk-enum-known-head t c = ?
+expr-head-at-requires : (t : ℕ) → lts.Need-expr-head-at-requires (callees t) (now-at t) value-walk.Post
+expr-head-at-requires t c κs = search needs
 
--- src/values.rt:126:75
-value-walk-add-t30 : (t : ℕ) → value-walk-lts.Need-add-t30 (
-  expr-head-at-reads.Asked,
-  expr-head-at-reads.Learnt,
-  value-of-reads.Asked,
-  value-of-reads.Learnt,
-  value-walk-below t,
-  value-walk.Post,
-  apply-op-reads.Asked,
-  apply-op-reads.Learnt,
-) (value-walk-at t) value-walk.Post
-value-walk-add-t30 t c = ?
+enum-known-head : (t : ℕ) → lts.Need-enum-known-head (callees t) (now-at t) value-walk.Post
+enum-known-head t c = search needs
 
--- src/values.rt:127:25
-value-walk-enum-known-head-2 : (t : ℕ) → value-walk-lts.Need-enum-known-head-2 (
-  expr-head-at-reads.Asked,
-  expr-head-at-reads.Learnt,
-  value-of-reads.Asked,
-  value-of-reads.Learnt,
-  value-walk-below t,
-  value-walk.Post,
-  apply-op-reads.Asked,
-  apply-op-reads.Learnt,
-) (value-walk-at t) value-walk.Post
-value-walk-enum-known-head-2 t c = ?
+add-t30 : (t : ℕ) → lts.Need-add-t30 (callees t) (now-at t) value-walk.Post
+unfolding Headed
+add-t30 t c = omega (arith, head-known _ _ _ _ _ (sym (c .before .before .before .expr-head-at .ensures) ∙ c .before .head .given .1))
 
--- src/values.rt:127:71
-value-walk-add-t32 : (t : ℕ) → value-walk-lts.Need-add-t32 (
-  expr-head-at-reads.Asked,
-  expr-head-at-reads.Learnt,
-  value-of-reads.Asked,
-  value-of-reads.Learnt,
-  value-walk-below t,
-  value-walk.Post,
-  apply-op-reads.Asked,
-  apply-op-reads.Learnt,
-) (value-walk-at t) value-walk.Post
-value-walk-add-t32 t c = ?
+enum-known-head-2 : (t : ℕ) → lts.Need-enum-known-head-2 (callees t) (now-at t) value-walk.Post
+enum-known-head-2 t c = search needs
 
--- src/values.rt:128:28
-value-walk-enum-known-head-3 : (t : ℕ) → value-walk-lts.Need-enum-known-head-3 (
-  expr-head-at-reads.Asked,
-  expr-head-at-reads.Learnt,
-  value-of-reads.Asked,
-  value-of-reads.Learnt,
-  value-walk-below t,
-  value-walk.Post,
-  apply-op-reads.Asked,
-  apply-op-reads.Learnt,
-) (value-walk-at t) value-walk.Post
-value-walk-enum-known-head-3 t c = ?
+add-t32 : (t : ℕ) → lts.Need-add-t32 (callees t) (now-at t) value-walk.Post
+unfolding Headed
+add-t32 t c = omega (arith, head-known _ _ _ _ _ (sym (c .before .before .before .expr-head-at .ensures) ∙ c .before .head2 .given .1))
 
--- src/values.rt:129:17
-value-walk-value-of-requires : (t : ℕ) → value-walk-lts.Need-value-of-requires (
-  expr-head-at-reads.Asked,
-  expr-head-at-reads.Learnt,
-  value-of-reads.Asked,
-  value-of-reads.Learnt,
-  value-walk-below t,
-  value-walk.Post,
-  apply-op-reads.Asked,
-  apply-op-reads.Learnt,
-) (value-walk-at t) value-walk.Post
-value-walk-value-of-requires t c κs = ?
+enum-known-head-3 : (t : ℕ) → lts.Need-enum-known-head-3 (callees t) (now-at t) value-walk.Post
+enum-known-head-3 t c = search needs
 
--- src/values.rt:130:45
-value-walk-cast-t33 : (t : ℕ) → value-walk-lts.Need-cast-t33 (
-  expr-head-at-reads.Asked,
-  expr-head-at-reads.Learnt,
-  value-of-reads.Asked,
-  value-of-reads.Learnt,
-  value-walk-below t,
-  value-walk.Post,
-  apply-op-reads.Asked,
-  apply-op-reads.Learnt,
-) (value-walk-at t) value-walk.Post
-value-walk-cast-t33 t c = ?
+value-of-requires : (t : ℕ) → lts.Need-value-of-requires (callees t) (now-at t) value-walk.Post
+value-of-requires t c κs = search needs
 
--- src/values.rt:130:60
-value-walk-add-t35 : (t : ℕ) → value-walk-lts.Need-add-t35 (
-  expr-head-at-reads.Asked,
-  expr-head-at-reads.Learnt,
-  value-of-reads.Asked,
-  value-of-reads.Learnt,
-  value-walk-below t,
-  value-walk.Post,
-  apply-op-reads.Asked,
-  apply-op-reads.Learnt,
-) (value-walk-at t) value-walk.Post
-value-walk-add-t35 t c = ?
+cast-t33 : (t : ℕ) → lts.Need-cast-t33 (callees t) (now-at t) value-walk.Post
+cast-t33 t c = record { sfits = search needs }
 
--- src/values.rt:132:29
-value-walk-enum-known-head-4 : (t : ℕ) → value-walk-lts.Need-enum-known-head-4 (
-  expr-head-at-reads.Asked,
-  expr-head-at-reads.Learnt,
-  value-of-reads.Asked,
-  value-of-reads.Learnt,
-  value-walk-below t,
-  value-walk.Post,
-  apply-op-reads.Asked,
-  apply-op-reads.Learnt,
-) (value-walk-at t) value-walk.Post
-value-walk-enum-known-head-4 t c = ?
+add-t35 : (t : ℕ) → lts.Need-add-t35 (callees t) (now-at t) value-walk.Post
+unfolding Headed
+add-t35 t c = omega (arith, head-known _ _ _ _ _ (sym (c .before .before .before .before .expr-head-at .ensures) ∙ c .before .before .head3 .given .1))
 
--- src/values.rt:133:51
-value-walk-sub-value-walk : (t : ℕ) → value-walk-lts.Need-sub-value-walk (
-  expr-head-at-reads.Asked,
-  expr-head-at-reads.Learnt,
-  value-of-reads.Asked,
-  value-of-reads.Learnt,
-  value-walk-below t,
-  value-walk.Post,
-  apply-op-reads.Asked,
-  apply-op-reads.Learnt,
-) (value-walk-at t) value-walk.Post
-value-walk-sub-value-walk t c = ?
+enum-known-head-4 : (t : ℕ) → lts.Need-enum-known-head-4 (callees t) (now-at t) value-walk.Post
+enum-known-head-4 t c = search needs
 
--- src/values.rt:133:63
-value-walk-add-value-walk : (t : ℕ) → value-walk-lts.Need-add-value-walk (
-  expr-head-at-reads.Asked,
-  expr-head-at-reads.Learnt,
-  value-of-reads.Asked,
-  value-of-reads.Learnt,
-  value-walk-below t,
-  value-walk.Post,
-  apply-op-reads.Asked,
-  apply-op-reads.Learnt,
-) (value-walk-at t) value-walk.Post
-value-walk-add-value-walk t c = ?
+sub-value-walk : (t : ℕ) → lts.Need-sub-value-walk (callees t) (now-at t) value-walk.Post
+sub-value-walk t c = search needs
 
--- src/values.rt:133:17
-value-walk-value-walk-requires : (t : ℕ) → value-walk-lts.Need-value-walk-requires (
-  expr-head-at-reads.Asked,
-  expr-head-at-reads.Learnt,
-  value-of-reads.Asked,
-  value-of-reads.Learnt,
-  value-walk-below t,
-  value-walk.Post,
-  apply-op-reads.Asked,
-  apply-op-reads.Learnt,
-) (value-walk-at t) value-walk.Post
-value-walk-value-walk-requires t c κs = ?
+add-value-walk : (t : ℕ) → lts.Need-add-value-walk (callees t) (now-at t) value-walk.Post
+unfolding Headed
+add-value-walk t c = omega (arith, head-known _ _ _ _ _ (sym (c .before .before .before .expr-head-at .ensures) ∙ c .before .head4 .given .1))
 
--- src/values.rt:134:34
-value-walk-enum-known-first : (t : ℕ) → value-walk-lts.Need-enum-known-first (
-  expr-head-at-reads.Asked,
-  expr-head-at-reads.Learnt,
-  value-of-reads.Asked,
-  value-of-reads.Learnt,
-  value-walk-below t,
-  value-walk.Post,
-  apply-op-reads.Asked,
-  apply-op-reads.Learnt,
-) (value-walk-at t) value-walk.Post
-value-walk-enum-known-first t c = ?
+value-walk-requires : (t : ℕ) → lts.Need-value-walk-requires (callees t) (now-at t) value-walk.Post
+value-walk-requires t c κs = search needs
 
--- src/values.rt:135:17
-value-walk-enum-told : (t : ℕ) → value-walk-lts.Need-enum-told (
-  expr-head-at-reads.Asked,
-  expr-head-at-reads.Learnt,
-  value-of-reads.Asked,
-  value-of-reads.Learnt,
-  value-walk-below t,
-  value-walk.Post,
-  apply-op-reads.Asked,
-  apply-op-reads.Learnt,
-) (value-walk-at t) value-walk.Post
-value-walk-enum-told t c = ?
+enum-known-first : (t : ℕ) → lts.Need-enum-known-first (callees t) (now-at t) value-walk.Post
+enum-known-first t c = search needs
 
--- src/values.rt:135:17
-value-walk-returns-2 : (t : ℕ) → value-walk-lts.Need-returns-2 (
-  expr-head-at-reads.Asked,
-  expr-head-at-reads.Learnt,
-  value-of-reads.Asked,
-  value-of-reads.Learnt,
-  value-walk-below t,
-  value-walk.Post,
-  apply-op-reads.Asked,
-  apply-op-reads.Learnt,
-) (value-walk-at t) value-walk.Post
-value-walk-returns-2 t c = ?
+enum-told : (t : ℕ) → lts.Need-enum-told (callees t) (now-at t) value-walk.Post
+enum-told t c = search needs
 
--- src/values.rt:137:52
-value-walk-sub-value-walk-2 : (t : ℕ) → value-walk-lts.Need-sub-value-walk-2 (
-  expr-head-at-reads.Asked,
-  expr-head-at-reads.Learnt,
-  value-of-reads.Asked,
-  value-of-reads.Learnt,
-  value-walk-below t,
-  value-walk.Post,
-  apply-op-reads.Asked,
-  apply-op-reads.Learnt,
-) (value-walk-at t) value-walk.Post
-value-walk-sub-value-walk-2 t c = ?
+returns-2 : (t : ℕ) → lts.Need-returns-2 (callees t) (now-at t) value-walk.Post
+returns-2 t c =
+    walked-left _ _ _ _ _ _ (more (c .before .before .before .before .before .before .before .if1 .left)) _ _ (sym (c .before .before .before .before .before .before .expr-head-at .ensures) ∙ c .before .before .before .before .head4 .given .1) _ (c .before .before .value-walk .ensures) _ _ (c .enum-told .given .1)
 
--- src/values.rt:137:17
-value-walk-value-walk-requires-2 : (t : ℕ) → value-walk-lts.Need-value-walk-requires-2 (
-  expr-head-at-reads.Asked,
-  expr-head-at-reads.Learnt,
-  value-of-reads.Asked,
-  value-of-reads.Learnt,
-  value-walk-below t,
-  value-walk.Post,
-  apply-op-reads.Asked,
-  apply-op-reads.Learnt,
-) (value-walk-at t) value-walk.Post
-value-walk-value-walk-requires-2 t c κs = ?
+sub-value-walk-2 : (t : ℕ) → lts.Need-sub-value-walk-2 (callees t) (now-at t) value-walk.Post
+sub-value-walk-2 t c = search needs
 
--- src/values.rt:138:34
-value-walk-enum-known-second : (t : ℕ) → value-walk-lts.Need-enum-known-second (
-  expr-head-at-reads.Asked,
-  expr-head-at-reads.Learnt,
-  value-of-reads.Asked,
-  value-of-reads.Learnt,
-  value-walk-below t,
-  value-walk.Post,
-  apply-op-reads.Asked,
-  apply-op-reads.Learnt,
-) (value-walk-at t) value-walk.Post
-value-walk-enum-known-second t c = ?
+value-walk-requires-2 : (t : ℕ) → lts.Need-value-walk-requires-2 (callees t) (now-at t) value-walk.Post
+value-walk-requires-2 t c κs = search needs
 
--- src/values.rt:139:17
-value-walk-enum-told-2 : (t : ℕ) → value-walk-lts.Need-enum-told-2 (
-  expr-head-at-reads.Asked,
-  expr-head-at-reads.Learnt,
-  value-of-reads.Asked,
-  value-of-reads.Learnt,
-  value-walk-below t,
-  value-walk.Post,
-  apply-op-reads.Asked,
-  apply-op-reads.Learnt,
-) (value-walk-at t) value-walk.Post
-value-walk-enum-told-2 t c = ?
+enum-known-second : (t : ℕ) → lts.Need-enum-known-second (callees t) (now-at t) value-walk.Post
+enum-known-second t c = search needs
 
--- src/values.rt:139:17
-value-walk-returns-3 : (t : ℕ) → value-walk-lts.Need-returns-3 (
-  expr-head-at-reads.Asked,
-  expr-head-at-reads.Learnt,
-  value-of-reads.Asked,
-  value-of-reads.Learnt,
-  value-walk-below t,
-  value-walk.Post,
-  apply-op-reads.Asked,
-  apply-op-reads.Learnt,
-) (value-walk-at t) value-walk.Post
-value-walk-returns-3 t c = ?
+enum-told-2 : (t : ℕ) → lts.Need-enum-told-2 (callees t) (now-at t) value-walk.Post
+enum-told-2 t c = search needs
 
--- src/values.rt:141:30
-value-walk-apply-op-requires : (t : ℕ) → value-walk-lts.Need-apply-op-requires (
-  expr-head-at-reads.Asked,
-  expr-head-at-reads.Learnt,
-  value-of-reads.Asked,
-  value-of-reads.Learnt,
-  value-walk-below t,
-  value-walk.Post,
-  apply-op-reads.Asked,
-  apply-op-reads.Learnt,
-) (value-walk-at t) value-walk.Post
-value-walk-apply-op-requires t c κs = ?
+returns-3 : (t : ℕ) → lts.Need-returns-3 (callees t) (now-at t) value-walk.Post
+returns-3 t c =
+    walked-right _ _ _ _ _ _ (more (c .before .before .before .before .before .before .before .before .before .before .before .if1 .left)) _ _ (sym (c .before .before .before .before .before .before .before .before .before .before .expr-head-at .ensures) ∙ c .before .before .before .before .before .before .before .before .head4 .given .1) _ (c .before .before .before .before .before .before .value-walk .ensures)
+    _ _ _ (c .before .before .before .before .first .given .1) _ (c .before .before .value-walk2 .ensures) _ _ (c .enum-told2 .given .1)
 
--- src/values.rt:143:25
-value-walk-enum-known-head-5 : (t : ℕ) → value-walk-lts.Need-enum-known-head-5 (
-  expr-head-at-reads.Asked,
-  expr-head-at-reads.Learnt,
-  value-of-reads.Asked,
-  value-of-reads.Learnt,
-  value-walk-below t,
-  value-walk.Post,
-  apply-op-reads.Asked,
-  apply-op-reads.Learnt,
-) (value-walk-at t) value-walk.Post
-value-walk-enum-known-head-5 t c = ?
+apply-op-requires : (t : ℕ) → lts.Need-apply-op-requires (callees t) (now-at t) value-walk.Post
+apply-op-requires t c κs =
+    operands-small _ _ _ _ _ _ (more (c .before .before .before .before .before .before .before .before .before .before .before .before .if1 .left)) _ _ (sym (c .before .before .before .before .before .before .before .before .before .before .before .expr-head-at .ensures) ∙ c .before .before .before .before .before .before .before .before .before .head4 .given .1) _ (c .before .before .before .before .before .before .before .value-walk .ensures)
+    _ _ _ (c .before .before .before .before .before .first .given .1) _ (c .before .before .before .value-walk2 .ensures) _ _ _ (c .before .second .given .1)
 
--- src/values.rt:116:1
-value-walk-returns-4 : (t : ℕ) → value-walk-lts.Need-returns-4 (
-  expr-head-at-reads.Asked,
-  expr-head-at-reads.Learnt,
-  value-of-reads.Asked,
-  value-of-reads.Learnt,
-  value-walk-below t,
-  value-walk.Post,
-  apply-op-reads.Asked,
-  apply-op-reads.Learnt,
-) (value-walk-at t) value-walk.Post
-value-walk-returns-4 t c = ?
+enum-known-head-5 : (t : ℕ) → lts.Need-enum-known-head-5 (callees t) (now-at t) value-walk.Post
+enum-known-head-5 t c = search needs
 
--- src/values.rt:116:1
-value-walk-returns-5 : (t : ℕ) → value-walk-lts.Need-returns-5 (
-  expr-head-at-reads.Asked,
-  expr-head-at-reads.Learnt,
-  value-of-reads.Asked,
-  value-of-reads.Learnt,
-  value-walk-below t,
-  value-walk.Post,
-  apply-op-reads.Asked,
-  apply-op-reads.Learnt,
-) (value-walk-at t) value-walk.Post
-value-walk-returns-5 t c = ?
+returns-4 : (t : ℕ) → lts.Need-returns-4 (callees t) (now-at t) value-walk.Post
+returns-4 t c =
+    rw (toZ-ofZ (record { sfits = c .known-told .given .0 .1 }))
+    (walked-integer _ _ _ _ _ _ (more (c .before .before .before .before .if1 .left)) _ _ (sym (c .before .before .before .expr-head-at .ensures) ∙ c .before .head .given .1))
 
--- src/values.rt:116:1
-value-walk-returns-6 : (t : ℕ) → value-walk-lts.Need-returns-6 (
-  expr-head-at-reads.Asked,
-  expr-head-at-reads.Learnt,
-  value-of-reads.Asked,
-  value-of-reads.Learnt,
-  value-walk-below t,
-  value-walk.Post,
-  apply-op-reads.Asked,
-  apply-op-reads.Learnt,
-) (value-walk-at t) value-walk.Post
-value-walk-returns-6 t c = ?
+returns-5 : (t : ℕ) → lts.Need-returns-5 (callees t) (now-at t) value-walk.Post
+returns-5 t c =
+    walked-truth _ _ _ _ _ _ (more (c .before .before .before .before .if1 .left)) _ _ (sym (c .before .before .before .expr-head-at .ensures) ∙ c .before .head2 .given .1)
 
--- src/values.rt:116:1
-value-walk-returns-7 : (t : ℕ) → value-walk-lts.Need-returns-7 (
-  expr-head-at-reads.Asked,
-  expr-head-at-reads.Learnt,
-  value-of-reads.Asked,
-  value-of-reads.Learnt,
-  value-walk-below t,
-  value-walk.Post,
-  apply-op-reads.Asked,
-  apply-op-reads.Learnt,
-) (value-walk-at t) value-walk.Post
-value-walk-returns-7 t c = ?
+returns-6 : (t : ℕ) → lts.Need-returns-6 (callees t) (now-at t) value-walk.Post
+returns-6 t c =
+    rw (toZ-ofZ {w = w64} {z = pos (c .value-of .result)} (search needs), c .value-of .ensures)
+    (walked-variable _ _ _ _ _ _ (more (c .before .before .before .before .before .if1 .left)) _ _ (sym (c .before .before .before .before .expr-head-at .ensures) ∙ c .before .before .head3 .given .1) (c .before .before .before .before .before .before .before .pre .1))
 
--- src/values.rt:116:1
-value-walk-returns-8 : (t : ℕ) → value-walk-lts.Need-returns-8 (
-  expr-head-at-reads.Asked,
-  expr-head-at-reads.Learnt,
-  value-of-reads.Asked,
-  value-of-reads.Learnt,
-  value-walk-below t,
-  value-walk.Post,
-  apply-op-reads.Asked,
-  apply-op-reads.Learnt,
-) (value-walk-at t) value-walk.Post
-value-walk-returns-8 t c = ?
+returns-7 : (t : ℕ) → lts.Need-returns-7 (callees t) (now-at t) value-walk.Post
+returns-7 t c =
+    walked-both _ _ _ _ _ _ (more (c .before .before .before .before .before .before .before .before .before .before .before .before .before .if1 .left)) _ _ (sym (c .before .before .before .before .before .before .before .before .before .before .before .before .expr-head-at .ensures) ∙ c .before .before .before .before .before .before .before .before .before .before .head4 .given .1) _ (c .before .before .before .before .before .before .before .before .value-walk .ensures)
+    _ _ _ (c .before .before .before .before .before .before .first .given .1) _ (c .before .before .before .before .value-walk2 .ensures) _ _ _ (c .before .before .second .given .1)
+    _ (c .apply-op .ensures)
+
+returns-8 : (t : ℕ) → lts.Need-returns-8 (callees t) (now-at t) value-walk.Post
+returns-8 t c =
+    walked-fault _ _ _ _ _ _ (more (c .before .before .before .before .if1 .left)) _ _ (sym (c .before .before .before .expr-head-at .ensures) ∙ c .before .head5 .given .1)
 
 pub +value-walk-spec : {M : Type 1} → statement M
-+value-walk-spec = close μ-value-walk λ t. value-walk-lts.spec (
-  expr-head-at-reads.Asked,
-  expr-head-at-reads.Learnt,
-  value-of-reads.Asked,
-  value-of-reads.Learnt,
-  value-walk-below t,
-  value-walk.Post,
-  apply-op-reads.Asked,
-  apply-op-reads.Learnt,
-)
-    (value-walk-at t)
-    value-walk.Post
-    (value-walk-returns t)
-    (value-walk-expr-head-at-requires t)
-    (value-walk-enum-known-head t)
-    (value-walk-add-t30 t)
-    (value-walk-enum-known-head-2 t)
-    (value-walk-add-t32 t)
-    (value-walk-enum-known-head-3 t)
-    (value-walk-value-of-requires t)
-    (value-walk-cast-t33 t)
-    (value-walk-add-t35 t)
-    (value-walk-enum-known-head-4 t)
-    (value-walk-sub-value-walk t)
-    (value-walk-add-value-walk t)
-    (value-walk-value-walk-requires t)
-    (value-walk-enum-known-first t)
-    (value-walk-enum-told t)
-    (value-walk-returns-2 t)
-    (value-walk-sub-value-walk-2 t)
-    (value-walk-value-walk-requires-2 t)
-    (value-walk-enum-known-second t)
-    (value-walk-enum-told-2 t)
-    (value-walk-returns-3 t)
-    (value-walk-apply-op-requires t)
-    (value-walk-enum-known-head-5 t)
-    (value-walk-returns-4 t)
-    (value-walk-returns-5 t)
-    (value-walk-returns-6 t)
-    (value-walk-returns-7 t)
-    (value-walk-returns-8 t)
++value-walk-spec = close μ-value-walk λ t. lts.spec (callees t) (now-at t) value-walk.Post (returns t) (expr-head-at-requires t) (enum-known-head t) (add-t30 t) (enum-known-head-2 t) (add-t32 t) (enum-known-head-3 t) (value-of-requires t) (cast-t33 t) (add-t35 t) (enum-known-head-4 t) (sub-value-walk t) (add-value-walk t) (value-walk-requires t) (enum-known-first t) (enum-told t) (returns-2 t) (sub-value-walk-2 t) (value-walk-requires-2 t) (enum-known-second t) (enum-told-2 t) (returns-3 t) (apply-op-requires t) (enum-known-head-5 t) (returns-4 t) (returns-5 t) (returns-6 t) (returns-7 t) (returns-8 t)
