@@ -7,8 +7,10 @@ use mathlib.Core.Logic.{⊎-elim}
 use mathlib.Core.Path.{_≡_, refl}
 use native.Mathlib.Numerals.{add-one}
 use native.Mathlib.Omega.{arith}
-use borrow.Author.Tests.{leb-false, ltb-true, eqb-false, lt-ltb}
+use borrow.Author.Tests.{leb-false, ltb-true, ltb-false, eqb-false, lt-ltb}
 use lib.Dec.{leb, ltb, eqb}
+use lib.IntN.{pos, negsuc}
+use lib.Signed.{mag}
 use denote.Enum.Declared.{tagOf}
 use types.Run.{OneOf}
 use Rattle.bits.specs.Fields.{fieldAt}
@@ -22,7 +24,7 @@ use Rattle.semantics.specs.Conditions.{occurrences}
 use Rattle.handler.specs.declared.ExprHead.{ExprHead}
 use Rattle.handler.specs.declared.ExprHead.the-variants.{Integer, Truth, Variable, Operation, Fault}
 use Rattle.handler.proofs.ExprHead.{the-type}
-use Rattle.handler.specs.Expressions.{integerHead, truthHead, variableHead, operationHead, payloadHead, tagHead, exprHead, ExprRead, good, bad, joined, operands, onExprHead, exprAt}
+use Rattle.handler.specs.Expressions.{signed, integerHead, truthHead, variableHead, operationHead, payloadHead, tagHead, exprHead, ExprRead, good, bad, joined, operands, onExprHead, exprAt}
 use Rattle.handler.specs.Kinds.{width}
 
 -- One level of reading, in the code's numbers.
@@ -57,18 +59,26 @@ row-used o small e =
 
 -- What is known where a node's head is no fault: there was room for the node, and where the head ends.
 unfoldable pub Headed : ℕ → ℕ → ℕ → ExprHead → Type 0
-Headed count nodes at (Integer z next) = (nodes < 31) × (next ≡ at + 10)
+Headed count nodes at (Integer z next) = (nodes < 31) × (next ≡ at + 10) × (mag z < 128)
 Headed count nodes at (Truth b next) = (nodes < 31) × (next ≡ at + 3)
 Headed count nodes at (Variable v next) = (nodes < 31) × (next ≡ at + 4) × (v < count) × (v < 4)
 Headed count nodes at (Operation o next) = (nodes < 31) × (next ≡ at + 5) × (o < 7)
 Headed count nodes at (Fault k place) = Unit {0}
+
+signed-small : (n : ℕ) → n < 256 → mag (signed n) < 128
+unfolding signed
+signed-small n h = by (ltb n 128) refl
+  where
+    by : (b : Bool) → ltb n 128 ≡ b → mag (cond b (pos n) (negsuc (255 - n))) < 128
+    by true t = ltb-true n 128 t
+    by false t = omega (arith, ltb-false n 128 t)
 
 module _ (bytes : List ℕ) (count nodes : ℕ) where
   module _ (room : nodes < 31) (at next : ℕ) (moved : next ≡ at + 2) where
     on-integer : (f : Field) → fieldAt bytes next 8 ≡ f → Headed count nodes at (integerHead bytes f)
     unfolding Headed integerHead
     on-integer Missing e = tt
-    on-integer (Value n after) e = omega (arith, there bytes next 8 n after e)
+    on-integer (Value n after) e = let known = there bytes next 8 n after e in omega (arith, signed-small n (known .small))
 
     on-truth : (f : Field) → fieldAt bytes next 1 ≡ f → Headed count nodes at (truthHead bytes f)
     unfolding Headed truthHead

@@ -3,3 +3,8 @@ pub mod Folds
 pub mod Shapes
 pub mod StmtFolds
 pub mod StmtShapes
+pub mod Parts
+pub mod Heads
+pub mod Sizes
+pub mod Integers
+pub mod Worths

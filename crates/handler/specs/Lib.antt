@@ -5,3 +5,4 @@ pub mod Statements
 pub mod Kinds
 pub mod Reading
 pub mod Shapes
+pub mod Values

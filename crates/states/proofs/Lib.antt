@@ -1,0 +1,5 @@
+-- The laws of sets and relations of states that callers cite.
+pub mod Search
+pub mod Words
+pub mod Rows
+pub mod Reach

@@ -1,0 +1,90 @@
+-- Relations as rows of words: a pair lies between states below n, and a row holds at most 64 states.
+use Prim.Native.Nat.{ℕ, zero, suc, _+_, _<_, _≤_}
+use native.Mathlib.Nat.{not-suc-le-zero}
+use native.Mathlib.Numerals.{add-one}
+use native.Mathlib.Decide.{decLt}
+use native.Mathlib.Omega.{arith}
+use mathlib.Core.Path.{_≡_, refl, sym, ap, ap₂, _∙_, subst}
+use mathlib.Core.Bool.{Bool, true, false, _&&_, _||_, true≢false}
+use mathlib.Core.List.{List, [], _∷_}
+use lib.ListN.{getD, length, set, length-set, List·getD-eq-default}
+use lib.Seq.{getD-set-same, getD-set-other}
+use lib.Dec.{ltb}
+use borrow.Author.Tests.{ltb-true, lt-ltb, le-ltb}
+use Rattle.states.specs.declared.StateSet.{StateSet}
+use Rattle.states.specs.Search.{all, any}
+use Rattle.states.specs.Sets.{mem, has}
+use Rattle.states.specs.Relations.{rel}
+use Rattle.states.proofs.Search.{and-left, and-right, and-both, bool-ext, not-true-false, below-cases, all-at, all-intro, all-cong}
+use Rattle.states.proofs.Words.{bit, mem-bit, mem-nought}
+use Rattle.states.proofs.Reach.{Between}
+
+pub rel-between : (n : ℕ) (rows : List ℕ) → Between n (rel n rows)
+unfolding rel
+rel-between n rows s t h =
+    let ends = and-left (ltb s n && ltb t n) _ h in
+    (ltb-true s n (and-left (ltb s n) (ltb t n) ends), ltb-true t n (and-right (ltb s n) (ltb t n) ends))
+
+pub rel-mem : (n : ℕ) (rows : List ℕ) (s t : ℕ) → rel n rows s t ≡ true → mem (getD rows s 0 ∷ []) t ≡ true
+unfolding rel
+rel-mem n rows s t h = and-right (ltb s n && ltb t n) _ h
+
+pub rel-intro : (n : ℕ) (rows : List ℕ) (s t : ℕ) → s < n → t < n → mem (getD rows s 0 ∷ []) t ≡ true → rel n rows s t ≡ true
+unfolding rel
+rel-intro n rows s t hs ht h = rw (lt-ltb s n hs, lt-ltb t n ht) h
+
+pub mem-below : (x s : ℕ) → mem (x ∷ []) s ≡ true → s < 64
+mem-below x s h = ltb-true s 64 (and-left (ltb s 64) (bit x s) (sym (mem-bit x s) ∙ h))
+
+-- A row masked to the n states.
+pub rel-row : (n : ℕ) (rows : List ℕ) (s t : ℕ) → s < n → (mem (getD rows s 0 ∷ []) t && (ltb t 64 && ltb t n)) ≡ rel n rows s t
+rel-row n rows s t l =
+    bool-ext _ _
+    (λ h. rel-intro n rows s t l (ltb-true t n (and-right (ltb t 64) _ (and-right (mem (getD rows s 0 ∷ []) t) _ h))) (and-left _ (ltb t 64 && ltb t n) h))
+    (λ h. let m = rel-mem n rows s t h in and-both _ _ m (and-both _ _ (lt-ltb t 64 (mem-below _ t m)) (lt-ltb t n (rel-between n rows s t h .1))))
+
+-- A comparison of two rows that holds where neither has the state holds of the n states where it holds of the 64.
+pub row-all : (β : Bool → Bool → Bool) → β false false ≡ true → (n : ℕ) (a b : List ℕ) (s : ℕ)
+    → all 64 (λ t. β (rel n a s t) (rel n b s t)) ≡ all n (λ t. β (rel n a s t) (rel n b s t))
+row-all β none n a b s =
+    bool-ext _ _
+    (λ h. all-intro n _ (λ t l. at 64 h t (decLt t 64) (λ rows past e. omega (arith, mem-below _ t (rel-mem n rows s t e)))))
+    (λ h. all-intro 64 _ (λ t l. at n h t (decLt t n) (λ rows past e. omega (arith, rel-between n rows s t e .1))))
+  where
+    at : (m : ℕ) → all m (λ t. β (rel n a s t) (rel n b s t)) ≡ true → (t : ℕ) → Dec (t < m)
+        → ((rows : List ℕ) → m ≤ t → rel n rows s t ≡ true → ⊥) → β (rel n a s t) (rel n b s t) ≡ true
+    at m h t (yes l) out = all-at m _ h t l
+    at m h t (no l) out = rw (not-true-false _ (out a (omega arith)), not-true-false _ (out b (omega arith))) none
+
+-- Of the 64 rows, those below k hold the pairs of f: what a loop that fills the rows keeps.
+pub record Filled (f : ℕ → ℕ → Bool) (k : ℕ) (rows : List ℕ) : Type 0 where
+  pub most : k ≤ 64
+  pub long : length rows ≡ 64
+  pub hold : (s : ℕ) → s < k → (t : ℕ) → mem (getD rows s 0 ∷ []) t ≡ f s t
+
+pub filled-none : (f : ℕ → ℕ → Bool) (rows : List ℕ) → length rows ≡ 64 → Filled f 0 rows
+filled-none f rows e = record { most = omega arith; long = e; hold = λ s l. absurd (not-suc-le-zero l) }
+
+pub filled-more : (f : ℕ → ℕ → Bool) (k : ℕ) (rows : List ℕ) (word : ℕ) → k < 64 → ((t : ℕ) → mem (word ∷ []) t ≡ f k t)
+    → Filled f k rows → Filled f (k + 1) (set rows k word)
+filled-more f k rows word l new old = record { most = omega arith; long = length-set rows k word ∙ old .long; hold = hold }
+  where
+    hold : (s : ℕ) → s < k + 1 → (t : ℕ) → mem (getD (set rows k word) s 0 ∷ []) t ≡ f s t
+    hold s h =
+        below-cases (λ i. (t : ℕ) → mem (getD (set rows k word) i 0 ∷ []) t ≡ f i t) k s (rw add-one at h)
+        (λ t. ap (λ w. mem (w ∷ []) t) (getD-set-same rows k word 0 (omega arith)) ∙ new t)
+        (λ low t. ap (λ w. mem (w ∷ []) t) (getD-set-other rows k s word 0 (omega arith)) ∙ old .hold s low t)
+
+-- All 64 filled, of a relation between states below n.
+pub filled-rel : (n : ℕ) (f : ℕ → ℕ → Bool) (k : ℕ) (rows : List ℕ) → Between n f → 64 ≤ k → Filled f k rows
+    → (s t : ℕ) → rel n rows s t ≡ (ltb s 64 && f s t)
+filled-rel n f k rows between all filled s t = at (decLt s 64)
+  where
+    at : Dec (s < 64) → rel n rows s t ≡ (ltb s 64 && f s t)
+    at (yes l) =
+        let row = filled .hold s (omega arith) t in
+        rw (lt-ltb s 64 l)
+        (bool-ext _ _ (λ h. sym row ∙ rel-mem n rows s t h) (λ h. rel-intro n rows s t (between s t h .0) (between s t h .1) (row ∙ h)))
+    at (no l) =
+        let past : getD rows s 0 ≡ 0 = List·getD-eq-default rows 0 (omega (arith, filled .long)) in
+        rw (le-ltb s 64 (omega arith)) (not-true-false _ (λ h. true≢false (sym (rel-mem n rows s t h) ∙ rw past (mem-nought t))))

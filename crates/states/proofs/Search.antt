@@ -1,0 +1,254 @@
+-- Laws of the bounded quantifiers and of the search for a breach, each by recursion on the bound: a state below suc n is below n or is n.
+use Prim.Native.Nat.{ℕ, zero, suc, _+_, _<_, _≤_}
+use native.Mathlib.Numerals.{add-one}
+use native.Mathlib.Nat.{eq-or-lt-of-le, le-antisymm, le-of-suc-le-suc, not-suc-le-zero}
+use native.Mathlib.Omega.{arith}
+use borrow.Author.Tests.{not-true, not-false}
+use mathlib.Core.Path.{_≡_, refl, sym, ap, ap₂, _∙_, subst}
+use mathlib.Core.Logic.{_⊎_, ⊎-elim, inl, inr}
+use mathlib.Core.Bool.{Bool, true, false, not, _&&_, _||_, Bool·beq, true≢false, false≢true}
+use mathlib.Core.List.{List, [], _∷_}
+use mathlib.Core.Option.{Option, none, some}
+use Rattle.states.specs.Search.{implies, all, any, Search, must, given, named, orElse, each, holds}
+
+-- Truth values.
+pub and-left : (a b : Bool) → (a && b) ≡ true → a ≡ true
+and-left true b e = refl
+and-left false b e = e
+
+pub and-right : (a b : Bool) → (a && b) ≡ true → b ≡ true
+and-right true b e = e
+and-right false b e = absurd (false≢true e)
+
+pub and-both : (a b : Bool) → a ≡ true → b ≡ true → (a && b) ≡ true
+and-both a b ha hb = rw (ha, hb)
+
+pub and-false-cases : (a b : Bool) → (a && b) ≡ false → (a ≡ false) ⊎ (b ≡ false)
+and-false-cases true b e = inr e
+and-false-cases false b e = inl refl
+
+pub or-left : (a b : Bool) → a ≡ true → (a || b) ≡ true
+or-left a b h = rw h
+
+pub or-right : (a b : Bool) → b ≡ true → (a || b) ≡ true
+or-right true b h = refl
+or-right false b h = h
+
+pub or-cases : (a b : Bool) → (a || b) ≡ true → (a ≡ true) ⊎ (b ≡ true)
+or-cases true b e = inl refl
+or-cases false b e = inr e
+
+pub or-none : (a b : Bool) → a ≡ false → b ≡ false → (a || b) ≡ false
+or-none a b ha hb = rw (ha, hb)
+
+pub implies-intro : (a b : Bool) → (a ≡ true → b ≡ true) → implies a b ≡ true
+unfolding implies
+implies-intro true b h = h refl
+implies-intro false b h = refl
+
+pub implies-at : (a b : Bool) → implies a b ≡ true → a ≡ true → b ≡ true
+unfolding implies
+implies-at true b e h = e
+implies-at false b e h = absurd (false≢true h)
+
+pub implies-false : (a b : Bool) → implies a b ≡ false → (a ≡ true) × (b ≡ false)
+unfolding implies
+implies-false true b e = (refl, e)
+implies-false false b e = absurd (true≢false e)
+
+-- Two truth values are the same where each holds if the other does.
+pub bool-ext : (a b : Bool) → (a ≡ true → b ≡ true) → (b ≡ true → a ≡ true) → a ≡ b
+bool-ext true b to back = sym (to refl)
+bool-ext false true to back = back refl
+bool-ext false false to back = refl
+
+pub beq-refl : (a : Bool) → Bool·beq a a ≡ true
+beq-refl true = refl
+beq-refl false = refl
+
+pub beq-true : (a b : Bool) → Bool·beq a b ≡ true → a ≡ b
+beq-true true true e = refl
+beq-true true false e = absurd (false≢true e)
+beq-true false true e = absurd (false≢true e)
+beq-true false false e = refl
+
+pub beq-false : (a : Bool) → Bool·beq a false ≡ not a
+beq-false true = refl
+beq-false false = refl
+
+pub not-true-false : (a : Bool) → (a ≡ true → ⊥) → a ≡ false
+not-true-false true h = absurd (h refl)
+not-true-false false h = refl
+
+pub true-or-false : (a : Bool) → (a ≡ true) ⊎ (a ≡ false)
+true-or-false true = inl refl
+true-or-false false = inr refl
+
+-- A state below suc n is n or is below n.
+pub below-cases : (P : ℕ → Type 0) (n s : ℕ) → s < suc n → P n → (s < n → P s) → P s
+below-cases P n s l last low = ⊎-elim (λ e. subst P (sym e) last) low (eq-or-lt-of-le (le-of-suc-le-suc l))
+
+-- All.
+pub all-intro : (n : ℕ) (p : ℕ → Bool) → ((s : ℕ) → s < n → p s ≡ true) → all n p ≡ true
+unfolding all
+all-intro zero p h = refl
+all-intro (suc n) p h = and-both _ _ (all-intro n p (λ s l. h s (omega arith))) (h n (omega arith))
+
+pub all-at : (n : ℕ) (p : ℕ → Bool) → all n p ≡ true → (s : ℕ) → s < n → p s ≡ true
+unfolding all
+all-at zero p h s l = absurd (not-suc-le-zero l)
+all-at (suc n) p h s l = below-cases (λ t. p t ≡ true) n s l (and-right (all n p) (p n) h) (all-at n p (and-left (all n p) (p n) h) s)
+
+-- The step of a loop that counts the states up.
+pub all-next : (n : ℕ) (p : ℕ → Bool) → all (n + 1) p ≡ (all n p && p n)
+unfolding all
+all-next n p = rw add-one
+
+-- The end of such a loop.
+pub all-done : (s n : ℕ) (p : ℕ → Bool) → s ≤ n → n ≤ s → all s p ≡ all n p
+all-done s n p up down = ap (λ k. all k p) (le-antisymm up down)
+
+pub all-more : (n : ℕ) (p : ℕ → Bool) → all n p ≡ true → p n ≡ true → all (n + 1) p ≡ true
+all-more n p h last = all-next n p ∙ and-both _ _ h last
+
+pub all-fails : (n : ℕ) (p : ℕ → Bool) (s : ℕ) → s < n → p s ≡ false → all n p ≡ false
+all-fails n p s l h = not-true-false _ (λ e. true≢false (sym (all-at n p e s l) ∙ h))
+
+pub all-cong : (n : ℕ) (p q : ℕ → Bool) → ((s : ℕ) → s < n → p s ≡ q s) → all n p ≡ all n q
+unfolding all
+all-cong zero p q h = refl
+all-cong (suc n) p q h = ap₂ _&&_ (all-cong n p q (λ s l. h s (omega arith))) (h n (omega arith))
+
+-- Any.
+pub any-intro : (n : ℕ) (p : ℕ → Bool) (s : ℕ) → s < n → p s ≡ true → any n p ≡ true
+unfolding any
+any-intro zero p s l h = absurd (not-suc-le-zero l)
+any-intro (suc n) p s l h =
+    below-cases (λ t. p t ≡ true → any (suc n) p ≡ true) n s l (or-right (any n p) (p n)) (λ k e. or-left _ _ (any-intro n p s k e)) h
+
+pub any-none : (n : ℕ) (p : ℕ → Bool) → ((s : ℕ) → s < n → p s ≡ false) → any n p ≡ false
+unfolding any
+any-none zero p h = refl
+any-none (suc n) p h = or-none _ _ (any-none n p (λ s l. h s (omega arith))) (h n (omega arith))
+
+pub any-at : (n : ℕ) (p : ℕ → Bool) → any n p ≡ false → (s : ℕ) → s < n → p s ≡ false
+any-at n p h s l = not-true-false _ (λ e. true≢false (sym (any-intro n p s l e) ∙ h))
+
+pub any-cong : (n : ℕ) (p q : ℕ → Bool) → ((s : ℕ) → s < n → p s ≡ q s) → any n p ≡ any n q
+unfolding any
+any-cong zero p q h = refl
+any-cong (suc n) p q h = ap₂ _||_ (any-cong n p q (λ s l. h s (omega arith))) (h n (omega arith))
+
+pub any-true : (n : ℕ) (p : ℕ → Bool) → any n p ≡ true → (s : ℕ) × (s < n) × (p s ≡ true)
+unfolding any
+any-true zero p h = absurd (false≢true h)
+any-true (suc n) p h = ⊎-elim (λ e. up (any-true n p e)) (λ e. (n, omega arith, e)) (or-cases _ _ h)
+  where
+    up : (s : ℕ) × (s < n) × (p s ≡ true) → (s : ℕ) × (s < suc n) × (p s ≡ true)
+    up w = (w .0, omega arith, w .2)
+
+-- The step of a loop that counts the states up.
+pub any-more : (n : ℕ) (p : ℕ → Bool) → any (n + 1) p ≡ (any n p || p n)
+unfolding any
+any-more n p = rw add-one
+
+pub any-done : (s n : ℕ) (p : ℕ → Bool) → s ≤ n → n ≤ s → any s p ≡ any n p
+any-done s n p up down = ap (λ k. any k p) (le-antisymm up down)
+
+pub all-false : (n : ℕ) (p : ℕ → Bool) → all n p ≡ false → (s : ℕ) × (s < n) × (p s ≡ false)
+all-false n p h = ⊎-elim (λ e. breach (any-true n _ e)) (λ e. absurd (true≢false (sym (kept e) ∙ h))) (true-or-false (any n (λ s. not (p s))))
+  where
+    kept : any n (λ s. not (p s)) ≡ false → all n p ≡ true
+    kept e = all-intro n p (λ s l. not-false _ (any-at n _ e s l))
+
+    breach : (s : ℕ) × (s < n) × (not (p s) ≡ true) → (s : ℕ) × (s < n) × (p s ≡ false)
+    breach w = (w .0, w .1, not-true _ (w .2))
+
+pub all-not : (n : ℕ) (p : ℕ → Bool) → all n (λ s. not (p s)) ≡ not (any n p)
+unfolding all any
+all-not zero p = refl
+all-not (suc n) p = ap (λ b. b && not (p n)) (all-not n p) ∙ neither (any n p) (p n)
+  where
+    neither : (a b : Bool) → (not a && not b) ≡ not (a || b)
+    neither true b = refl
+    neither false b = refl
+
+-- A search, and whether the condition holds.
+pub holds-none : (x : Search) → holds x ≡ true → x ≡ none
+unfolding holds
+holds-none none e = refl
+holds-none (some found) e = absurd (false≢true e)
+
+pub none-holds : (x : Search) → x ≡ none → holds x ≡ true
+unfolding holds
+none-holds x e = ap holds e
+
+pub holds-must : (b : Bool) → holds (must b) ≡ b
+unfolding holds must
+holds-must true = refl
+holds-must false = refl
+
+pub holds-given : (b : Bool) (x : Search) → holds (given b x) ≡ implies b (holds x)
+unfolding holds given implies
+holds-given true x = refl
+holds-given false x = refl
+
+pub holds-named : (s : ℕ) (x : Search) → holds (named s x) ≡ holds x
+unfolding holds named
+holds-named s none = refl
+holds-named s (some found) = refl
+
+pub holds-orElse : (x y : Search) → holds (orElse x y) ≡ (holds x && holds y)
+unfolding holds orElse
+holds-orElse none y = refl
+holds-orElse (some found) y = refl
+
+pub holds-each : (n : ℕ) (f : ℕ → Search) → holds (each n f) ≡ all n (λ s. holds (f s))
+unfolding each all holds
+holds-each zero f = refl
+holds-each (suc n) f = holds-orElse (each n f) (named n (f n)) ∙ ap₂ _&&_ (holds-each n f) (holds-named n (f n))
+
+pub must-none : (b : Bool) → must b ≡ none → b ≡ true
+must-none b e = sym (holds-must b) ∙ none-holds _ e
+
+pub given-none : (b : Bool) (x : Search) → given b x ≡ none → b ≡ true → x ≡ none
+given-none b x e h = holds-none x (implies-at b _ (sym (holds-given b x) ∙ none-holds _ e) h)
+
+pub orElse-none : (x y : Search) → orElse x y ≡ none → (x ≡ none) × (y ≡ none)
+orElse-none x y e =
+    let both : (holds x && holds y) ≡ true = sym (holds-orElse x y) ∙ none-holds _ e in
+    (holds-none x (and-left (holds x) (holds y) both), holds-none y (and-right (holds x) (holds y) both))
+
+pub each-none : (n : ℕ) (f : ℕ → Search) → each n f ≡ none → (s : ℕ) → s < n → f s ≡ none
+each-none n f e s l = holds-none _ (all-at n _ (sym (holds-each n f) ∙ none-holds _ e) s l)
+
+pub each-clear : (n : ℕ) (f : ℕ → Search) → ((s : ℕ) → s < n → f s ≡ none) → each n f ≡ none
+each-clear n f h = holds-none _ (holds-each n f ∙ all-intro n _ (λ s l. none-holds _ (h s l)))
+
+pub each-cong : (n : ℕ) (f g : ℕ → Search) → ((s : ℕ) → s < n → f s ≡ g s) → each n f ≡ each n g
+unfolding each
+each-cong zero f g h = refl
+each-cong (suc n) f g h = ap₂ orElse (each-cong n f g (λ s l. h s (omega arith))) (ap (named n) (h n (omega arith)))
+
+-- What a search that found a breach names: the least state that has one, then the states that its own search names.
+pub record Least (n : ℕ) (f : ℕ → Search) (found : List ℕ) : Type 0 where
+  pub state : ℕ
+  pub rest : List ℕ
+  pub below : state < n
+  pub names : found ≡ state ∷ rest
+  pub breach : f state ≡ some rest
+  pub least : (s : ℕ) → s < state → f s ≡ none
+
+pub each-least : (n : ℕ) (f : ℕ → Search) (found : List ℕ) → each n f ≡ some found → Least n f found
+unfolding each orElse named
+each-least zero f found e = absurd (let z : _≡_ {A = ℕ} 0 1 = cc in omega arith)
+each-least (suc n) f found e = from (each-least n f) (each n f) refl (f n) refl e
+  where
+    from : ((l : List ℕ) → each n f ≡ some l → Least n f l)
+        → (x : Search) → each n f ≡ x → (y : Search) → f n ≡ y → orElse x (named n y) ≡ some found → Least (suc n) f found
+    from earlier (some l) ex y ey h =
+        let w = earlier l ex in
+        record { state = w .state; rest = w .rest; below = omega arith; names = cc (h, w .names); breach = w .breach; least = w .least }
+    from earlier none ex none ey h = absurd (let z : _≡_ {A = ℕ} 0 1 = cc in omega arith)
+    from earlier none ex (some l) ey h =
+        record { state = n; rest = l; below = omega arith; names = cc; breach = ey; least = each-none n f ex }

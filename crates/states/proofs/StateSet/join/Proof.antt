@@ -1,0 +1,15 @@
+-- The word-wise or has the members of either.
+use mathlib.Core.Path.{refl}
+use mathlib.Core.Bool.{_||_}
+use lib.Bits.{bitOr}
+use Rattle.states.specs.Sets.{has}
+use Rattle.states.proofs.Words.{mem-word, or-bits}
+use Rattle.states.proofs.StateSet.join.Statement.{statement}
+use Rattle.states.proofs.StateSet.join.Tie as tie
+
+returns : tie.Need-returns
+unfolding has
+returns c = mem-word bitOr _||_ or-bits refl _ _
+
+pub join-spec : {M : Type 1} → statement M
+join-spec = tie.close (tie.spec returns)

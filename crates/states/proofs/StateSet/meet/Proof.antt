@@ -1,0 +1,15 @@
+-- The word-wise and has the members of both.
+use mathlib.Core.Path.{refl}
+use mathlib.Core.Bool.{_&&_}
+use lib.Bits.{bitAnd}
+use Rattle.states.specs.Sets.{has}
+use Rattle.states.proofs.Words.{mem-word, and-bits}
+use Rattle.states.proofs.StateSet.meet.Statement.{statement}
+use Rattle.states.proofs.StateSet.meet.Tie as tie
+
+returns : tie.Need-returns
+unfolding has
+returns c = mem-word bitAnd _&&_ and-bits refl _ _
+
+pub meet-spec : {M : Type 1} → statement M
+meet-spec = tie.close (tie.spec returns)

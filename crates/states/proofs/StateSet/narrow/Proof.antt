@@ -1,0 +1,17 @@
+-- `a ^ (a & b)` takes from a what it shares with b.
+use mathlib.Core.Path.{refl}
+use mathlib.Core.Bool.{not, _&&_}
+use lib.Bits.{bitAnd, bitXor}
+use Rattle.states.specs.Sets.{has}
+use Rattle.states.proofs.Words.{mem-word, without-bits}
+use Rattle.states.proofs.StateSet.narrow.Statement.{statement}
+use Rattle.states.proofs.StateSet.narrow.Tie as tie
+
+returns : tie.Need-returns
+unfolding has
+returns c =
+    let a = c .before .before .before .args in
+    mem-word (λ x y. bitXor x (bitAnd x y)) (λ p q. p && not q) without-bits refl (a .self .bits) (a .other .bits)
+
+pub narrow-spec : {M : Type 1} → statement M
+narrow-spec = tie.close (tie.spec returns)

@@ -1,0 +1,127 @@
+// Relations between n states as rows of words: row s holds the ends of the pairs that start in s, and a row past the end of
+// the slice is empty. Every function takes any n and any rows, and sees only the pairs between states below n.
+use crate::StateSet;
+ghost use mathlib.Core.Path.{_≡_};
+ghost use mathlib.Core.Logic.{_↔_};
+ghost use mathlib.Core.Bool.{true, _&&_, _||_, Bool·beq};
+ghost use Prim.Native.Nat.{ℕ};
+ghost use lib.ListN.{getD};
+ghost use lib.Dec.{ltb};
+ghost use Rattle.states.specs.Search.{implies, all, any};
+ghost use Rattle.states.specs.Sets.{has};
+ghost use Rattle.states.specs.Relations.{rel, Reached};
+
+fn word(rows: &[u64], i: usize) -> u64
+    ensures { λ r. ⌜ r ≡ getD (now (rows .entry)) i 0 ⌝ }
+{
+    if i < rows.len() { rows[i] } else { 0 }
+}
+
+// The ends of the pairs that start in s.
+pub fn row(n: u32, rows: &[u64], s: u32) -> StateSet
+    ensures { λ r. ⌜ ((t : ℕ) → has r t ≡ rel n (now (rows .entry)) s t) ⌝ }
+{
+    if s < n {
+        let bits = word(rows, s as usize);
+        StateSet { bits }.meet(StateSet::below(n))
+    } else {
+        StateSet::empty()
+    }
+}
+
+// The ends found so far, with those from s where s is in the set.
+fn ends_from(n: u32, set: StateSet, rows: &[u64], s: u32, ends: StateSet) -> StateSet
+    ensures { λ r. ⌜ ((t : ℕ) → has r t ≡ (has ends t || has set s && rel n (now (rows .entry)) s t)) ⌝ }
+{
+    if set.holds_state(s) {
+        ends.join(row(n, rows, s))
+    } else {
+        ends
+    }
+}
+
+// The ends of the pairs that start in the set.
+pub fn image(n: u32, set: StateSet, rows: &[u64]) -> StateSet
+    ensures { λ r. ⌜ ((t : ℕ) → has r t ≡ any n (λ s. has set s && rel n (now (rows .entry)) s t)) ⌝ }
+{
+    let mut ends = StateSet::empty();
+    for s in 0..n {
+        ends = ends_from(n, set, rows, s, ends);
+    }
+    ends
+}
+
+// The pairs of a followed by a pair of b. The result has 64 rows, so it starts in no state past them.
+pub fn compose(n: u32, a: &[u64], b: &[u64]) -> [u64; 64]
+    ensures { λ r. ⌜ ((s t : ℕ) → rel n r s t ≡ (ltb s 64 && any n (λ u. rel n (now (a .entry)) s u && rel n (now (b .entry)) u t))) ⌝ }
+{
+    let mut rows = [0u64; 64];
+    for s in 0..64 {
+        let ends = image(n, row(n, a, s), b);
+        rows[s as usize] = ends.bits;
+    }
+    rows
+}
+
+// The pairs of a and the pairs of b, in 64 rows as those of compose.
+pub fn union_of(n: u32, a: &[u64], b: &[u64]) -> [u64; 64]
+    ensures { λ r. ⌜ ((s t : ℕ) → rel n r s t ≡ (ltb s 64 && (rel n (now (a .entry)) s t || rel n (now (b .entry)) s t))) ⌝ }
+{
+    let mut rows = [0u64; 64];
+    for s in 0..64 {
+        let ends = row(n, a, s).join(row(n, b, s));
+        rows[s as usize] = ends.bits;
+    }
+    rows
+}
+
+fn row_included(n: u32, set: StateSet, a: &[u64], b: &[u64], s: u32) -> bool
+    ensures { λ r. ⌜ r ≡ implies (has set s) (all n (λ t. implies (rel n (now (a .entry)) s t) (rel n (now (b .entry)) s t))) ⌝ }
+{
+    if set.holds_state(s) {
+        row(n, a, s).included(row(n, b, s))
+    } else {
+        true
+    }
+}
+
+// Whether every pair of a that starts in the set is a pair of b.
+pub fn included_from(n: u32, set: StateSet, a: &[u64], b: &[u64]) -> bool
+    ensures { λ r.
+        ⌜ r ≡ all n (λ s. implies (has set s) (all n (λ t. implies (rel n (now (a .entry)) s t) (rel n (now (b .entry)) s t)))) ⌝ }
+{
+    let mut held = true;
+    for s in 0..n {
+        held = held & row_included(n, set, a, b, s);
+    }
+    held
+}
+
+fn same_row(n: u32, a: &[u64], b: &[u64], s: u32) -> bool
+    ensures { λ r. ⌜ r ≡ all n (λ t. Bool·beq (rel n (now (a .entry)) s t) (rel n (now (b .entry)) s t)) ⌝ }
+{
+    row(n, a, s).same(row(n, b, s))
+}
+
+// Whether a and b have the same pairs.
+pub fn same_members(n: u32, a: &[u64], b: &[u64]) -> bool
+    ensures { λ r. ⌜ r ≡ all n (λ s. all n (λ t. Bool·beq (rel n (now (a .entry)) s t) (rel n (now (b .entry)) s t))) ⌝ }
+{
+    let mut held = true;
+    for s in 0..n {
+        held = held & same_row(n, a, b, s);
+    }
+    held
+}
+
+// The states reached from the set by zero or more pairs. Each round adds the ends of all pairs that start in what is reached,
+// and n rounds reach all.
+pub fn reach(n: u32, rows: &[u64], from: StateSet) -> StateSet
+    ensures { λ r. ⌜ ((t : ℕ) → (has r t ≡ true) ↔ Reached (has from) (rel n (now (rows .entry))) t) ⌝ }
+{
+    let mut reached = from;
+    for _ in 0..n {
+        reached = reached.join(image(n, reached, rows));
+    }
+    reached
+}
