@@ -17,8 +17,8 @@ use Rattle.handler.specs.declared.Worth.the-variants.{Integer, Truth, No
 use Rattle.handler.specs.declared.WorthRead.{WorthRead}
 use Rattle.handler.specs.declared.WorthRead.the-variants.{Whole, Fault}
 use Rattle.handler.specs.Header.{headerAt, sizesOf}
-use Rattle.handler.specs.Expressions.{exprHead, ExprRead, good, bad, operands, joined, onExprHead, exprAt}
-use Rattle.handler.specs.Values.{countOf, valIn, worthOf, magnitude, worthRead, Small}
+use Rattle.handler.specs.Expressions.{exprHead, ExprRead, good, bad, operands, joined, onExprHead, exprAt, wholeExpr}
+use Rattle.handler.specs.Values.{countOf, valIn, worthOf, magnitude, worthRead, Small, machineAt, valueAt}
 use Rattle.handler.proofs.Folds.{Headed, headed, expr-step}
 use Rattle.handler.proofs.Sizes.{sound}
 
@@ -135,3 +135,19 @@ module _ (bytes : List ℕ) (count s levels nodes at : ℕ) (more : 0 < levels) 
             let l = found-left in
             let f = found-whole m s (exprAt (levels - 1) bytes count seen middle) b all behind (sym (right .0) ∙ also) in
             (sym (there ∙ rw (l .read, f .read, exact .0, l .worth, f .worth)), omega arith)
+
+-- The whole expression at a cursor, from the answer of a walk with all its levels.
+module _ (bytes : List ℕ) (count at s : ℕ) (same : count ≡ countOf (headerAt bytes)) where
+  pub whole-value : (w : Worth) (nodes next : ℕ)
+    → worthRead (machineOf (sizesOf bytes count)) s (exprAt 32 bytes count 0 at) ≡ Whole w nodes next → valIn w ≡ valueAt bytes at s
+  unfolding valueAt machineAt wholeExpr
+  whole-value w nodes next h =
+      let f = found-whole (machineOf (sizesOf bytes count)) s (exprAt 32 bytes count 0 at) w nodes next h in
+      rw (← same, f .read) (f .worth)
+
+  pub fault-value : (k place : ℕ)
+    → worthRead (machineOf (sizesOf bytes count)) s (exprAt 32 bytes count 0 at) ≡ Fault k place → none ≡ valueAt bytes at s
+  unfolding valueAt machineAt wholeExpr
+  fault-value k place h =
+      let gone = found-fault (machineOf (sizesOf bytes count)) s (exprAt 32 bytes count 0 at) k place h in
+      rw (← same, gone)
