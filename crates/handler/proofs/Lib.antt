@@ -8,3 +8,4 @@ pub mod Sizes
 pub mod Integers
 pub mod Worths
 pub mod ValueLaws
+pub mod ValueCases
