@@ -16,31 +16,27 @@ use Rattle.handler.specs.Values.{machineAt, valueAt, whereAt, afterAt, a
 two-variables : List ℕ
 two-variables = 66 ∷ 28 ∷ 72 ∷ []
 
--- 0 − 1 of the variables, and variable 1 < 2.
+-- Variable 0 − variable 1.
 difference : List ℕ
 difference = 66 ∷ 30 ∷ 98 ∷ 64 ∷ []
 
+-- Variable 1 < 2.
 less : List ℕ
 less = 66 ∷ 30 ∷ 164 ∷ 2 ∷ []
 
--- Values 1 and 2 are state 5.
-most-significant-first : (valueAt two-variables 13 5 ≡ some (int (pos 1))) × (valueAt two-variables 17 5 ≡ some (int (pos 2)))
-unfolding two-variables headerAt countRead sizesRead addSize sizeRead sizesOf fieldAt isThere bitsAt bitAt bitLength exprHead tagHead payloadHead integerHead truthHead variableHead operationHead signed exprAt wholeExpr machineAt valueAt whereAt afterAt agreeAt
-most-significant-first = (refl, refl)
-
-exact-below-nought : valueAt difference 13 5 ≡ some (int (negsuc 0))
-unfolding difference headerAt countRead sizesRead addSize sizeRead sizesOf fieldAt isThere bitsAt bitAt bitLength exprHead tagHead payloadHead integerHead truthHead variableHead operationHead signed exprAt wholeExpr machineAt valueAt whereAt afterAt agreeAt
-exact-below-nought = refl
-
-where-less : map (whereAt less true 13) (0 ∷ 1 ∷ 2 ∷ 3 ∷ 4 ∷ 5 ∷ 6 ∷ []) ≡ true ∷ true ∷ false ∷ true ∷ true ∷ false ∷ false ∷ []
-unfolding less headerAt countRead sizesRead addSize sizeRead sizesOf fieldAt isThere bitsAt bitAt bitLength exprHead tagHead payloadHead integerHead truthHead variableHead operationHead signed exprAt wholeExpr machineAt valueAt whereAt afterAt agreeAt
-where-less = refl
-
--- A store of 1 in variable 1; of 2, its size, in variable 0; at a state that is none; of an expression that is not there.
-stores : (afterAt two-variables 1 13 5 ≡ State 4) × (afterAt two-variables 0 17 5 ≡ OutOfRange) × (afterAt two-variables 1 13 6 ≡ OutOfRange) × (afterAt two-variables 1 24 5 ≡ OutOfRange)
-unfolding two-variables headerAt countRead sizesRead addSize sizeRead sizesOf fieldAt isThere bitsAt bitAt bitLength exprHead tagHead payloadHead integerHead truthHead variableHead operationHead signed exprAt wholeExpr machineAt valueAt whereAt afterAt agreeAt
-stores = (refl, refl, refl, refl)
-
-agrees : (agreeAt two-variables 0 5 3 ≡ true) × (agreeAt two-variables 1 5 3 ≡ false)
-unfolding two-variables headerAt countRead sizesRead addSize sizeRead sizesOf fieldAt isThere bitsAt bitAt bitLength exprHead tagHead payloadHead integerHead truthHead variableHead operationHead signed exprAt wholeExpr machineAt valueAt whereAt afterAt agreeAt
-agrees = (refl, refl)
+-- Values 1 and 2 are state 5; a difference below 0 is exact; the test is true at the states whose variable 1 is 0 or 1.
+-- At state 5, a store of 1 in variable 1 leads to state 4; of 2, its size, in variable 0, nowhere; nor does a store at 6, which is
+-- no state, or of what is no expression. States 5 and 3 agree in variable 0 and not in variable 1.
+values :
+    (valueAt two-variables 13 5 ≡ some (int (pos 1)))
+    × (valueAt two-variables 17 5 ≡ some (int (pos 2)))
+    × (valueAt difference 13 5 ≡ some (int (negsuc 0)))
+    × (map (whereAt less true 13) (0 ∷ 1 ∷ 2 ∷ 3 ∷ 4 ∷ 5 ∷ 6 ∷ []) ≡ true ∷ true ∷ false ∷ true ∷ true ∷ false ∷ false ∷ [])
+    × (afterAt two-variables 1 13 5 ≡ State 4)
+    × (afterAt two-variables 0 17 5 ≡ OutOfRange)
+    × (afterAt two-variables 1 13 6 ≡ OutOfRange)
+    × (afterAt two-variables 1 24 5 ≡ OutOfRange)
+    × (agreeAt two-variables 0 5 3 ≡ true)
+    × (agreeAt two-variables 1 5 3 ≡ false)
+unfolding two-variables difference less headerAt countRead sizesRead addSize sizeRead sizesOf fieldAt isThere bitsAt bitAt bitLength exprHead tagHead payloadHead integerHead truthHead variableHead operationHead signed exprAt wholeExpr machineAt valueAt whereAt afterAt agreeAt
+values = (refl, refl, refl, refl, refl, refl, refl, refl, refl, refl)
