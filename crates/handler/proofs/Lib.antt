@@ -3,6 +3,9 @@ pub mod Folds
 pub mod Shapes
 pub mod StmtFolds
 pub mod StmtShapes
+pub mod Parts
+pub mod Fitting
+pub mod Cases
 pub mod Heads
 pub mod Sizes
 pub mod Integers

@@ -33,8 +33,8 @@ stmt-step bytes count (suc levels) before at head more e =
 unfoldable pub Marked : ℕ → ℕ → ℕ → StmtHead → Type 0
 Marked below before at (Nil next) = (0 < below) × (before < 63) × (next ≡ at + 3)
 Marked below before at (Assign v next) = (0 < below) × (before < 63) × (next ≡ at + 5)
-Marked below before at (Pair code next) = (0 < below) × (before < 63) × (next ≡ at + 3) × (code < 4)
-Marked below before at (Test code next) = (0 < below) × (before < 63) × (next ≡ at + 3) × (code < 6)
+Marked below before at (Pair code next) = (0 < below) × (before < 63) × (next ≡ at + 3) × (2 ≤ code) × (code < 4)
+Marked below before at (Test code next) = (0 < below) × (before < 63) × (next ≡ at + 3) × (4 ≤ code) × (code < 6)
 Marked below before at (Fault k place) = Unit {0}
 
 module _ (bytes : List ℕ) (count below before : ℕ) where
@@ -50,15 +50,18 @@ module _ (bytes : List ℕ) (count below before : ℕ) where
 
     on-code : (code : ℕ) → Marked below before at (codeHead bytes count at code next)
     unfolding Marked codeHead
-    on-code code = by (eqb code 0) (eqb code 1) (ltb code 4) (ltb code 6) refl refl
+    on-code code = by (eqb code 0) (eqb code 1) (ltb code 4) (ltb code 6) refl refl refl refl
       where
-        by : (a b c d : Bool) → ltb code 4 ≡ c → ltb code 6 ≡ d
+        by : (a b c d : Bool) → eqb code 0 ≡ a → eqb code 1 ≡ b → ltb code 4 ≡ c → ltb code 6 ≡ d
           → Marked below before at (cond a (Nil next) (cond b (targetHead bytes count next (fieldAt bytes next 2)) (cond c (Pair code next) (cond d (Test code next) (Fault 14 at)))))
-        by true b c d p q = omega arith
-        by false true c d p q = on-target _ refl
-        by false false true d p q = omega (arith, ltb-true)
-        by false false false true p q = omega (arith, ltb-true)
-        by false false false false p q = tt
+        by true b c d t u p q = omega arith
+        by false true c d t u p q = on-target _ refl
+        by false false true d t u p q =
+            let some = eqb-false code 0 t in
+            let more = eqb-false code 1 u in
+            omega (arith, ltb-true)
+        by false false false true t u p q = omega (arith, ltb-true, ltb-false)
+        by false false false false t u p q = tt
 
   pub marked : (at : ℕ) (head : StmtHead) → stmtHead bytes count below before at ≡ head → Marked below before at head
   unfolding Marked stmtHead markHead

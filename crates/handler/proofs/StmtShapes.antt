@@ -3,12 +3,16 @@
 use Prim.Native.Nat.{ℕ, zero, suc, _+_, _-_, _*_, _^_, _≤_, _<_, min}
 use mathlib.Core.Bool.{Bool, true, false, cond}
 use mathlib.Core.List.{List}
+use mathlib.Core.Option.{Option, none, some}
 use mathlib.Core.Path.{_≡_, refl, ap}
 use native.Mathlib.Nat.{suc-mul}
 use native.Mathlib.Numerals.{add-one}
 use native.Mathlib.Omega.{arith}
 use borrow.Author.Tests.{leb-true, leb-false}
 use lib.Dec.{leb, eqb}
+use Rattle.bits.specs.Fields.{fillAt}
+use Rattle.bits.specs.declared.Fill.{Fill}
+use Rattle.bits.specs.declared.Fill.the-variants.{Ends, Wrong}
 use Rattle.semantics.specs.declared.Kind.the-variants.{Integer, Truth}
 use Rattle.semantics.specs.Language.{Expr, Stmt, seq, par, if, while}
 use Rattle.semantics.specs.StepNumber.{E, steps}
@@ -18,9 +22,10 @@ use Rattle.handler.specs.declared.StmtShape.{StmtShape}
 use Rattle.handler.specs.declared.StmtShape.the-variants as stmt
 use Rattle.handler.specs.declared.StmtHead.the-variants.{Assign, Pair, Test}
 use Rattle.handler.specs.Expressions.{ExprRead, good, bad, wholeExpr}
-use Rattle.handler.specs.Statements.{stmtHead, StmtRead, whole, fault, onAssigned, onBody, onTest, onRight, onLeft, stmtAt}
+use Rattle.handler.specs.Statements.{stmtHead, StmtRead, whole, fault, onAssigned, onBody, onTest, onRight, onLeft, stmtAt, wholeStmt}
 use Rattle.handler.specs.Kinds.{width, stmtWidth, orPlace, misfit, stmtMisfit}
-use Rattle.handler.specs.Shapes.{asMisfit, exprShape, stmtShape, assignedOf, pairOf, testedOf}
+use Rattle.handler.specs.Shapes.{asMisfit, exprShape, stmtShape, assignedOf, pairOf, testedOf, filledOf, judgedOf, fileOf}
+use Rattle.handler.specs.Reading.{onKinds, onFill, onStmt}
 use Rattle.handler.proofs.Shapes.{or-earlier, shaped, faulted}
 use Rattle.handler.proofs.StmtFolds.{stmt-step, Marked, marked, whole-ends, stmt-read}
 
@@ -147,3 +152,20 @@ module _ (bytes : List ℕ) (count levels before at N : ℕ) (more : 0 < levels)
           (← p, stmt-step bytes count levels before at _ more head, ← add-one before, t .was)
           (tested-made N at code next nodes behind (t .tree) (below (before + 1) behind) (marked bytes count (levels - 1) before at _ head .2)
           (whole-ends bytes count next (t .tree) nodes behind (t .was)))
+
+-- The file is judged as it is read.
+judged-made : (bytes : List ℕ) (count n at : ℕ) (x : StmtRead) → judgedOf bytes count n at (stmtShape n at x) ≡ fileOf (onStmt bytes count n at x)
+unfolding stmtShape fileOf
+judged-made bytes count n at (fault k place) = refl
+judged-made bytes count n at (whole S before next) = by (fillAt bytes next)
+  where
+    kinds : (o : Option ℕ) → filledOf count n at (min (steps n S) (2 ^ 32)) (asMisfit o) Ends ≡ fileOf (onKinds count n at S o)
+    kinds none = refl
+    kinds (some place) = refl
+    by : (f : Fill) → filledOf count n at (min (steps n S) (2 ^ 32)) (asMisfit (stmtMisfit at S)) f ≡ fileOf (onFill count n at S f)
+    by Ends = kinds (stmtMisfit at S)
+    by (Wrong place) = refl
+
+pub judged : (bytes : List ℕ) (count n at : ℕ) → judgedOf bytes count n at (stmtShape n at (stmtAt 17 bytes count 0 at)) ≡ fileOf (onStmt bytes count n at (wholeStmt bytes count at))
+unfolding wholeStmt
+judged bytes count n at = judged-made bytes count n at (stmtAt 17 bytes count 0 at)

@@ -130,7 +130,7 @@ fn tested_of(n: u32, code: u32, test: ExprShape, body: StmtShape) -> StmtShape
 }
 
 // The shape of the statement at a cursor over n states, read to so many levels.
-fn stmt_walk(src: &[u8], count: u32, n: u32, levels: u32, before: u32, at: usize) -> StmtShape
+pub(crate) fn stmt_walk(src: &[u8], count: u32, n: u32, levels: u32, before: u32, at: usize) -> StmtShape
     requires { ⌜ (1 ≤ n) × (n ≤ 64) × (before ≤ 63) ⌝ }
     ensures { λ r. ⌜ r ≡ stmtShape n at (stmtAt levels (now (src .entry)) count before at) ⌝ }
 {
