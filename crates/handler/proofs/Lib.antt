@@ -1,0 +1,6 @@
+-- Laws of reading that the proofs here and callers cite; each function's proof stands in its own folder.
+pub mod Folds
+pub mod Heads
+pub mod Sizes
+pub mod Integers
+pub mod Worths
