@@ -1,0 +1,2 @@
+-- The laws that the conditions cite.
+pub mod TestsPlaces
