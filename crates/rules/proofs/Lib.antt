@@ -1,2 +1,4 @@
--- The laws that the conditions cite.
+-- The laws that the conditions' proofs share.
+pub mod Searches
+pub mod Tables
 pub mod TestsPlaces
