@@ -2,3 +2,4 @@
 pub mod Searches
 pub mod Tables
 pub mod TestsPlaces
+pub mod TestsRows
