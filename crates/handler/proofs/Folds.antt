@@ -2,22 +2,28 @@
 -- known of an expression that was read.
 use Prim.Native.Nat.{ℕ, zero, suc, _+_, _-_, _≤_, _<_}
 use mathlib.Core.Bool.{Bool, true, false, cond}
-use mathlib.Core.List.{List}
+use mathlib.Core.List.{List, [], _∷_}
+use mathlib.Core.Logic.{⊎-elim}
 use mathlib.Core.Path.{_≡_, refl}
+use native.Mathlib.Numerals.{add-one}
 use native.Mathlib.Omega.{arith}
-use borrow.Author.Tests.{leb-false, ltb-true, ltb-false, eqb-false}
+use borrow.Author.Tests.{leb-false, ltb-true, ltb-false, eqb-false, lt-ltb}
 use lib.Dec.{leb, ltb, eqb}
 use lib.IntN.{pos, negsuc}
 use lib.Signed.{mag}
+use denote.Enum.Declared.{tagOf}
+use types.Run.{OneOf}
 use Rattle.bits.specs.Fields.{fieldAt}
 use Rattle.bits.specs.declared.Field.{Field}
 use Rattle.bits.specs.declared.Field.the-variants.{Value, Missing}
 use Rattle.bits.proofs.Laws.{there}
-use Rattle.semantics.specs.Language.{Expr, lit, var, op, int, truth}
+use Rattle.semantics.specs.Language.{Expr, lit, var, op, int, truth, rowOf}
+use Rattle.semantics.specs.declared.Row.the-variants.{Unused}
 use Rattle.semantics.specs.StepNumber.{E}
 use Rattle.semantics.specs.Conditions.{occurrences}
 use Rattle.handler.specs.declared.ExprHead.{ExprHead}
 use Rattle.handler.specs.declared.ExprHead.the-variants.{Integer, Truth, Variable, Operation, Fault}
+use Rattle.handler.proofs.ExprHead.{the-type}
 use Rattle.handler.specs.Expressions.{signed, integerHead, truthHead, variableHead, operationHead, payloadHead, tagHead, exprHead, ExprRead, good, bad, joined, operands, onExprHead, exprAt}
 use Rattle.handler.specs.Kinds.{width}
 
@@ -29,6 +35,27 @@ expr-step bytes count zero nodes at head more e = absurd (omega arith)
 expr-step bytes count (suc levels) nodes at head more e =
     let less : suc levels - 1 ≡ levels = omega arith in
     rw (e, less)
+
+pub inner-step : (bytes : List ℕ) (count levels nodes at o next : ℕ) → 0 < levels → exprHead bytes count nodes at ≡ Operation o next
+  → exprAt levels bytes count nodes at ≡ operands o (exprAt (levels - 1) bytes count (nodes + 1) next) (exprAt (levels - 1) bytes count)
+inner-step bytes count levels nodes at o next more e = rw (add-one nodes) (expr-step bytes count levels nodes at _ more e)
+
+-- A head that is no operation, by its tag, asks for no operands.
+pub childless : (head : ExprHead) → OneOf (0 ∷ 1 ∷ 2 ∷ 4 ∷ []) (tagOf the-type head) → (nodes : ℕ) (f g : ℕ → ℕ → ExprRead)
+  → onExprHead head nodes f ≡ onExprHead head nodes g
+childless (Integer z next) tag nodes f g = refl
+childless (Truth b next) tag nodes f g = refl
+childless (Variable v next) tag nodes f g = refl
+childless (Operation o next) tag nodes f g =
+    absurd (⊎-elim (eqb-false 3 0 refl) (⊎-elim (eqb-false 3 1 refl) (⊎-elim (eqb-false 3 2 refl) (eqb-false 3 4 refl))) tag)
+childless (Fault k place) tag nodes f g = refl
+
+-- Every operation that is read has a row.
+pub row-used : (o : ℕ) → o < 7 → rowOf o ≡ Unused → ⊥
+row-used o small e =
+    let used = rw (lt-ltb o 7 small) at e in
+    let z : _≡_ {A = ℕ} 0 1 = cc in
+    omega arith
 
 -- What is known where a node's head is no fault: there was room for the node, and where the head ends.
 unfoldable pub Headed : ℕ → ℕ → ℕ → ExprHead → Type 0
@@ -96,6 +123,9 @@ module _ (bytes : List ℕ) (count nodes : ℕ) where
       by : (f : Field) → fieldAt bytes at 2 ≡ f → Headed count nodes at (tagHead bytes count nodes at f)
       by Missing e = tt
       by (Value tag next) e = full tag next (there bytes at 2 tag next e .moved) _ refl
+
+  pub headed-as : (at : ℕ) (head : ExprHead) → exprHead bytes count nodes at ≡ head → Headed count nodes at head
+  headed-as at head e = rw e at (headed at)
 
 -- What is known of an expression that was read: where it ends, and that its nodes count for its E and are at most 31.
 pub record Read (nodes at : ℕ) (e : Expr) (after next : ℕ) : Type 0 where

@@ -1,6 +1,10 @@
 -- Laws of reading that the proofs here and callers cite; each function's proof stands in its own folder.
 pub mod Folds
+pub mod Shapes
+pub mod StmtFolds
+pub mod StmtShapes
 pub mod Heads
 pub mod Sizes
 pub mod Integers
 pub mod Worths
+pub mod ValueLaws

@@ -1,7 +1,7 @@
 -- What walks over the bits answer, from what reading says: the definitions of document 01 over trees, with no tree in the
 -- answer.
-use Prim.Native.Nat.{ℕ, _+_, _/_, _%_, _^_, min}
-use mathlib.Core.Bool.{Bool}
+use Prim.Native.Nat.{ℕ, _+_, _-_, _*_, _/_, _%_, _^_, min}
+use mathlib.Core.Bool.{Bool, cond}
 use mathlib.Core.List.{List}
 use mathlib.Core.Option.{Option, none, some}
 use lib.Dec.{eqb}
@@ -29,6 +29,11 @@ abbrev pub asMisfit : Option ℕ → Misfit
 asMisfit none = Fits
 asMisfit (some place) = At place
 
+-- The first misfit of two parts, in file order.
+abbrev pub earlierOf : Misfit → Misfit → Misfit
+earlierOf Fits second = second
+earlierOf (At place) second = At place
+
 -- Whether variable v is in a mask: its bit v.
 abbrev pub inMask : ℕ → ℕ → Bool
 inMask mask v = eqb (mask / 2 ^ v % 2) 1
@@ -43,6 +48,26 @@ exprShape wanted moved at (bad k place) = expr.Fault k place
 unfoldable pub stmtShape : ℕ → ℕ → StmtRead → StmtShape
 stmtShape N at (whole S before next) = stmt.Whole (min (steps N S) (2 ^ 32)) (asMisfit (stmtMisfit at S)) before next
 stmtShape N at (fault k place) = stmt.Fault k place
+
+-- How the shapes of parts make that of a statement: an assignment, a sequence or parallel, an if (4) or while (5).
+abbrev pub assignedOf : ℕ → ExprShape → StmtShape
+assignedOf before (expr.Whole m e occurs nodes next) = stmt.Whole (min (e + 1) (2 ^ 32)) m before next
+assignedOf before (expr.Fault k place) = stmt.Fault k place
+
+abbrev pub pairOf : StmtShape → StmtShape → StmtShape
+pairOf (stmt.Whole s m so-far behind) (stmt.Whole t m′ before next) =
+    stmt.Whole (min (s + t + 1) (2 ^ 32)) (earlierOf m m′) before next
+pairOf (stmt.Whole s m so-far behind) (stmt.Fault k place) = stmt.Fault k place
+pairOf (stmt.Fault k place) right = stmt.Fault k place
+
+abbrev pub testSteps : ℕ → ℕ → ℕ → ℕ → ℕ
+testSteps N code e b = cond (eqb code 4) (e + 1 + b) (N * (e + 2) + (N - 1) * (b + 1))
+
+abbrev pub testedOf : ℕ → ℕ → ExprShape → StmtShape → StmtShape
+testedOf N code (expr.Whole m e occurs nodes behind) (stmt.Whole b m′ before next) =
+    stmt.Whole (min (testSteps N code e b) (2 ^ 32)) (earlierOf m m′) before next
+testedOf N code (expr.Whole m e occurs nodes behind) (stmt.Fault k place) = stmt.Fault k place
+testedOf N code (expr.Fault k place) body = stmt.Fault k place
 
 -- Of a handler file.
 unfoldable pub fileOf : HandlerRead → HandlerFile

@@ -1,6 +1,7 @@
 // The handler file, read from its bits: nothing is kept in memory, a statement or an expression is the number of its first bit.
 pub mod expressions;
 pub mod head;
+pub mod statements;
 pub mod values;
 
 // What the head of the file finds: how many variables, N and the statement's first bit; or the fault and its place.
