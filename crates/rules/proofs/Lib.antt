@@ -1,3 +1,3 @@
 -- The laws that the conditions' proofs share.
 pub mod Searches
-pub mod Tables
+pub mod Words

@@ -61,7 +61,7 @@ pub ends-within : (n : ℕ) (p : ℕ → Bool) (r : ℕ → ℕ → Bool) (q : �
 ends-within n p r q =
     bool-ext _ _
     (λ h. inSet-intro n p _ (λ s l ps. sym (within n (r s) q) ∙ all-intro n _ (λ t k. implies-intro _ _ (λ st.
-        implies-at _ _ (all-at n _ h t k) (any-intro n _ s l (and-both _ _ ps st))))))
+    implies-at _ _ (all-at n _ h t k) (any-intro n _ s l (and-both _ _ ps st))))))
     (λ h. all-intro n _ (λ t k. implies-intro _ _ (λ e. from h t k (any-true n _ e))))
   where
     from : holds (inSet (bare n) p (λ s. inSet (bare n) (r s) (λ t. must (q t)))) ≡ true → (t : ℕ) → t < n
@@ -79,7 +79,7 @@ pub chains-within : (n : ℕ) (p : ℕ → Bool) (a b c ab : ℕ → ℕ → Boo
 chains-within n p a b c ab small chains =
     all-cong n _ _
     (λ s l. implies-cong (p s) _ _ (λ ps.
-        all-cong n _ _ (λ t k. ap (λ x. implies x (c s t)) (rw (lt-ltb s 64 (small s ps .0)) at (chains s t))) ∙ ends-within n (a s) b (c s)))
+    all-cong n _ _ (λ t k. ap (λ x. implies x (c s t)) (rw (lt-ltb s 64 (small s ps .0)) at (chains s t))) ∙ ends-within n (a s) b (c s)))
     ∙ sym (holds-inSet n p _)
   where
     implies-cong : (x y z : Bool) → (x ≡ true → y ≡ z) → implies x y ≡ implies x z
@@ -87,9 +87,12 @@ chains-within n p a b c ab small chains =
         bool-ext _ _ (λ e. implies-intro x z (λ i. sym (h i) ∙ implies-at x y e i)) (λ e. implies-intro x y (λ i. h i ∙ implies-at x z e i))
 
 -- A member of a set of at most 64 states is below 64, so a comparison of words answers for the n states.
+pub small-all : (n : ℕ) (p q : ℕ → Bool) → Small n p → all 64 (λ t. implies (p t) (q t)) ≡ all n (λ t. implies (p t) (q t))
+small-all n p q small = all-bounds 64 n _ (λ t e. small t (implies-false (p t) (q t) e .0))
+
 pub small-within : (n : ℕ) (p q : ℕ → Bool) → Small n p
     → all 64 (λ t. implies (p t) (q t)) ≡ holds (inSet (bare n) p (λ t. must (q t)))
-small-within n p q small = all-bounds 64 n _ (λ t e. small t (implies-false (p t) (q t) e .0)) ∙ within n p q
+small-within n p q small = small-all n p q small ∙ within n p q
 
 -- A search at a state that may not be a member.
 pub at-member : (b : Bool) (x : Search) → b ≡ true → holds x ≡ holds (given b x)
@@ -100,12 +103,16 @@ pub at-other : (b : Bool) (x : Search) → b ≡ false → true ≡ holds (given
 unfolding given holds
 at-other b x e = rw e
 
+pub given-cong : (b : Bool) (x y : Search) → (b ≡ true → x ≡ y) → given b x ≡ given b y
+unfolding given
+given-cong true x y h = h refl
+given-cong false x y h = refl
+
 pub inSet-and : (n : ℕ) (p q : ℕ → Bool) (f : ℕ → Search)
     → inSet (bare n) (λ s. p s && q s) f ≡ inSet (bare n) p (λ s. given (q s) (f s))
-unfolding inSet
+unfolding inSet given
 inSet-and n p q f = each-cong n _ _ (λ s l. nested (p s) (q s) (f s))
   where
     nested : (a b : Bool) (x : Search) → given (a && b) x ≡ given a (given b x)
-    unfolding given
     nested true b x = refl
     nested false b x = refl
