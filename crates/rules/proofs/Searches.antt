@@ -3,18 +3,13 @@
 use Prim.Native.Nat.{ℕ, _+_, _<_, _≤_}
 use native.Mathlib.Nat.{le-antisymm}
 use native.Mathlib.Numerals.{add-one}
-use mathlib.Core.Path.{_≡_, refl, sym, ap, ap₂, _∙_, fun-ext}
-use mathlib.Core.Logic.{_⊎_, ⊎-elim, inl, inr}
-use mathlib.Core.Bool.{Bool, true, false, not, _&&_, _||_, Bool·beq}
-use mathlib.Core.List.{List, [], _∷_}
+use mathlib.Core.Path.{_≡_, refl, sym, ap, _∙_}
+use mathlib.Core.Logic.{_⊎_, inl, inr}
+use mathlib.Core.Bool.{Bool, true, false, _&&_}
 use lib.Dec.{ltb}
 use borrow.Author.Tests.{lt-ltb}
-use Rattle.states.specs.Search.{implies, all, any, Search, must, given, named, orElse, each, holds}
-use Rattle.states.specs.Sets.{mem, has}
-use Rattle.states.specs.declared.StateSet.{StateSet}
-use Rattle.states.specs.Relations.{rel}
+use Rattle.states.specs.Search.{implies, all, any, Search, must, given, named, each, holds}
 use Rattle.states.proofs.Search.{and-left, and-right, and-both, implies-intro, implies-at, implies-false, bool-ext, true-or-false, all-intro, all-at, all-cong, any-intro, any-true, holds-must, holds-given, holds-named, holds-orElse, holds-each, each-cong}
-use Rattle.states.proofs.Rows.{rel-between, rel-mem, mem-below}
 use Rattle.semantics.specs.Conditions.{inSet}
 use Rattle.rules.specs.Words.{bare}
 
@@ -48,7 +43,7 @@ module _ (n : ℕ) (p : ℕ → Bool) (f : ℕ → Search) where
   pub inSet-at : holds (inSet (bare n) p f) ≡ true → (s : ℕ) → s < n → p s ≡ true → holds (f s) ≡ true
   inSet-at h s l = implies-at _ _ (all-at n _ (sym holds-inSet ∙ h) s l)
 
--- Members of a set of at most 64 states, each in another set.
+-- Every member is a state below n that a word can hold.
 abbrev pub Small : ℕ → (ℕ → Bool) → Type 0
 Small n p = (t : ℕ) → p t ≡ true → (t < 64) × (t < n)
 
@@ -61,7 +56,7 @@ pub ends-within : (n : ℕ) (p : ℕ → Bool) (r : ℕ → ℕ → Bool) (q : �
 ends-within n p r q =
     bool-ext _ _
     (λ h. inSet-intro n p _ (λ s l ps. sym (within n (r s) q) ∙ all-intro n _ (λ t k. implies-intro _ _ (λ st.
-        implies-at _ _ (all-at n _ h t k) (any-intro n _ s l (and-both _ _ ps st))))))
+    implies-at _ _ (all-at n _ h t k) (any-intro n _ s l (and-both _ _ ps st))))))
     (λ h. all-intro n _ (λ t k. implies-intro _ _ (λ e. from h t k (any-true n _ e))))
   where
     from : holds (inSet (bare n) p (λ s. inSet (bare n) (r s) (λ t. must (q t)))) ≡ true → (t : ℕ) → t < n
@@ -79,17 +74,20 @@ pub chains-within : (n : ℕ) (p : ℕ → Bool) (a b c ab : ℕ → ℕ → Boo
 chains-within n p a b c ab small chains =
     all-cong n _ _
     (λ s l. implies-cong (p s) _ _ (λ ps.
-        all-cong n _ _ (λ t k. ap (λ x. implies x (c s t)) (rw (lt-ltb s 64 (small s ps .0)) at (chains s t))) ∙ ends-within n (a s) b (c s)))
+    all-cong n _ _ (λ t k. ap (λ x. implies x (c s t)) (rw (lt-ltb s 64 (small s ps .0)) at (chains s t))) ∙ ends-within n (a s) b (c s)))
     ∙ sym (holds-inSet n p _)
   where
     implies-cong : (x y z : Bool) → (x ≡ true → y ≡ z) → implies x y ≡ implies x z
     implies-cong x y z h =
         bool-ext _ _ (λ e. implies-intro x z (λ i. sym (h i) ∙ implies-at x y e i)) (λ e. implies-intro x y (λ i. h i ∙ implies-at x z e i))
 
--- A member of a set of at most 64 states is below 64, so a comparison of words answers for the n states.
+-- So a comparison of words answers for the n states.
+pub small-all : (n : ℕ) (p q : ℕ → Bool) → Small n p → all 64 (λ t. implies (p t) (q t)) ≡ all n (λ t. implies (p t) (q t))
+small-all n p q small = all-bounds 64 n _ (λ t e. small t (implies-false (p t) (q t) e .0))
+
 pub small-within : (n : ℕ) (p q : ℕ → Bool) → Small n p
     → all 64 (λ t. implies (p t) (q t)) ≡ holds (inSet (bare n) p (λ t. must (q t)))
-small-within n p q small = all-bounds 64 n _ (λ t e. small t (implies-false (p t) (q t) e .0)) ∙ within n p q
+small-within n p q small = small-all n p q small ∙ within n p q
 
 -- A search at a state that may not be a member.
 pub at-member : (b : Bool) (x : Search) → b ≡ true → holds x ≡ holds (given b x)
@@ -100,12 +98,16 @@ pub at-other : (b : Bool) (x : Search) → b ≡ false → true ≡ holds (given
 unfolding given holds
 at-other b x e = rw e
 
+pub given-cong : (b : Bool) (x y : Search) → (b ≡ true → x ≡ y) → given b x ≡ given b y
+unfolding given
+given-cong true x y h = h refl
+given-cong false x y h = refl
+
 pub inSet-and : (n : ℕ) (p q : ℕ → Bool) (f : ℕ → Search)
     → inSet (bare n) (λ s. p s && q s) f ≡ inSet (bare n) p (λ s. given (q s) (f s))
-unfolding inSet
+unfolding inSet given
 inSet-and n p q f = each-cong n _ _ (λ s l. nested (p s) (q s) (f s))
   where
     nested : (a b : Bool) (x : Search) → given (a && b) x ≡ given a (given b x)
-    unfolding given
     nested true b x = refl
     nested false b x = refl

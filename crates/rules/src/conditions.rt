@@ -1,20 +1,28 @@
 // The conditions of document 01 that look at tables alone, each an equation with its definition. A node's tables come by their
 // numbers, its children's beside them.
 use crate::Names;
-use crate::tables::{chains_into, is_ending_in, is_join, leads_into, lies_in, row_at, rows_of, same_relation, same_set, set_at};
+use crate::tables::chains_into;
+use crate::tables::is_ending_in;
+use crate::tables::is_join;
+use crate::tables::leads_into;
+use crate::tables::lies_in;
+use crate::tables::row_at;
+use crate::tables::rows_of;
+use crate::tables::same_relation;
+use crate::tables::same_set;
+use crate::tables::set_at;
 use states::StateSet;
-use states::relations::{reach, union_of};
+use states::relations::reach;
+use states::relations::union_of;
 ghost use mathlib.Core.Path.{_≡_};
-ghost use mathlib.Core.Bool.{Bool, not, _&&_, _||_};
+ghost use mathlib.Core.Bool.{not, _&&_, _||_};
 ghost use Prim.Native.Nat.{ℕ};
 ghost use lib.Dec.{ltb, eqb};
 ghost use Rattle.states.specs.Search.{must, given, holds};
 ghost use Rattle.states.specs.Sets.{has};
-ghost use Rattle.states.specs.Relations.{rel};
-ghost use Rattle.states.specs.Relations.{reach as reachOf};
-ghost use Rattle.semantics.specs.Language.{Expr};
+ghost use Rattle.states.specs.Relations.{rel, reach as reachOf};
 ghost use Rattle.semantics.specs.Derivations.{Spec};
-ghost use Rattle.semantics.specs.Conditions.{inSet, sameSet, sameRelation, c31, c32, c33, c34sequence, c34parallel, c34while, c35, c51, c53, c55, c60, c61, c65, c66, c70, c71, c72, c73};
+ghost use Rattle.semantics.specs.Conditions.{inSet, c31, c32, c33, c34if, c34while, c34sequence, c34parallel, c35, c51, c53, c55, c60, c61, c65, c66, c70, c71, c72, c73};
 ghost use Rattle.rules.specs.Words.{bare, wordSet, wordRelation, wordSpec};
 
 // 31: s in P, (s,t) in R: t in P.
@@ -42,12 +50,13 @@ pub fn carries_on(n: u32, work: &[u64], own: Names) -> bool
 // 34, if: P and the test true; same R, G, Q. The states where the test is true are given.
 pub fn if_tables(n: u32, work: &[u64], own: Names, truth: StateSet, child: Names) -> bool
     ensures { λ out.
-        ⌜ out ≡ (sameSet (bare n) (wordSet n (now (work .entry)) (child .p)) (λ s. wordSet n (now (work .entry)) (own .p) s && has truth s)
-        && sameRelation (bare n) (wordRelation n (now (work .entry)) (child .r)) (wordRelation n (now (work .entry)) (own .r))
-        && sameRelation (bare n) (wordRelation n (now (work .entry)) (child .g)) (wordRelation n (now (work .entry)) (own .g))
-        && sameRelation (bare n) (wordRelation n (now (work .entry)) (child .q)) (wordRelation n (now (work .entry)) (own .q))) ⌝ }
+        ⌜ out ≡ holds (c34if (bare n) (wordSpec n (now (work .entry)) own) (has truth) (wordSpec n (now (work .entry)) child)) ⌝ }
 {
-    same_set(n, set_at(n, work, child.p), set_at(n, work, own.p).meet(truth))
+    same_set(
+        n,
+        set_at(n, work, child.p),
+        set_at(n, work, own.p).meet(truth),
+    )
         & same_relation(n, work, child.r, own.r)
         & same_relation(n, work, child.g, own.g)
         & same_relation(n, work, child.q, own.q)
@@ -56,10 +65,14 @@ pub fn if_tables(n: u32, work: &[u64], own: Names, truth: StateSet, child: Names
 // 34, while: P met with K; same R, G; Q the pairs of W that end in P.
 pub fn while_tables(n: u32, work: &[u64], own: Names, k: u32, w: u32, child: Names) -> bool
     ensures { λ out.
-        ⌜ ((e : Expr) → out ≡ holds (c34while (bare n) (wordSpec n (now (work .entry)) own) e (wordSet n (now (work .entry)) k)
-        (wordRelation n (now (work .entry)) w) (wordSpec n (now (work .entry)) child))) ⌝ }
+        ⌜ out ≡ holds (c34while (bare n) (wordSpec n (now (work .entry)) own) (wordSet n (now (work .entry)) k)
+        (wordRelation n (now (work .entry)) w) (wordSpec n (now (work .entry)) child)) ⌝ }
 {
-    same_set(n, set_at(n, work, child.p), set_at(n, work, own.p).meet(set_at(n, work, k)))
+    same_set(
+        n,
+        set_at(n, work, child.p),
+        set_at(n, work, own.p).meet(set_at(n, work, k)),
+    )
         & same_relation(n, work, child.r, own.r)
         & same_relation(n, work, child.g, own.g)
         & is_ending_in(n, work, child.q, w, own.p)
@@ -129,8 +142,7 @@ fn descends_at(n: u32, work: &[u64], w: u32, s: u32) -> bool
 
 // 51: W is transitive and has no (s,s).
 pub fn strict_order(n: u32, work: &[u64], w: u32) -> bool
-    ensures { λ out.
-        ⌜ ((c : Spec) (e : Expr) (K : ℕ → Bool) → out ≡ holds (c51 (bare n) c e K (wordRelation n (now (work .entry)) w))) ⌝ }
+    ensures { λ out. ⌜ ((own : Spec) → out ≡ holds (c51 (bare n) own (wordRelation n (now (work .entry)) w))) ⌝ }
 {
     let mut held = true;
     for s in 0..n {
@@ -142,8 +154,7 @@ pub fn strict_order(n: u32, work: &[u64], w: u32) -> bool
 // 53: s in P and K, (s,t) in R: t in K.
 pub fn keeps_k(n: u32, work: &[u64], own: Names, k: u32) -> bool
     ensures { λ out.
-        ⌜ ((e : Expr) (W : ℕ → ℕ → Bool) →
-        out ≡ holds (c53 (bare n) (wordSpec n (now (work .entry)) own) e (wordSet n (now (work .entry)) k) W)) ⌝ }
+        ⌜ out ≡ holds (c53 (bare n) (wordSpec n (now (work .entry)) own) (wordSet n (now (work .entry)) k)) ⌝ }
 {
     let set = set_at(n, work, k);
     leads_into(n, work, set_at(n, work, own.p).meet(set), own.r, set)
@@ -164,8 +175,7 @@ fn rely_descends_at(n: u32, work: &[u64], p: u32, r: u32, w: u32, s: u32) -> boo
 // 55: s in P, (s,t) in R: s = t or (s,t) in W.
 pub fn rely_descends(n: u32, work: &[u64], own: Names, w: u32) -> bool
     ensures { λ out.
-        ⌜ ((e : Expr) (K : ℕ → Bool) →
-        out ≡ holds (c55 (bare n) (wordSpec n (now (work .entry)) own) e K (wordRelation n (now (work .entry)) w))) ⌝ }
+        ⌜ out ≡ holds (c55 (bare n) (wordSpec n (now (work .entry)) own) (wordRelation n (now (work .entry)) w)) ⌝ }
 {
     let mut held = true;
     for s in 0..n {
@@ -180,7 +190,13 @@ pub fn left_meets_right(n: u32, work: &[u64], own: Names, left: Names, right: Na
         ⌜ out ≡ holds (c60 (bare n) (wordSpec n (now (work .entry)) own) (wordSpec n (now (work .entry)) left)
         (wordSpec n (now (work .entry)) right)) ⌝ }
 {
-    leads_into(n, work, set_at(n, work, own.p), left.q, set_at(n, work, right.p))
+    leads_into(
+        n,
+        work,
+        set_at(n, work, own.p),
+        left.q,
+        set_at(n, work, right.p),
+    )
 }
 
 // 61: s in P, (s,t) in left Q, (t,u) in right Q: (s,u) in Q.
@@ -211,7 +227,16 @@ fn changes(n: u32, work: &[u64], r: u32, left: u32, right: u32) -> [u64; 64]
     union_of(n, &outer, rows_of(work, right))
 }
 
-fn joint_post_at(n: u32, work: &[u64], p: u32, left: u32, right: u32, moves: &[u64], q: u32, s: u32) -> bool
+fn joint_post_at(
+    n: u32,
+    work: &[u64],
+    p: u32,
+    left: u32,
+    right: u32,
+    moves: &[u64],
+    q: u32,
+    s: u32,
+) -> bool
     ensures { λ out.
         ⌜ out ≡ holds (given (wordSet n (now (work .entry)) p s) (inSet (bare n)
         (λ t. wordRelation n (now (work .entry)) left s t && wordRelation n (now (work .entry)) right s t
@@ -219,7 +244,8 @@ fn joint_post_at(n: u32, work: &[u64], p: u32, left: u32, right: u32, moves: &[u
 {
     if set_at(n, work, p).holds_state(s) {
         let both = row_at(n, work, left, s).meet(row_at(n, work, right, s));
-        both.meet(reach(n, moves, StateSet::single(s))).included(row_at(n, work, q, s))
+        both.meet(reach(n, moves, StateSet::single(s)))
+            .included(row_at(n, work, q, s))
     } else {
         true
     }

@@ -1,7 +1,11 @@
 // The tables in the work words, by number, and what the conditions compare: word i is set i, and the rows of relation r start at
 // word 16 + 64 r. Any n and any words will do: only the states below n are looked at, and a word past the end is empty.
 use states::StateSet;
-use states::relations::{compose, image, included_from, row, same_members};
+use states::relations::compose;
+use states::relations::image;
+use states::relations::included_from;
+use states::relations::row;
+use states::relations::same_members;
 ghost use mathlib.Core.Path.{_≡_};
 ghost use mathlib.Core.Bool.{_&&_, _||_};
 ghost use Prim.Native.Nat.{ℕ, _+_, _*_};
@@ -100,7 +104,11 @@ fn row_is_join(n: u32, work: &[u64], whole: u32, a: u32, b: u32, s: u32) -> bool
         ⌜ out ≡ sameSet (bare n) (wordRelation n (now (work .entry)) whole s)
         (λ t. wordRelation n (now (work .entry)) a s t || wordRelation n (now (work .entry)) b s t) ⌝ }
 {
-    same_set(n, row_at(n, work, whole, s), row_at(n, work, a, s).join(row_at(n, work, b, s)))
+    same_set(
+        n,
+        row_at(n, work, whole, s),
+        row_at(n, work, a, s).join(row_at(n, work, b, s)),
+    )
 }
 
 // Whether relation whole is a joined with b.
@@ -121,7 +129,11 @@ fn row_ends_in(n: u32, work: &[u64], part: u32, a: u32, p: u32, s: u32) -> bool
         ⌜ out ≡ sameSet (bare n) (wordRelation n (now (work .entry)) part s)
         (λ t. wordRelation n (now (work .entry)) a s t && wordSet n (now (work .entry)) p t) ⌝ }
 {
-    same_set(n, row_at(n, work, part, s), row_at(n, work, a, s).meet(set_at(n, work, p)))
+    same_set(
+        n,
+        row_at(n, work, part, s),
+        row_at(n, work, a, s).meet(set_at(n, work, p)),
+    )
 }
 
 // Whether relation part is the pairs of a that end in set p.

@@ -1,20 +1,18 @@
+-- The ends lead by W into themselves.
+use mathlib.Core.Path.{_∙_, sym}
 use borrow.Author.Needs.{needs}
+use Rattle.states.proofs.Search.{holds-must}
+use Rattle.rules.proofs.Words.{leads-cong}
 use Rattle.rules.proofs.conditions.descends_at.Statement.{statement}
 use Rattle.rules.proofs.conditions.descends_at.Tie as tie
-use Rattle.rules.proofs.conditions.descends_at.Reads as reads
-use Rattle.rules.proofs.conditions.descends_at.Lts as lts
-use Rattle.rules.proofs.tables.leads_into.Reads as leads-into-reads
-use Rattle.rules.proofs.tables.row_at.Reads as row-at-reads
-use Rattle.states.proofs.StateSet.holds_state.Reads as holds-state-reads
 
--- src/conditions.rt:116:1
 returns : tie.Need-returns
-returns c = ?
+returns c = rw (holds-must _, sym (c .before .before .row-at .ensures _) ∙ sym (c .before .holds-state .ensures) ∙ c .if1 .taken)
 
--- src/conditions.rt:116:1
 returns-2 : tie.Need-returns-2
-returns-2 c = ?
+returns-2 c =
+    rw (holds-must _, sym (c .before .before .before .row-at .ensures _) ∙ sym (c .before .before .holds-state .ensures) ∙ c .before .if1 .left)
+    (c .leads-into .ensures ∙ leads-cong _ _ _ _ _ _ (c .before .before .before .row-at .ensures) (c .before .before .before .row-at .ensures))
 
 pub descends-at-spec : {M : Type 1} → statement M
-descends-at-spec =
-    tie.close (tie.spec (λ c κs. search needs) (λ c κs. search needs) (λ c κs. search needs) returns returns-2)
+descends-at-spec = tie.close (tie.spec (λ c κs. search needs) (λ c κs. search needs) (λ c κs. search needs) returns returns-2)

@@ -1,13 +1,12 @@
+-- Left Q, then right Q, is in Q from P.
 use borrow.Author.Needs.{needs}
+use Rattle.semantics.specs.Conditions.{c61}
 use Rattle.rules.proofs.conditions.sequence_post.Statement.{statement}
 use Rattle.rules.proofs.conditions.sequence_post.Tie as tie
-use Rattle.rules.proofs.conditions.sequence_post.Reads as reads
-use Rattle.rules.proofs.conditions.sequence_post.Lts as lts
-use Rattle.rules.proofs.tables.chains_into.Reads as chains-into-reads
 
--- src/conditions.rt:188:1
 returns : tie.Need-returns
-returns c = ?
+unfolding c61
+returns c = c .chains-into .ensures
 
 pub sequence-post-spec : {M : Type 1} → statement M
 sequence-post-spec = tie.close (tie.spec (λ c κs. search needs) returns)

@@ -1,40 +1,34 @@
+-- The rows below s are the joined rows. `all-next` adds the next.
+use Prim.Native.Nat.{_≤_, _-_}
+use native.Mathlib.Omega.{arith}
+use mathlib.Core.Path.{_≡_, _∙_, sym, ap₂, refl}
+use mathlib.Core.Bool.{_&&_, _||_}
+use borrow.Author.Needs.{needs}
+use Rattle.states.specs.Search.{all}
+use Rattle.states.proofs.Search.{all-next, all-done}
+use Rattle.semantics.specs.Conditions.{sameSet, sameRelation}
+use Rattle.rules.specs.Words.{bare, wordRelation}
 use Rattle.rules.proofs.tables.is_join.Statement.{statement}
 use Rattle.rules.proofs.tables.is_join.Tie as tie
-use Rattle.rules.proofs.tables.is_join.Reads as reads
-use Rattle.rules.proofs.tables.is_join.Lts as lts
-use Rattle.rules.proofs.tables.row_is_join.Reads as row-is-join-reads
 
 abbrev Inv-loop : tie.InvT-loop
-Inv-loop n work whole a b held₀ s₀ held s = ?
+Inv-loop n work whole a b held₀ s₀ held s = (s ≤ n) × (held ≡ all s (λ u. sameSet (bare n) (wordRelation n work whole u) (λ t. wordRelation n work a u t || wordRelation n work b u t)))
 
 abbrev μ-loop : tie.MeasureT-loop
-μ-loop n work whole a b held₀ s₀ held s = ?
+μ-loop n work whole a b held₀ s₀ held s = n - s
 
--- src/tables.rt:113:5
 loop-holds : tie.Need-loop-holds Inv-loop μ-loop
-loop-holds c = ?
+unfolding all
+loop-holds c = (omega arith, refl)
 
--- src/tables.rt:114:23
-row-is-join-requires : tie.Need-row-is-join-requires Inv-loop μ-loop
-row-is-join-requires c κs = ?
-
--- src/tables.rt:113:9
-add-s : tie.Need-add-s Inv-loop μ-loop
-add-s c = ?
-
--- src/tables.rt:113:5
-loop-less : tie.Need-loop-less Inv-loop μ-loop
-loop-less c = ?
-
--- src/tables.rt:113:5
 loop-again : tie.Need-loop-again Inv-loop μ-loop
-loop-again c = ?
+loop-again c = (omega arith, ap₂ _&&_ (c .before .before .loop .inv .1) (c .row-is-join .ensures) ∙ sym (all-next _ _))
 
--- src/tables.rt:107:1
 returns : tie.Need-returns Inv-loop μ-loop
-returns c = ?
+unfolding sameRelation
+returns c = c .before .loop .inv .1 ∙ all-done _ _ _ (c .before .loop .inv .0) (c .loop-test .left)
 
 pub is-join-spec : {M : Type 1} → statement M
 is-join-spec =
     tie.close
-    (tie.spec Inv-loop μ-loop loop-holds row-is-join-requires add-s loop-less loop-again returns)
+    (tie.spec Inv-loop μ-loop loop-holds (λ c κs. search needs) (λ c. search needs) (λ c. search needs) loop-again returns)

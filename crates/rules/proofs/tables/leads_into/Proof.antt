@@ -1,15 +1,19 @@
+-- The ends are within the other set, over the 64 states of a set as over the n.
+use mathlib.Core.Path.{_∙_}
 use borrow.Author.Needs.{needs}
+use Rattle.states.specs.Sets.{has}
+use Rattle.rules.specs.Words.{wordRelation}
+use Rattle.rules.proofs.Searches.{small-all, ends-within}
+use Rattle.rules.proofs.Words.{ends-small}
 use Rattle.rules.proofs.tables.leads_into.Statement.{statement}
 use Rattle.rules.proofs.tables.leads_into.Tie as tie
-use Rattle.rules.proofs.tables.leads_into.Reads as reads
-use Rattle.rules.proofs.tables.leads_into.Lts as lts
-use Rattle.rules.proofs.tables.rows_of.Reads as rows-of-reads
-use Rattle.states.proofs.StateSet.included.Reads as included-reads
-use Rattle.states.proofs.relations.image.Reads as image-reads
 
--- src/tables.rt:47:1
 returns : tie.Need-returns
-returns c = ?
+unfolding wordRelation
+returns c =
+    let a = c .before .before .before .before .args in
+    simp (c .before .image .ensures, c .before .before .rows-of .ensures) at (c .included .ensures)
+    ∙ small-all (a .n) _ (has (a .into)) (ends-small (a .n) (has (a .from)) _) ∙ ends-within (a .n) _ _ _
 
 pub leads-into-spec : {M : Type 1} → statement M
 leads-into-spec = tie.close (tie.spec (λ c κs. search needs) (λ c κs. search needs) (λ c κs. search needs) returns)

@@ -1,40 +1,34 @@
+-- The rows below s lie in the other's. `holds-next` adds the next.
+use Prim.Native.Nat.{_≤_, _-_}
+use native.Mathlib.Omega.{arith}
+use mathlib.Core.Path.{_≡_, _∙_, ap₂, refl}
+use mathlib.Core.Bool.{_&&_}
+use borrow.Author.Needs.{needs}
+use Rattle.states.specs.Search.{must, each, holds}
+use Rattle.semantics.specs.Conditions.{inSet, liesIn}
+use Rattle.rules.specs.Words.{bare, wordRelation}
+use Rattle.rules.proofs.Searches.{holds-next, each-done}
 use Rattle.rules.proofs.tables.lies_in.Statement.{statement}
 use Rattle.rules.proofs.tables.lies_in.Tie as tie
-use Rattle.rules.proofs.tables.lies_in.Reads as reads
-use Rattle.rules.proofs.tables.lies_in.Lts as lts
-use Rattle.rules.proofs.tables.row_lies_in.Reads as row-lies-in-reads
 
 abbrev Inv-loop : tie.InvT-loop
-Inv-loop n work a b held₀ s₀ held s = ?
+Inv-loop n work a b held₀ s₀ held s = (s ≤ n) × (held ≡ holds (each s (λ u. inSet (bare n) (wordRelation n work a u) (λ t. must (wordRelation n work b u t)))))
 
 abbrev μ-loop : tie.MeasureT-loop
-μ-loop n work a b held₀ s₀ held s = ?
+μ-loop n work a b held₀ s₀ held s = n - s
 
--- src/tables.rt:77:5
 loop-holds : tie.Need-loop-holds Inv-loop μ-loop
-loop-holds c = ?
+unfolding each holds
+loop-holds c = (omega arith, refl)
 
--- src/tables.rt:78:23
-row-lies-in-requires : tie.Need-row-lies-in-requires Inv-loop μ-loop
-row-lies-in-requires c κs = ?
-
--- src/tables.rt:77:9
-add-s : tie.Need-add-s Inv-loop μ-loop
-add-s c = ?
-
--- src/tables.rt:77:5
-loop-less : tie.Need-loop-less Inv-loop μ-loop
-loop-less c = ?
-
--- src/tables.rt:77:5
 loop-again : tie.Need-loop-again Inv-loop μ-loop
-loop-again c = ?
+loop-again c = (omega arith, ap₂ _&&_ (c .before .before .loop .inv .1) (c .row-lies-in .ensures) ∙ holds-next _ _)
 
--- src/tables.rt:72:1
 returns : tie.Need-returns Inv-loop μ-loop
-returns c = ?
+unfolding liesIn
+returns c = c .before .loop .inv .1 ∙ each-done _ _ _ (c .before .loop .inv .0) (c .loop-test .left)
 
 pub lies-in-spec : {M : Type 1} → statement M
 lies-in-spec =
     tie.close
-    (tie.spec Inv-loop μ-loop loop-holds row-lies-in-requires add-s loop-less loop-again returns)
+    (tie.spec Inv-loop μ-loop loop-holds (λ c κs. search needs) (λ c. search needs) (λ c. search needs) loop-again returns)

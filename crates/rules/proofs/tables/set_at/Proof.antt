@@ -8,7 +8,7 @@ use borrow.Author.Needs.{needs}
 use Rattle.states.specs.Sets.{has, mem}
 use Rattle.states.proofs.Words.{mem-nought}
 use Rattle.rules.specs.Words.{wordSet}
-use Rattle.rules.proofs.Tables.{masked}
+use Rattle.rules.proofs.Words.{masked}
 use Rattle.rules.proofs.tables.set_at.Statement.{statement}
 use Rattle.rules.proofs.tables.set_at.Tie as tie
 
@@ -29,4 +29,5 @@ returns-2 c s =
 pub set-at-spec : {M : Type 1} → statement M
 set-at-spec =
     tie.close
-    (tie.spec (λ c. search needs) (λ c. search needs) (λ c κs. search needs) (λ c κs. search needs) (λ c κs. search needs) returns returns-2)
+    (tie.spec (λ c. search needs) (λ c. search needs) (λ c κs. search needs) (λ c κs. search needs) (λ c κs. search needs)
+    returns returns-2)
