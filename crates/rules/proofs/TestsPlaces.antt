@@ -6,7 +6,7 @@ use mathlib.Core.Path.{_≡_, refl, sym, ap, _∙_, fun-ext}
 use mathlib.Core.Bool.{Bool, true, false, cond, _&&_, false≢true}
 use mathlib.Core.List.{List, [], _∷_}
 use mathlib.Core.Option.{Option, none, some}
-use lib.Dec.{ltb}
+use lib.Dec.{ltb, eqb}
 use lib.ListN.{getD, drop}
 use lib.IntN.{ℤ, pos, negsuc}
 use borrow.Author.Tests.{ltb-true, le-ltb, eqb-true}
@@ -17,15 +17,27 @@ use Rattle.semantics.specs.States.{Machine, product, weight, valueOf, stored, m
 use Rattle.semantics.specs.Conditions.{isTrue, isFalse, afterStore}
 use Rattle.handler.specs.declared.Header.{Header}
 use Rattle.handler.specs.declared.Header.the-variants.{Sizes, Fault}
+use Rattle.handler.specs.declared.After.{After}
+use Rattle.handler.specs.declared.After.the-variants.{State, OutOfRange}
 use Rattle.handler.specs.Header.{headerAt, sizesOf}
 use Rattle.handler.specs.Expressions.{ExprRead, good, bad, wholeExpr}
-use Rattle.handler.specs.Values.{countOf, statesOf, machineAt, valueRead, valueAt, whereAt}
+use Rattle.handler.specs.Values.{countOf, statesOf, afterOf, machineAt, valueRead, valueAt, whereAt, afterAt}
 use Rattle.handler.proofs.Heads.{head-read}
 use Rattle.rules.specs.Places.{machineUnder, machineHere, exprRead, exprUnder, exprHere, leadsTo, afterHere}
 
 value-in : (m : Machine) (s : ℕ) (read : ExprRead) → value m (exprRead read) s ≡ valueRead m s read
 value-in m s (good e nodes next) = refl
 value-in m s (bad k place) = refl
+
+-- Whether a walk's answer leads to t.
+abbrev pub goesTo : After → ℕ → Bool
+goesTo (State s′) t = eqb s′ t
+goesTo OutOfRange t = false
+
+goes-guarded : (b : Bool) (o : Option ℕ) (t : ℕ) → goesTo (cond b (afterOf o) OutOfRange) t ≡ (b && leadsTo o t)
+goes-guarded true none t = refl
+goes-guarded true (some s′) t = refl
+goes-guarded false o t = refl
 
 -- Under a head that was read.
 module _ (bytes : List ℕ) (count n first : ℕ) (head : headerAt bytes ≡ Sizes count n first) where
@@ -56,6 +68,12 @@ module _ (bytes : List ℕ) where
   states-total =
       on-head (λ h. machineUnder bytes h .states ≡ statesOf h) (λ count n first e. sym (head-read bytes count n first e .sized .total)) (λ k place. refl)
 
+  pub states-most : machineHere bytes .states ≤ 64
+  unfolding machineHere
+  states-most =
+      on-head (λ h. machineUnder bytes h .states ≤ 64)
+      (λ count n first e. let known = head-read bytes count n first e .sized in rw (← known .total) (known .most)) (λ k place. omega arith)
+
   truth-here : (wanted : Bool) (at s : ℕ)
       → (ltb s (machineHere bytes .states) && isTruth wanted (value (machineHere bytes) (exprHere bytes at) s)) ≡ whereAt bytes wanted at s
   unfolding machineHere exprHere machineAt valueAt whereAt
@@ -63,6 +81,17 @@ module _ (bytes : List ℕ) where
       on-head (λ h. (ltb s (machineUnder bytes h .states) && isTruth wanted (value (machineUnder bytes h) (exprUnder bytes at h) s))
       ≡ (ltb s (statesOf h) && isTruth wanted (valueRead (machineOf (sizesOf bytes (countOf h))) s (wholeExpr bytes (countOf h) at))))
       (λ count n first e. rw (head-read bytes count n first e .sized .total, value-in (machineOf (sizesOf bytes count)) s (wholeExpr bytes count at)))
+      (λ k place. rw (le-ltb s 0 zero-le))
+
+  -- Where a store leads, as the walk over the bits finds it.
+  pub after-total : (v at s t : ℕ) → goesTo (afterAt bytes v at s) t ≡ afterHere bytes v at s t
+  unfolding afterAt afterHere afterStore machineHere exprHere machineAt valueAt
+  after-total v at s t =
+      on-head (λ h. let m = machineOf (sizesOf bytes (countOf h)) in let under = machineUnder bytes h in
+      goesTo (cond (ltb s (statesOf h)) (afterOf (storeOf m s v (valueRead m s (wholeExpr bytes (countOf h) at)))) OutOfRange) t
+      ≡ (ltb s (under .states) && leadsTo (storeOf under s v (value under (exprUnder bytes at h) s)) t))
+      (λ count n first e. let m = machineOf (sizesOf bytes count) in
+      rw (head-read bytes count n first e .sized .total, value-in m s (wholeExpr bytes count at)) (goes-guarded (ltb s (m .states)) (storeOf m s v (valueRead m s (wholeExpr bytes count at))) t))
       (λ k place. rw (le-ltb s 0 zero-le))
 
   -- The states where a test is true, and where it is false, as the walk over the bits finds them.

@@ -12,17 +12,16 @@ use semantics::Kind;
 use states::StateSet;
 use states::relations::{compose, included_from, row, union_of};
 ghost use mathlib.Core.Path.{_≡_};
-ghost use mathlib.Core.Bool.{not, _&&_, _||_};
+ghost use mathlib.Core.Bool.{_&&_, _||_};
 ghost use Prim.Native.Nat.{ℕ, _<_};
 ghost use lib.Dec.{leb, ltb, eqb};
-ghost use Rattle.states.specs.Search.{implies, all, any, must, given, holds};
+ghost use Rattle.states.specs.Search.{any, must, given, holds};
 ghost use Rattle.states.specs.Sets.{has};
 ghost use Rattle.states.specs.Relations.{rel};
 ghost use Rattle.semantics.specs.Conditions.{occurrences, inSet, moves, c46, c52, c54, c56};
 ghost use Rattle.handler.specs.Shapes.{inMask};
-ghost use Rattle.handler.specs.Values.{agreeAt};
 ghost use Rattle.rules.specs.Words.{bare, wordSet, wordRelation, wordSpec};
-ghost use Rattle.rules.specs.Places.{machineHere, exprHere, afterHere};
+ghost use Rattle.rules.specs.Places.{machineHere, exprHere, afterHere, movedFrom};
 
 // The pairs (s,s) of the states of a set.
 fn diagonal(set: StateSet) -> [u64; 64]
@@ -38,7 +37,7 @@ fn diagonal(set: StateSet) -> [u64; 64]
 
 // The pairs of a relation and the pairs (s,s) of all states.
 fn or_still(n: u32, rows: &[u64]) -> [u64; 64]
-    ensures { λ out. ⌜ ((s t : ℕ) → rel n out s t ≡ (ltb s 64 && (ltb s n && eqb s t || rel n (now (rows .entry)) s t))) ⌝ }
+    ensures { λ out. ⌜ ((s t : ℕ) → rel n out s t ≡ (ltb s 64 && (ltb s n && eqb t s || rel n (now (rows .entry)) s t))) ⌝ }
 {
     let still = diagonal(StateSet::below(n));
     union_of(n, &still, rows)
@@ -144,11 +143,9 @@ pub fn after_rows(src: &[u8], v: u32, at: usize) -> [u64; 64]
     rows
 }
 
-// Whether R leads from s, a state of P, to a state that differs in variable v.
+// Whether R leads from s, a state of P, to one that differs in variable v.
 fn moves_at(src: &[u8], n: u32, work: &[u64], own: Names, v: u32, s: u32) -> bool
-    ensures { λ out.
-        ⌜ out ≡ (wordSet n (now (work .entry)) (own .p) s
-        && not (all 64 (λ t. implies (wordRelation n (now (work .entry)) (own .r) s t) (agreeAt (now (src .entry)) v s t)))) ⌝ }
+    ensures { λ out. ⌜ out ≡ movedFrom (now (src .entry)) n (now (work .entry)) own v s ⌝ }
 {
     if set_at(n, work, own.p).holds_state(s) {
         if row_at(n, work, own.r, s).included(agreeing(src, v, s)) {
@@ -161,9 +158,7 @@ fn moves_at(src: &[u8], n: u32, work: &[u64], own: Names, v: u32, s: u32) -> boo
 
 // Whether R leads from any state of P to one that differs in variable v.
 fn moves_variable(src: &[u8], n: u32, work: &[u64], own: Names, v: u32) -> bool
-    ensures { λ out.
-        ⌜ out ≡ any n (λ s. wordSet n (now (work .entry)) (own .p) s
-        && not (all 64 (λ t. implies (wordRelation n (now (work .entry)) (own .r) s t) (agreeAt (now (src .entry)) v s t)))) ⌝ }
+    ensures { λ out. ⌜ out ≡ any n (movedFrom (now (src .entry)) n (now (work .entry)) own v) ⌝ }
 {
     let mut found = false;
     for s in 0..n {

@@ -1,69 +1,34 @@
+-- Row s is s alone, where it is in the set. The rows below s are filled.
+use Prim.Native.Nat.{_-_}
+use mathlib.Core.Path.{_∙_, ap, refl}
+use mathlib.Core.Bool.{_&&_}
+use borrow.Author.Needs.{needs}
+use Rattle.states.specs.Sets.{has}
+use Rattle.states.proofs.Rows.{Filled, filled-none, filled-more}
+use Rattle.rules.proofs.TestsRows.{filled-any, alone, alone-starts, alone-pairs}
 use Rattle.rules.proofs.tests.diagonal.Statement.{statement}
 use Rattle.rules.proofs.tests.diagonal.Tie as tie
-use Rattle.rules.proofs.tests.diagonal.Reads as reads
-use Rattle.rules.proofs.tests.diagonal.Lts as lts
-use Rattle.states.proofs.StateSet.meet.Reads as meet-reads
-use Rattle.states.proofs.StateSet.single.Reads as single-reads
 
 abbrev Inv-loop : tie.InvT-loop
-Inv-loop set rows₀ s₀ rows s = ?
+Inv-loop set rows₀ s₀ rows s = Filled (alone set) s rows
 
 abbrev μ-loop : tie.MeasureT-loop
-μ-loop set rows₀ s₀ rows s = ?
+μ-loop set rows₀ s₀ rows s = 64 - s
 
--- src/tests.rt:32:5
-loop-holds : tie.Need-loop-holds Inv-loop μ-loop
-loop-holds c = ?
-
--- src/tests.rt:33:28
-single-requires : tie.Need-single-requires Inv-loop μ-loop
-single-requires c κs = ?
-
--- src/tests.rt:33:13
-meet-requires : tie.Need-meet-requires Inv-loop μ-loop
-meet-requires c κs = ?
-
--- src/tests.rt:34:14
-cast-rows : tie.Need-cast-rows Inv-loop μ-loop
-cast-rows c = ?
-
--- src/tests.rt:34:9
-mul-rows : tie.Need-mul-rows Inv-loop μ-loop
-mul-rows c = ?
-
--- src/tests.rt:34:9
-array-write-rows : tie.Need-array-write-rows Inv-loop μ-loop
-array-write-rows c = ?
-
--- src/tests.rt:32:9
-add-s : tie.Need-add-s Inv-loop μ-loop
-add-s c = ?
-
--- src/tests.rt:32:5
-loop-less : tie.Need-loop-less Inv-loop μ-loop
-loop-less c = ?
-
--- src/tests.rt:32:5
 loop-again : tie.Need-loop-again Inv-loop μ-loop
-loop-again c = ?
+unfolding has
+loop-again c =
+    let set = c .before .before .before .before .args .set in
+    filled-more _ _ _ _ (c .before .before .loop-test .taken)
+    (λ t. c .meet .ensures t ∙ ap (λ b. has set t && b) (c .before .single .ensures t)) (c .before .before .before .loop .inv)
 
--- src/tests.rt:28:1
 returns : tie.Need-returns Inv-loop μ-loop
-returns c = ?
+returns c n s t =
+    let set = c .before .before .args .set in
+    filled-any (alone set) _ _ (alone-starts set) (c .loop-test .left) (c .before .loop .inv) n s t ∙ alone-pairs set n s t
 
 pub diagonal-spec : {M : Type 1} → statement M
 diagonal-spec =
     tie.close
-    (tie.spec
-    Inv-loop
-    μ-loop
-    loop-holds
-    single-requires
-    meet-requires
-    cast-rows
-    mul-rows
-    array-write-rows
-    add-s
-    loop-less
-    loop-again
-    returns)
+    (tie.spec Inv-loop μ-loop (λ c. filled-none _ _ refl) (λ c κs. search needs) (λ c κs. search needs) (λ c. search needs)
+    (λ c. search needs) (λ c. search needs) (λ c. search needs) (λ c. search needs) loop-again returns)

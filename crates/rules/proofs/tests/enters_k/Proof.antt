@@ -1,32 +1,27 @@
+-- P met with the truth is within K, over the 64 states of a word as over the n.
+use mathlib.Core.Path.{_∙_, ap}
+use mathlib.Core.Bool.{_&&_}
 use borrow.Author.Needs.{needs}
+use Rattle.states.specs.Search.{holds}
+use Rattle.states.specs.Sets.{has}
+use Rattle.states.proofs.Search.{and-left}
+use Rattle.semantics.specs.Conditions.{c52}
+use Rattle.rules.specs.Words.{wordSet}
+use Rattle.rules.proofs.Searches.{small-within, inSet-and}
+use Rattle.rules.proofs.Words.{set-small}
 use Rattle.rules.proofs.tests.enters_k.Statement.{statement}
 use Rattle.rules.proofs.tests.enters_k.Tie as tie
-use Rattle.rules.proofs.tests.enters_k.Reads as reads
-use Rattle.rules.proofs.tests.enters_k.Lts as lts
-use Rattle.rules.proofs.tables.set_at.Reads as set-at-reads
-use Rattle.states.proofs.StateSet.included.Reads as included-reads
-use Rattle.states.proofs.StateSet.meet.Reads as meet-reads
 
--- src/tests.rt:60:5
-set-at-requires : tie.Need-set-at-requires
-set-at-requires c κs = search needs
-
--- src/tests.rt:60:5
-meet-requires : tie.Need-meet-requires
-meet-requires c κs = search needs
-
--- src/tests.rt:60:49
-set-at-requires-2 : tie.Need-set-at-requires-2
-set-at-requires-2 c κs = search needs
-
--- src/tests.rt:60:5
-included-requires : tie.Need-included-requires
-included-requires c κs = search needs
-
--- src/tests.rt:56:1
 returns : tie.Need-returns
-returns c = ?
+unfolding c52
+returns c =
+    let a = c .before .before .before .before .before .args in
+    let p = wordSet (a .n) (a .work .now) (a .own .p) in
+    simp (c .before .before .meet .ensures, c .before .before .before .set-at .ensures, c .before .set-at2 .ensures) at (c .included .ensures)
+    ∙ small-within (a .n) _ _ (λ s h. set-small (a .n) (a .work .now) (a .own .p) s (and-left (p s) _ h))
+    ∙ ap holds (inSet-and (a .n) p (has (a .truth)) _)
 
 pub enters-k-spec : {M : Type 1} → statement M
 enters-k-spec =
-    tie.close (tie.spec set-at-requires meet-requires set-at-requires-2 included-requires returns)
+    tie.close
+    (tie.spec (λ c κs. search needs) (λ c κs. search needs) (λ c κs. search needs) (λ c κs. search needs) returns)

@@ -1,55 +1,40 @@
+-- R leads to a state that differs where its row is not within the states that agree.
+use mathlib.Core.Path.{_≡_, _∙_, sym, ap, ap₂}
+use mathlib.Core.Bool.{true, not, _&&_}
 use borrow.Author.Needs.{needs}
+use Rattle.states.specs.Search.{any}
+use Rattle.handler.specs.Values.{agreeAt}
+use Rattle.rules.specs.Words.{wordSet, wordRelation}
+use Rattle.rules.specs.Places.{movedFrom}
+use Rattle.rules.proofs.Searches.{small-all}
+use Rattle.rules.proofs.Words.{relation-small}
+use Rattle.rules.proofs.TestsMoved.{not-within}
 use Rattle.rules.proofs.tests.moves_at.Statement.{statement}
 use Rattle.rules.proofs.tests.moves_at.Tie as tie
-use Rattle.rules.proofs.tests.moves_at.Reads as reads
-use Rattle.rules.proofs.tests.moves_at.Lts as lts
-use Rattle.handler.proofs.values.agreeing.Reads as agreeing-reads
-use Rattle.rules.proofs.tables.row_at.Reads as row-at-reads
-use Rattle.rules.proofs.tables.set_at.Reads as set-at-reads
-use Rattle.states.proofs.StateSet.holds_state.Reads as holds-state-reads
-use Rattle.states.proofs.StateSet.included.Reads as included-reads
 
--- src/tests.rt:153:8
-set-at-requires : tie.Need-set-at-requires
-set-at-requires c κs = search needs
+-- The negation of what is compared.
+differs : (c : tie.After-included) → let a = c .before .before .before .before .before .before .before .before .args in
+  not (c .included .result) ≡ any (a .n) (λ t. wordRelation (a .n) (a .work .now) (a .own .r) (a .s) t && not (agreeAt (a .src .now) (a .v) (a .s) t))
+differs c =
+    let a = c .before .before .before .before .before .before .before .before .args in
+    ap not (simp (c .before .before .row-at .ensures, c .before .agreeing .ensures) at (c .included .ensures)
+    ∙ small-all (a .n) _ _ (relation-small (a .n) (a .work .now) (a .own .r) (a .s)))
+    ∙ not-within (a .n) _ _
 
--- src/tests.rt:153:8
-holds-state-requires : tie.Need-holds-state-requires
-holds-state-requires c κs = search needs
+member : (c : tie.Then1) → let a = c .before .before .before .before .before .args in wordSet (a .n) (a .work .now) (a .own .p) (a .s) ≡ true
+member c = sym (c .before .holds-state .ensures ∙ c .before .before .set-at .ensures _) ∙ c .if1 .taken
 
--- src/tests.rt:154:12
-row-at-requires : tie.Need-row-at-requires
-row-at-requires c κs = search needs
-
--- src/tests.rt:154:47
-agreeing-requires : tie.Need-agreeing-requires
-agreeing-requires c κs = search needs
-
--- src/tests.rt:154:12
-included-requires : tie.Need-included-requires
-included-requires c κs = search needs
-
--- src/tests.rt:155:13
 returns : tie.Need-returns
-returns c = ?
+unfolding movedFrom
+returns c = sym (ap₂ _&&_ (member (c .before .before .before .before)) (sym (differs (c .before)) ∙ ap not (c .if2 .taken)))
 
--- src/tests.rt:157:9
 returns-2 : tie.Need-returns-2
-returns-2 c = ?
+unfolding movedFrom
+returns-2 c = sym (ap₂ _&&_ (member (c .before .before .before .before)) (sym (differs (c .before)) ∙ ap not (c .if2 .left)))
 
--- src/tests.rt:148:1
 returns-3 : tie.Need-returns-3
-returns-3 c = ?
+unfolding movedFrom
+returns-3 c = rw (sym (c .before .holds-state .ensures ∙ c .before .before .set-at .ensures _) ∙ c .if1 .left)
 
 pub moves-at-spec : {M : Type 1} → statement M
-moves-at-spec =
-    tie.close
-    (tie.spec
-    set-at-requires
-    holds-state-requires
-    row-at-requires
-    agreeing-requires
-    included-requires
-    returns
-    returns-2
-    returns-3)
+moves-at-spec = tie.close (tie.spec (λ c κs. search needs) (λ c κs. search needs) (λ c κs. search needs) (λ c κs. search needs) (λ c κs. search needs) returns returns-2 returns-3)

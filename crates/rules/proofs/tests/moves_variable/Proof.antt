@@ -1,40 +1,30 @@
+-- After the states below s: whether R moves the variable from one of them. `any-more` adds the next.
+use Prim.Native.Nat.{_≤_, _-_}
+use native.Mathlib.Omega.{arith}
+use mathlib.Core.Path.{_≡_, _∙_, sym, ap₂, refl}
+use mathlib.Core.Bool.{_||_}
+use borrow.Author.Needs.{needs}
+use Rattle.states.specs.Search.{any}
+use Rattle.states.proofs.Search.{any-more, any-done}
+use Rattle.rules.specs.Places.{movedFrom}
 use Rattle.rules.proofs.tests.moves_variable.Statement.{statement}
 use Rattle.rules.proofs.tests.moves_variable.Tie as tie
-use Rattle.rules.proofs.tests.moves_variable.Reads as reads
-use Rattle.rules.proofs.tests.moves_variable.Lts as lts
-use Rattle.rules.proofs.tests.moves_at.Reads as moves-at-reads
 
 abbrev Inv-loop : tie.InvT-loop
-Inv-loop src n work own v found₀ s₀ found s = ?
+Inv-loop src n work own v found₀ s₀ found s = (s ≤ n) × (found ≡ any s (movedFrom src n work own v))
 
 abbrev μ-loop : tie.MeasureT-loop
-μ-loop src n work own v found₀ s₀ found s = ?
+μ-loop src n work own v found₀ s₀ found s = n - s
 
--- src/tests.rt:169:5
 loop-holds : tie.Need-loop-holds Inv-loop μ-loop
-loop-holds c = ?
+unfolding any
+loop-holds c = (omega arith, refl)
 
--- src/tests.rt:170:25
-moves-at-requires : tie.Need-moves-at-requires Inv-loop μ-loop
-moves-at-requires c κs = ?
-
--- src/tests.rt:169:9
-add-s : tie.Need-add-s Inv-loop μ-loop
-add-s c = ?
-
--- src/tests.rt:169:5
-loop-less : tie.Need-loop-less Inv-loop μ-loop
-loop-less c = ?
-
--- src/tests.rt:169:5
 loop-again : tie.Need-loop-again Inv-loop μ-loop
-loop-again c = ?
+loop-again c = (omega arith, ap₂ _||_ (c .before .before .loop .inv .1) (c .moves-at .ensures) ∙ sym (any-more _ _))
 
--- src/tests.rt:163:1
 returns : tie.Need-returns Inv-loop μ-loop
-returns c = ?
+returns c = c .before .loop .inv .1 ∙ any-done _ _ _ (c .before .loop .inv .0) (c .loop-test .left)
 
 pub moves-variable-spec : {M : Type 1} → statement M
-moves-variable-spec =
-    tie.close
-    (tie.spec Inv-loop μ-loop loop-holds moves-at-requires add-s loop-less loop-again returns)
+moves-variable-spec = tie.close (tie.spec Inv-loop μ-loop loop-holds (λ c κs. search needs) (λ c. search needs) (λ c. search needs) loop-again returns)

@@ -1,27 +1,22 @@
+-- R leads from P met with the falsity into the falsity.
+use mathlib.Core.Path.{_∙_, ap, refl}
+use mathlib.Core.Bool.{_&&_}
 use borrow.Author.Needs.{needs}
+use Rattle.states.specs.Search.{holds}
+use Rattle.states.specs.Sets.{has}
+use Rattle.semantics.specs.Conditions.{c54}
+use Rattle.rules.proofs.Searches.{inSet-and}
+use Rattle.rules.proofs.Words.{leads-cong}
 use Rattle.rules.proofs.tests.stays_false.Statement.{statement}
 use Rattle.rules.proofs.tests.stays_false.Tie as tie
-use Rattle.rules.proofs.tests.stays_false.Reads as reads
-use Rattle.rules.proofs.tests.stays_false.Lts as lts
-use Rattle.rules.proofs.tables.leads_into.Reads as leads-into-reads
-use Rattle.rules.proofs.tables.set_at.Reads as set-at-reads
-use Rattle.states.proofs.StateSet.meet.Reads as meet-reads
 
--- src/tests.rt:67:25
-set-at-requires : tie.Need-set-at-requires
-set-at-requires c κs = search needs
-
--- src/tests.rt:67:25
-meet-requires : tie.Need-meet-requires
-meet-requires c κs = search needs
-
--- src/tests.rt:67:5
-leads-into-requires : tie.Need-leads-into-requires
-leads-into-requires c κs = search needs
-
--- src/tests.rt:64:1
 returns : tie.Need-returns
-returns c = ?
+unfolding c54
+returns c =
+    let falsity = c .before .before .before .before .args .falsity in
+    c .leads-into .ensures
+    ∙ leads-cong _ _ _ falsity _ _ (λ s. c .before .meet .ensures s ∙ ap (λ b. b && has falsity s) (c .before .before .set-at .ensures s)) (λ s. refl)
+    ∙ ap holds (inSet-and _ _ _ _)
 
 pub stays-false-spec : {M : Type 1} → statement M
-stays-false-spec = tie.close (tie.spec set-at-requires meet-requires leads-into-requires returns)
+stays-false-spec = tie.close (tie.spec (λ c κs. search needs) (λ c κs. search needs) (λ c κs. search needs) returns)

@@ -1,28 +1,16 @@
+-- The pairs of the rows that start in P are in Q.
+use mathlib.Core.Path.{_∙_}
 use borrow.Author.Needs.{needs}
+use Rattle.rules.specs.Words.{wordRelation}
+use Rattle.rules.proofs.TestsRows.{pairs-within}
 use Rattle.rules.proofs.tests.store_posts.Statement.{statement}
 use Rattle.rules.proofs.tests.store_posts.Tie as tie
-use Rattle.rules.proofs.tests.store_posts.Reads as reads
-use Rattle.rules.proofs.tests.store_posts.Lts as lts
-use Rattle.rules.proofs.tables.rows_of.Reads as rows-of-reads
-use Rattle.rules.proofs.tables.set_at.Reads as set-at-reads
-use Rattle.states.proofs.relations.included_from.Reads as included-from-reads
 
--- src/tests.rt:112:22
-set-at-requires : tie.Need-set-at-requires
-set-at-requires c κs = search needs
-
--- src/tests.rt:112:53
-rows-of-requires : tie.Need-rows-of-requires
-rows-of-requires c κs = search needs
-
--- src/tests.rt:112:5
-included-from-requires : tie.Need-included-from-requires
-included-from-requires c κs = search needs
-
--- src/tests.rt:107:1
 returns : tie.Need-returns
-returns c = ?
+unfolding wordRelation
+returns c =
+    simp (c .before .before .set-at .ensures, c .before .rows-of .ensures) at (c .included-from .ensures)
+    ∙ pairs-within _ _ _ _
 
 pub store-posts-spec : {M : Type 1} → statement M
-store-posts-spec =
-    tie.close (tie.spec set-at-requires rows-of-requires included-from-requires returns)
+store-posts-spec = tie.close (tie.spec (λ c κs. search needs) (λ c κs. search needs) (λ c κs. search needs) returns)
