@@ -2,8 +2,8 @@
 use Prim.Native.Nat.{ℕ, _<_, _≤_}
 use native.Mathlib.Decide.{decLt}
 use native.Mathlib.Omega.{arith}
-use mathlib.Core.Path.{_≡_, refl, sym, ap, _∙_}
-use mathlib.Core.Bool.{Bool, true, false, _&&_, and-false, and-assoc}
+use mathlib.Core.Path.{_≡_, refl, sym, ap, _∙_, fun-ext}
+use mathlib.Core.Bool.{Bool, true, false, _&&_, _||_, and-false, and-assoc}
 use mathlib.Core.List.{List, [], _∷_}
 use lib.Dec.{ltb, eqb}
 use lib.ListN.{getD, List·getD-eq-default}
@@ -89,6 +89,21 @@ at-itself n s l b r f one = bool-ext _ _ there back ∙ sym (holds-given b (f s)
         let both = and-right (ltb s n) _ (sym (one t) ∙ e) in
         rw (← eqb-true s t (and-right b _ both)) (implies-at _ _ h (and-left b _ both)))
 
+-- The pairs (s,s) joined with others, in 64 rows; and at a state that they hold.
+pub or-itself : (n s t : ℕ) (r : Bool) → (ltb s 64 && (ltb s n && (ltb s 64 && ltb s n && eqb s t) || r)) ≡ (ltb s 64 && (ltb s n && eqb t s || r))
+or-itself n s t r = once (ltb s 64) (ltb s n) (eqb s t) ∙ ap (λ b. ltb s 64 && (ltb s n && b || r)) turned
+  where
+    once : (a b e : Bool) → (a && (b && (a && b && e) || r)) ≡ (a && (b && e || r))
+    once true true e = refl
+    once true false e = refl
+    once false b e = refl
+
+    turned : eqb s t ≡ eqb t s
+    turned = bool-ext _ _ (λ e. eq-eqb t s (sym (eqb-true s t e))) (λ e. eq-eqb s t (sym (eqb-true t s e)))
+
+pub or-itself-at : (n s : ℕ) → s < n → s < 64 → (e r : Bool) → (ltb s 64 && (ltb s n && e || r)) ≡ (e || r)
+or-itself-at n s l h e r = rw (lt-ltb s 64 h, lt-ltb s n l)
+
 -- What follows from b adds nothing to it.
 pub absorbed : (a b : Bool) → (b ≡ true → a ≡ true) → (a && b) ≡ b
 absorbed a true h = rw (h refl)
@@ -109,6 +124,15 @@ pub then-itself : (n : ℕ) (a q : ℕ → Bool) (e : ℕ → ℕ → Bool) → 
 then-itself n a q e one t below =
     any-cong n _ _ (λ u l. ap (λ b. a u && b) (one u t ∙ rw (lt-ltb u n l)) ∙ sym (and-assoc (a u) (q u) (eqb u t)))
     ∙ any-itself n (λ u. a u && q u) t ∙ absorbed (ltb t n) _ (λ h. lt-ltb t n (below (and-right (a t) _ h)))
+
+-- Row s of what a round or none, then a pair (t,t) of two sets' meet, makes.
+pub exits-at : (n s : ℕ) → s < n → s < 64 → (w p f rounds exits : ℕ → Bool) (ends : ℕ → ℕ → Bool) → ((t : ℕ) → p t ≡ true → t < n)
+    → ((t : ℕ) → rounds t ≡ (ltb s 64 && (ltb s n && eqb t s || w t))) → ((u t : ℕ) → ends u t ≡ (ltb u n && (p u && f u && eqb u t)))
+    → ((t : ℕ) → exits t ≡ (ltb s 64 && any n (λ u. rounds u && ends u t))) → exits ≡ (λ t. (eqb t s || w t) && p t && f t)
+exits-at n s l h w p f rounds exits ends below round end exit =
+    fun-ext (λ t. exit t ∙ ap (λ b. b && any n (λ u. rounds u && ends u t)) (lt-ltb s 64 h)
+    ∙ then-itself n rounds (λ u. p u && f u) ends end t (λ e. below t (and-left (p t) _ e))
+    ∙ ap (λ b. b && (p t && f t)) (round t ∙ or-itself-at n s l h (eqb t s) (w t)) ∙ sym (and-assoc (eqb t s || w t) (p t) (f t)))
 
 -- A word has a member where the n states have one.
 pub any-small : (n : ℕ) (p : ℕ → Bool) → Small n p → any 64 p ≡ any n p

@@ -1,75 +1,49 @@
+-- After the variables below v: the mask has those of them that R moves. `any-more` adds the next.
+use Prim.Native.Nat.{ℕ, _≤_, _-_}
+use native.Mathlib.Omega.{arith}
+use mathlib.Core.Path.{_≡_, _∙_, sym, ap, ap₂}
+use mathlib.Core.Bool.{_&&_, _||_}
+use lib.Dec.{eqb}
+use borrow.Author.Needs.{needs}
+use Rattle.states.specs.Search.{any}
+use Rattle.states.proofs.Search.{any-more, any-done}
+use Rattle.handler.specs.Shapes.{inMask}
+use Rattle.handler.proofs.Heads.{head-read}
+use Rattle.rules.specs.Places.{movedFrom}
+use Rattle.rules.proofs.TestsMoved.{mask-moves, mask-none, moves-none}
 use Rattle.rules.proofs.tests.moved.Statement.{statement}
 use Rattle.rules.proofs.tests.moved.Tie as tie
-use Rattle.rules.proofs.tests.moved.Reads as reads
-use Rattle.rules.proofs.tests.moved.Lts as lts
-use Rattle.handler.proofs.head.read_header.Reads as read-header-reads
-use Rattle.rules.proofs.tests.moves_variable.Reads as moves-variable-reads
-use Rattle.rules.proofs.tests.with_variable.Reads as with-variable-reads
 
 abbrev Inv-loop : tie.InvT-loop
-Inv-loop src work own count n mask₀ v₀ mask v = ?
+Inv-loop src work own count n mask₀ v₀ mask v = (v ≤ count) × ((u : ℕ) → inMask mask u ≡ any v (λ k. any n (movedFrom src n work own k) && eqb k u))
 
 abbrev μ-loop : tie.MeasureT-loop
-μ-loop src work own count n mask₀ v₀ mask v = ?
+μ-loop src work own count n mask₀ v₀ mask v = count - v
 
--- src/tests.rt:184:38
-read-header-requires : tie.Need-read-header-requires Inv-loop μ-loop
-read-header-requires c κs = ?
-
--- src/tests.rt:184:23
-enum-known-count : tie.Need-enum-known-count Inv-loop μ-loop
-enum-known-count c = ?
-
--- src/tests.rt:185:9
-enum-told : tie.Need-enum-told Inv-loop μ-loop
-enum-told c = ?
-
--- src/tests.rt:185:9
 returns : tie.Need-returns Inv-loop μ-loop
-returns c = ?
+returns c v = mask-none v ∙ sym (moves-none _ _ _ (sym (c .before .before .read-header .ensures) ∙ c .enum-told .given .1) _ v)
 
--- src/tests.rt:188:5
 loop-holds : tie.Need-loop-holds Inv-loop μ-loop
-loop-holds c = ?
+unfolding any
+loop-holds c = (omega arith, mask-none)
 
--- src/tests.rt:189:39
-moves-variable-requires : tie.Need-moves-variable-requires Inv-loop μ-loop
-moves-variable-requires c κs = ?
-
--- src/tests.rt:189:9
 with-variable-requires : tie.Need-with-variable-requires Inv-loop μ-loop
-with-variable-requires c κs = ?
+with-variable-requires c κs =
+    let read = head-read _ _ _ _ (sym (c .before .before .before .before .before .before .read-header .ensures) ∙ c .before .before .before .before .count .given .1) in
+    omega (arith, read .few)
 
--- src/tests.rt:188:9
-add-v : tie.Need-add-v Inv-loop μ-loop
-add-v c = ?
-
--- src/tests.rt:188:5
-loop-less : tie.Need-loop-less Inv-loop μ-loop
-loop-less c = ?
-
--- src/tests.rt:188:5
 loop-again : tie.Need-loop-again Inv-loop μ-loop
-loop-again c = ?
+loop-again c =
+    (omega arith, λ u. c .with-variable .ensures u
+    ∙ ap₂ _||_ (c .before .before .before .loop .inv .1 u) (ap (λ b. b && eqb (c .before .before .before .loop .v) u) (c .before .moves-variable .ensures))
+    ∙ sym (any-more _ _))
 
--- src/tests.rt:179:1
 returns-2 : tie.Need-returns-2 Inv-loop μ-loop
-returns-2 c = ?
+returns-2 c v =
+    c .before .loop .inv .1 v ∙ any-done _ _ _ (c .before .loop .inv .0) (c .loop-test .left)
+    ∙ mask-moves _ _ _ _ (sym (c .before .before .before .before .before .read-header .ensures) ∙ c .before .before .before .count .given .1) _ _ v
 
 pub moved-spec : {M : Type 1} → statement M
 moved-spec =
     tie.close
-    (tie.spec
-    Inv-loop
-    μ-loop
-    read-header-requires
-    enum-known-count
-    enum-told
-    returns
-    loop-holds
-    moves-variable-requires
-    with-variable-requires
-    add-v
-    loop-less
-    loop-again
-    returns-2)
+    (tie.spec Inv-loop μ-loop (λ c κs. search needs) (λ c. search needs) (λ c. search needs) returns loop-holds (λ c κs. search needs) with-variable-requires (λ c. search needs) (λ c. search needs) loop-again returns-2)
