@@ -24,4 +24,7 @@ returns c =
     (fun-ext (λ t. allowed s t ∙ or-itself-at n s l (set-small n (a .work .now) (a .own .p) s member .0) (eqb t s) _)))
 
 pub store-in-guarantee-spec : {M : Type 1} → statement M
-store-in-guarantee-spec = tie.close (tie.spec (λ c κs. search needs) (λ c κs. search needs) (λ c κs. search needs) (λ c. search needs) (λ c κs. search needs) returns)
+store-in-guarantee-spec =
+    tie.close
+    (tie.spec (λ c κs. search needs) (λ c κs. search needs) (λ c κs. search needs) (λ c. search needs) (λ c κs. search needs)
+    returns)
