@@ -3,8 +3,12 @@ pub mod Folds
 pub mod Shapes
 pub mod StmtFolds
 pub mod StmtShapes
+pub mod Parts
+pub mod Fitting
+pub mod Cases
 pub mod Heads
 pub mod Sizes
 pub mod Integers
 pub mod Worths
 pub mod ValueLaws
+pub mod ValueCases

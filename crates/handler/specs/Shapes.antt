@@ -5,7 +5,11 @@ use mathlib.Core.Bool.{Bool, cond}
 use mathlib.Core.List.{List}
 use mathlib.Core.Option.{Option, none, some}
 use lib.Dec.{eqb}
+use Rattle.bits.specs.Fields.{fillAt}
+use Rattle.bits.specs.declared.Fill.{Fill}
+use Rattle.bits.specs.declared.Fill.the-variants.{Ends, Wrong}
 use Rattle.semantics.specs.declared.Kind.{Kind}
+use Rattle.semantics.specs.Language.{Stmt, nil, assign, seq, par, if, while}
 use Rattle.semantics.specs.StepNumber.{E, steps}
 use Rattle.semantics.specs.Conditions.{occurrences}
 use Rattle.handler.specs.declared.Misfit.{Misfit}
@@ -16,13 +20,11 @@ use Rattle.handler.specs.declared.StmtShape.{StmtShape}
 use Rattle.handler.specs.declared.StmtShape.the-variants as stmt
 use Rattle.handler.specs.declared.HandlerFile.{HandlerFile}
 use Rattle.handler.specs.declared.HandlerFile.the-variants as file
-use Rattle.handler.specs.declared.StmtHead.{StmtHead}
-use Rattle.handler.specs.declared.StmtHead.the-variants as head
 use Rattle.handler.specs.declared.Part.{Part}
 use Rattle.handler.specs.declared.Part.the-variants.{Nil, Assign, Pair, Test, Nothing}
-use Rattle.handler.specs.Expressions.{ExprRead, good, bad, wholeExpr}
-use Rattle.handler.specs.Statements.{StmtRead, whole, fault, stmtHead, wholeStmt}
-use Rattle.handler.specs.Kinds.{misfit, stmtMisfit}
+use Rattle.handler.specs.Expressions.{ExprRead, good, bad}
+use Rattle.handler.specs.Statements.{StmtRead, whole, fault, wholeStmt}
+use Rattle.handler.specs.Kinds.{width, stmtWidth, misfit, stmtMisfit}
 use Rattle.handler.specs.Reading.{HandlerRead, handler, refused}
 
 abbrev pub asMisfit : Option ℕ → Misfit
@@ -73,3 +75,29 @@ testedOf N code (expr.Fault k place) body = stmt.Fault k place
 unfoldable pub fileOf : HandlerRead → HandlerFile
 fileOf (handler count n at S) = file.Handler count n at (min (steps n S) (2 ^ 32))
 fileOf (refused k place) = file.Fault k place
+
+-- How the file's answer is made of its statement's: 18, then 16.
+abbrev pub filledOf : ℕ → ℕ → ℕ → ℕ → Misfit → Fill → HandlerFile
+filledOf count n at steps m (Wrong place) = file.Fault 18 place
+filledOf count n at steps Fits Ends = file.Handler count n at steps
+filledOf count n at steps (At place) Ends = file.Fault 16 place
+
+abbrev pub judgedOf : List ℕ → ℕ → ℕ → ℕ → StmtShape → HandlerFile
+judgedOf bytes count n at (stmt.Whole steps m before next) = filledOf count n at steps m (fillAt bytes next)
+judgedOf bytes count n at (stmt.Fault k place) = file.Fault k place
+
+-- What stands at a statement's place, by its parts' places: a part's is the whole's plus the widths before it.
+abbrev pub partOf : ℕ → Stmt → Part
+partOf at nil = Nil
+partOf at (assign v e) = Assign v (at + 5)
+partOf at (seq l r) = Pair 2 (at + 3) (at + 3 + stmtWidth l)
+partOf at (par l r) = Pair 3 (at + 3) (at + 3 + stmtWidth l)
+partOf at (if e b) = Test 4 (at + 3) (at + 3 + width e)
+partOf at (while e b) = Test 5 (at + 3) (at + 3 + width e)
+
+abbrev pub partRead : ℕ → StmtRead → Part
+partRead at (whole S before next) = partOf at S
+partRead at (fault k place) = Nothing
+
+unfoldable pub partAt : List ℕ → ℕ → ℕ → Part
+partAt bytes count at = partRead at (wholeStmt bytes count at)

@@ -1,6 +1,7 @@
 // The handler file, read from its bits: nothing is kept in memory, a statement or an expression is the number of its first bit.
 pub mod expressions;
 pub mod head;
+pub mod reading;
 pub mod statements;
 pub mod values;
 
