@@ -27,9 +27,9 @@ returns c =
     let w = wordRelation n (a .work .now) (a .w) in
     let small = set-small n (a .work .now) (a .own .p) in
     let rounds : (s t : ℕ) → rel n (joined .or-still .result) s t ≡ (ltb s 64 && (ltb s n && eqb t s || w s t)) =
-        simp (joined .before .rows-of .ensures) at (joined .or-still .ensures) in
+    simp (joined .before .rows-of .ensures) at (joined .or-still .ensures) in
     let meets : (u : ℕ) → has (met .meet .result) u ≡ (p u && has (a .falsity) u) =
-        λ u. met .meet .ensures u ∙ ap (λ b. b && has (a .falsity) u) (start .set-at .ensures u) in
+    λ u. met .meet .ensures u ∙ ap (λ b. b && has (a .falsity) u) (start .set-at .ensures u) in
     simp (start .set-at .ensures, c .before .rows-of2 .ensures) at (c .included-from .ensures)
     ∙ pairs-within n p _ _
     ∙ inSet-cong n (bare n) refl p _ _ (λ s l member.

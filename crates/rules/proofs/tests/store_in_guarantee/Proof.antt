@@ -22,7 +22,7 @@ returns c =
     let p = wordSet n (a .work .now) (a .own .p) in
     let g = wordRelation n (a .work .now) (a .own .g) in
     let allowed : (s t : ℕ) → rel n (joined .or-still .result) s t ≡ (ltb s 64 && (ltb s n && eqb t s || g s t)) =
-        simp (joined .before .rows-of .ensures) at (joined .or-still .ensures) in
+    simp (joined .before .rows-of .ensures) at (joined .or-still .ensures) in
     simp (c .before .before .set-at .ensures) at (c .included-from .ensures)
     ∙ pairs-within n p (rel n (a .after .now)) _
     ∙ inSet-cong n (bare n) refl p _ _ (λ s l member.
