@@ -1,0 +1,34 @@
+-- Document 01, "The two files": for hosts there is also a reader that holds the file and its own bit position. A read of 1 to
+-- 64 bits gives the field and moves on; any other width, or a read past the end, gives none and moves nothing.
+use Prim.Native.Nat.{ℕ}
+use mathlib.Core.List.{List}
+use denote.Ref.{RefT, now}
+use Rattle.bits.specs.Fields.{fieldAt}
+use Rattle.bits.specs.declared.Field.{Field}
+use Rattle.bits.specs.declared.Field.the-variants.{Value, Missing}
+use Rattle.reader.specs.declared.Reader.{Reader}
+use Rattle.reader.specs.declared.Step.{Step}
+use Rattle.reader.specs.declared.Answer.{Answer}
+use Rattle.reader.specs.declared.Answer.the-variants.{Found, None}
+
+-- A reader of a file, at its first bit.
+abbrev pub readerOf : RefT (List ℕ) → Reader
+readerOf file = record { file = file; at = 0 }
+
+-- What a read gives.
+unfoldable pub fieldOf : Field → Answer
+fieldOf (Value value next) = Found value
+fieldOf Missing = None
+
+-- Where a reader that stood at `at` stands after the read.
+unfoldable pub movedTo : ℕ → Field → ℕ
+movedTo at (Value value next) = next
+movedTo at Missing = at
+
+-- Both.
+abbrev pub stepOf : ℕ → Field → Step
+stepOf at field = record { answer = fieldOf field; at = movedTo at field }
+
+-- The reader after a read of `width` bits: the same file, and where it stands.
+abbrev pub movedOn : Reader → ℕ → Reader
+movedOn r width = record { file = r .file; at = movedTo (r .at) (fieldAt (now (r .file)) (r .at) width) }

@@ -1,0 +1,63 @@
+// The hosts' reader: a struct that holds the file and its own bit position. The work is `read_on`'s, which takes a plain slice
+// and cursor and is covered; each function over the struct is thin, and proved by a walk of its MIR, by hand.
+ghost use mathlib.Core.Path.{_≡_};
+ghost use Rattle.bits.specs.Fields.{fieldAt};
+ghost use Rattle.reader.specs.Reading.{readerOf, fieldOf, movedTo, stepOf, movedOn};
+
+pub struct Reader<'a> {
+    pub file: &'a [u8],
+    pub at: usize,
+}
+
+// What a read gives: the field, or none.
+pub enum Answer {
+    Found(u64),
+    None,
+}
+
+// An answer, and where the reader stands after it.
+pub struct Step {
+    pub answer: Answer,
+    pub at: usize,
+}
+
+// The work: a read of `width` bits at a cursor. A field moves the cursor past it; where there is none it stays.
+pub fn read_on(file: &[u8], at: usize, width: usize) -> Step
+    ensures { λ r. ⌜ r ≡ stepOf at (fieldAt (now (file .entry)) at width) ⌝ }
+{
+    match bits::read(file, at, width) {
+        bits::Field::Value(value, next) => Step { answer: Answer::Found(value), at: next },
+        bits::Field::Missing => Step { answer: Answer::None, at },
+    }
+}
+
+// A reader of a file, at its first bit.
+pub fn new<'a>(file: &'a [u8]) -> Reader<'a>
+    ensures { λ r. ⌜ r ≡ readerOf (file .entry) ⌝ }
+{
+    Reader { file, at: 0 }
+}
+
+// The bit that it reads next.
+pub fn position<'a>(r: Reader<'a>) -> usize
+    ensures { λ n. ⌜ n ≡ r .entry .at ⌝ }
+{
+    r.at
+}
+
+// The file, handed back.
+pub fn file<'a>(r: Reader<'a>) -> &'a [u8]
+    ensures { λ s. ⌜ s ≡ r .entry .file ⌝ }
+{
+    r.file
+}
+
+// The field of `width` bits at the reader's position, past which it moves; or none, and it stays.
+pub fn read<'s, 'a>(r: &'s mut Reader<'a>, width: usize) -> Answer
+    ensures { λ a. ⌜ (a ≡ fieldOf (fieldAt (now (now (r .entry) .file)) (now (r .entry) .at) width)) × (now (r .exit) ≡ movedOn (now (r .entry)) width) ⌝ }
+{
+    let at = r.at;
+    let step = read_on(r.file, at, width);
+    r.at = step.at;
+    step.answer
+}
