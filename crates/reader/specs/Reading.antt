@@ -8,6 +8,7 @@ use Rattle.bits.specs.declared.Field.{Field}
 use Rattle.bits.specs.declared.Field.the-variants.{Value, Missing}
 use Rattle.reader.specs.declared.Reader.{Reader}
 use Rattle.reader.specs.declared.Step.{Step}
+use Rattle.reader.specs.declared.Pair.{Pair}
 use Rattle.reader.specs.declared.Answer.{Answer}
 use Rattle.reader.specs.declared.Answer.the-variants.{Found, None}
 
@@ -32,3 +33,10 @@ stepOf at field = record { answer = fieldOf field; at = movedTo at field }
 -- The reader after a read of `width` bits: the same file, and where it stands.
 abbrev pub movedOn : Reader → ℕ → Reader
 movedOn r width = record { file = r .file; at = movedTo (r .at) (fieldAt (now (r .file)) (r .at) width) }
+
+-- Two reads in a row, the second where the first left the reader.
+abbrev pub pairOf : List ℕ → ℕ → ℕ → ℕ → Pair
+pairOf bytes at first second = record {
+  first = fieldOf (fieldAt bytes at first);
+  second = fieldOf (fieldAt bytes (movedTo at (fieldAt bytes at first)) second);
+}

@@ -2,7 +2,7 @@
 // and cursor and is covered; each function over the struct is thin, and proved by a walk of its MIR, by hand.
 ghost use mathlib.Core.Path.{_≡_};
 ghost use Rattle.bits.specs.Fields.{fieldAt};
-ghost use Rattle.reader.specs.Reading.{readerOf, fieldOf, movedTo, stepOf, movedOn};
+ghost use Rattle.reader.specs.Reading.{readerOf, fieldOf, movedTo, stepOf, movedOn, pairOf};
 
 pub struct Reader<'a> {
     pub file: &'a [u8],
@@ -60,4 +60,20 @@ pub fn read<'s, 'a>(r: &'s mut Reader<'a>, width: usize) -> Answer
     let step = read_on(r.file, at, width);
     r.at = step.at;
     step.answer
+}
+
+// The answers of two reads in a row.
+pub struct Pair {
+    pub first: Answer,
+    pub second: Answer,
+}
+
+// From a file to a reader and back: two fields in a row from a cursor on. Its contract names no reader, so whoever calls it needs no walk.
+pub fn read_pair(file: &[u8], at: usize, first: usize, second: usize) -> Pair
+    ensures { λ r. ⌜ r ≡ pairOf (now (file .entry)) at first second ⌝ }
+{
+    let mut r = Reader { file, at };
+    let one = read(&mut r, first);
+    let two = read(&mut r, second);
+    Pair { first: one, second: two }
 }
