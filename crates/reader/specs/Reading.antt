@@ -7,34 +7,37 @@ use Rattle.bits.specs.Fields.{fieldAt}
 use Rattle.bits.specs.declared.Field.{Field}
 use Rattle.bits.specs.declared.Field.the-variants.{Value, Missing}
 use Rattle.reader.specs.declared.Reader.{Reader}
-use Rattle.reader.specs.declared.Step.{Step}
+use Rattle.reader.specs.declared.Outcome.{Outcome}
 use Rattle.reader.specs.declared.Pair.{Pair}
 use Rattle.reader.specs.declared.Answer.{Answer}
 use Rattle.reader.specs.declared.Answer.the-variants.{Found, None}
-
--- A reader of a file, at its first bit.
-abbrev pub readerOf : RefT (List ℕ) → Reader
-readerOf file = record { file = file; at = 0 }
 
 -- What a read gives.
 unfoldable pub fieldOf : Field → Answer
 fieldOf (Value value next) = Found value
 fieldOf Missing = None
 
--- Where a reader that stood at `at` stands after the read.
+-- Where a read that began at `at` leaves the reader.
 unfoldable pub movedTo : ℕ → Field → ℕ
 movedTo at (Value value next) = next
 movedTo at Missing = at
 
--- Both.
-abbrev pub stepOf : ℕ → Field → Step
-stepOf at field = record { answer = fieldOf field; at = movedTo at field }
+abbrev pub outcomeOf : ℕ → Field → Outcome
+outcomeOf at field = record { answer = fieldOf field; at = movedTo at field }
 
--- The reader after a read of `width` bits: the same file, and where it stands.
+-- A reader of a file, at its first bit.
+abbrev pub readerOf : RefT (List ℕ) → Reader
+readerOf file = record { file = file; at = 0 }
+
+-- What a reader answers to a read of `width` bits.
+abbrev pub answerOf : Reader → ℕ → Answer
+answerOf r width = fieldOf (fieldAt (now (r .file)) (r .at) width)
+
+-- The reader after it: the same file, at the bit where the read leaves it.
 abbrev pub movedOn : Reader → ℕ → Reader
 movedOn r width = record { file = r .file; at = movedTo (r .at) (fieldAt (now (r .file)) (r .at) width) }
 
--- Two reads in a row, the second where the first left the reader.
+-- The answers of two reads in a row, the second where the first leaves the reader.
 abbrev pub pairOf : List ℕ → ℕ → ℕ → ℕ → Pair
 pairOf bytes at first second = record {
   first = fieldOf (fieldAt bytes at first);

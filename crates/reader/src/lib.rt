@@ -2,8 +2,9 @@
 // and cursor and is covered; each function over the struct is thin, and proved by a walk of its MIR, by hand.
 ghost use mathlib.Core.Path.{_≡_};
 ghost use Rattle.bits.specs.Fields.{fieldAt};
-ghost use Rattle.reader.specs.Reading.{readerOf, fieldOf, movedTo, stepOf, movedOn, pairOf};
+ghost use Rattle.reader.specs.Reading.{readerOf, outcomeOf, answerOf, movedOn, pairOf};
 
+// A file, and the number of the bit that is read next. It may stand past the end, where every read is refused.
 pub struct Reader<'a> {
     pub file: &'a [u8],
     pub at: usize,
@@ -16,18 +17,24 @@ pub enum Answer {
 }
 
 // An answer, and where the reader stands after it.
-pub struct Step {
+pub struct Outcome {
     pub answer: Answer,
     pub at: usize,
 }
 
-// The work: a read of `width` bits at a cursor. A field moves the cursor past it; where there is none it stays.
-pub fn read_on(file: &[u8], at: usize, width: usize) -> Step
-    ensures { λ r. ⌜ r ≡ stepOf at (fieldAt (now (file .entry)) at width) ⌝ }
+// The work: a read of `width` bits at a cursor. A walk by hand cannot branch, so the branch is here.
+pub fn read_on(file: &[u8], at: usize, width: usize) -> Outcome
+    ensures { λ r. ⌜ r ≡ outcomeOf at (fieldAt (now (file .entry)) at width) ⌝ }
 {
     match bits::read(file, at, width) {
-        bits::Field::Value(value, next) => Step { answer: Answer::Found(value), at: next },
-        bits::Field::Missing => Step { answer: Answer::None, at },
+        bits::Field::Value(value, next) => Outcome {
+            answer: Answer::Found(value),
+            at: next,
+        },
+        bits::Field::Missing => Outcome {
+            answer: Answer::None,
+            at,
+        },
     }
 }
 
@@ -52,14 +59,13 @@ pub fn file<'a>(r: Reader<'a>) -> &'a [u8]
     r.file
 }
 
-// The field of `width` bits at the reader's position, past which it moves; or none, and it stays.
+// The field of `width` bits at the reader's position, which then stands past it; or none, and it stands where it stood.
 pub fn read<'s, 'a>(r: &'s mut Reader<'a>, width: usize) -> Answer
-    ensures { λ a. ⌜ (a ≡ fieldOf (fieldAt (now (now (r .entry) .file)) (now (r .entry) .at) width)) × (now (r .exit) ≡ movedOn (now (r .entry)) width) ⌝ }
+    ensures { λ a. ⌜ (a ≡ answerOf (now (r .entry)) width) × (now (r .exit) ≡ movedOn (now (r .entry)) width) ⌝ }
 {
-    let at = r.at;
-    let step = read_on(r.file, at, width);
-    r.at = step.at;
-    step.answer
+    let outcome = read_on(r.file, r.at, width);
+    r.at = outcome.at;
+    outcome.answer
 }
 
 // The answers of two reads in a row.
@@ -68,12 +74,15 @@ pub struct Pair {
     pub second: Answer,
 }
 
-// From a file to a reader and back: two fields in a row from a cursor on. Its contract names no reader, so whoever calls it needs no walk.
+// Two fields in a row from a cursor on, through a reader. Its contract names none, so whoever calls it needs no walk.
 pub fn read_pair(file: &[u8], at: usize, first: usize, second: usize) -> Pair
     ensures { λ r. ⌜ r ≡ pairOf (now (file .entry)) at first second ⌝ }
 {
     let mut r = Reader { file, at };
     let one = read(&mut r, first);
     let two = read(&mut r, second);
-    Pair { first: one, second: two }
+    Pair {
+        first: one,
+        second: two,
+    }
 }

@@ -46,13 +46,13 @@ use denote.Triple.Table.{entered, cited}
 use denote.Triple.Walked.{says, Stays, stay-ref, stay-none, walkOf, goes-none, goes-ref, Walks, ends-at, walked, walk-meets}
 use denote.Exit.{yes}
 use Rattle.bits.specs.Fields.{fieldAt}
-use Rattle.reader.specs.Reading.{stepOf}
+use Rattle.reader.specs.Reading.{outcomeOf}
 use Rattle.reader.specs.declared.Reader.{Reader}
-use Rattle.reader.specs.declared.Step.{Step}
+use Rattle.reader.specs.declared.Outcome.{Outcome}
 use Rattle.reader.proofs.Reader as T
 use Rattle.reader.proofs.Reader.Laws as T′
-use Rattle.reader.proofs.Step as S
-use Rattle.reader.proofs.Step.Laws as S′
+use Rattle.reader.proofs.Outcome as S
+use Rattle.reader.proofs.Outcome.Laws as S′
 use Rattle.reader.proofs.Answer as N
 use Rattle.reader.proofs.Answer.Laws as N′
 use Rattle.reader.proofs.read_on as read-on
@@ -106,13 +106,13 @@ module _ {M : Type 1} (𝓤 : URA M) (H : Heap 𝓤) (A : Atoms 𝓤) (W : Given
   vals = (vptr b o ∷ [], (vint w64 n ∷ [], tt))
 
   -- what the callee answers, the reader after the answer t, and the machine values of t and of its field
-  abbrev found : Step
-  found = stepOf (h .at) (fieldAt (now (h .file)) (h .at) n)
+  abbrev found : Outcome
+  found = outcomeOf (h .at) (fieldAt (now (h .file)) (h .at) n)
 
-  abbrev after : Step → Reader
+  abbrev after : Outcome → Reader
   after t = record { file = h .file; at = t .at }
 
-  abbrev low-answer : Step → Val
+  abbrev low-answer : Outcome → Val
   low-answer t = EL.val N.the-type N′.the-laws (t .answer)
 
   abbrev Post : Val → SProp 𝓤
@@ -121,17 +121,17 @@ module _ {M : Type 1} (𝓤 : URA M) (H : Heap 𝓤) (A : Atoms 𝓤) (W : Given
   abbrev Own : Fml
   Own = R .own h (mach ∷ [])
 
-  -- what whoever holds a reader, or a step, knows of its fields
+  -- what whoever holds a reader, or an outcome, knows of its fields
   at-fits : Is R h (mach ∷ []) → h .at < 2 ^ 64
   at-fits g = LL.owed D L h _ g .1 .0 .1
 
   room : Is R h (mach ∷ []) → Room u8 (length (h .file .now))
   room g = LL.owed D L h _ g .0 .0 .1
 
-  step-fits : (t : Step) (u : Val) → Is S.the-row t (u ∷ []) → t .at < 2 ^ 64
-  step-fits t u is = LL.owed S.the-type S′.the-laws t _ is .1 .0 .1
+  outcome-fits : (t : Outcome) (u : Val) → Is S.the-row t (u ∷ []) → t .at < 2 ^ 64
+  outcome-fits t u is = LL.owed S.the-type S′.the-laws t _ is .1 .0 .1
 
-  is-answer : (t : Step) (u : Val) → Is S.the-row t (u ∷ []) → Is N.the-row (t .answer) (low-answer t ∷ [])
+  is-answer : (t : Outcome) (u : Val) → Is S.the-row t (u ∷ []) → Is N.the-row (t .answer) (low-answer t ∷ [])
   is-answer t u is = LL.owed S.the-type S′.the-laws t _ is .0
 
   -- what the callee's triple binds outside, and that the caller has what it asks
@@ -145,14 +145,14 @@ module _ {M : Type 1} (𝓤 : URA M) (H : Heap 𝓤) (A : Atoms 𝓤) (W : Given
       move ! (1 ∷ 0 ∷ []) $ join ! $ frame ! $ done !
 
   -- of the callee's `ensured`, the clause alone: it has no `&mut`, so what is said of last values is dropped
-  said : (t : Step) → ent 𝓤 (ensured 𝓤 H A read-on.ended (read-on.clauses 𝓤 H A at-mem run) (κ′, tt) (h .file, (h .at, (n, tt))) tt t) (fact 𝓤 (t ≡ found))
+  said : (t : Outcome) → ent 𝓤 (ensured 𝓤 H A read-on.ended (read-on.clauses 𝓤 H A at-mem run) (κ′, tt) (h .file, (h .at, (n, tt))) tt t) (fact 𝓤 (t ≡ found))
   said t = exE 𝓤 _ (λ ws. snd∗ 𝓤 (sem 𝓤 H A (lasts read-on.ended (κ′, tt) (h .file, (h .at, (n, tt))) ws)) (fact 𝓤 (t ≡ found)))
 
   -- what the slice owns is kept, and the number's facts are made anew
-  again : (t : Step) → t .at < 2 ^ 64 → ent 𝓤 (sem 𝓤 H A Own) (sem 𝓤 H A (R .own (after t) (T′.lowered (after t) ∷ [])))
+  again : (t : Outcome) → t .at < 2 ^ 64 → ent 𝓤 (sem 𝓤 H A Own) (sem 𝓤 H A (R .own (after t) (T′.lowered (after t) ∷ [])))
   again t fits = qed W (‵ Own ∷ []) ∵ owned ! usize (Is usize) (uint-makes 𝓤 H A W w64) (t .at) _ (refl, fits) $ move ! (1 ∷ 0 ∷ []) $ by ! (own-put 𝓤 H A W D L 1 vh (t .at) mach)
 
-  exits : (t : Step) → t ≡ found → Is N.the-row (t .answer) (low-answer t ∷ []) → ent 𝓤 (⋆ 𝓤 H A (‵ (fobs γ (R .coded .code (after t))) ∷ ‵ (fbor κ (Body (mem R) b o γ)) ∷ ‵ (flft κ q) ∷ (‵ (flft κ′ q′) ⊛ ‵ ftrue) ∷ [])) (Post (low-answer t))
+  exits : (t : Outcome) → t ≡ found → Is N.the-row (t .answer) (low-answer t ∷ []) → ent 𝓤 (⋆ 𝓤 H A (‵ (fobs γ (R .coded .code (after t))) ∷ ‵ (fbor κ (Body (mem R) b o γ)) ∷ ‵ (flft κ q) ∷ (‵ (flft κ′ q′) ⊛ ‵ ftrue) ∷ [])) (Post (low-answer t))
   exits t e is =
       qed W (‵ (fobs γ (R .coded .code (after t))) ∷ ‵ (fbor κ (Body (mem R) b o γ)) ∷ ‵ (flft κ q) ∷ (‵ (flft κ′ q′) ⊛ ‵ ftrue) ∷ []) ∵
       suffices ! _ (ends-at 𝓤 H A read.ended stayed (read.clauses 𝓤 H A at-mem run) W (((κ, (κ′, tt)), (q, (q′, tt)), bounds, x, vals), tt) (low-answer t) (t .answer) (after t, (tt, tt)) (tt, (tt, tt))) $ says ! (λ i. e i .answer, λ i. after (e i)) $
@@ -169,23 +169,23 @@ module _ {M : Type 1} (𝓤 : URA M) (H : Heap 𝓤) (A : Atoms 𝓤) (W : Given
         use1 W (‵ (fat fullShare (T′.mir erased) b o mach)) (W .laws .raw-at fullShare (T′.mir erased) b o mach) $
         move ! (1 ∷ []) $ peeks ! R (Is R) (shows 𝓤 H A R) h (mach ∷ []) (λ g. move ! (1 ∷ 0 ∷ []) $
         -- [the struct's cell; what a Reader owns; the open borrow; obs; auth; 'a's token; width's; _5; …; _4; …; _3; …; _2; …; _1; …; room for _0; …]
-        assigns ! (of-opd ! (load ! (from ! (hop ! (look ! 15 refl) (fld ! refl (stop !)))) (look-in ! 0 (sub ! 1 refl (whole !))))) (from ! (stop !)) (init ! 11 refl (tt, record { fits = at-fits g })) $
-        assigns ! (of-opd ! (load ! (from ! (hop ! (look ! 15 refl) (fld ! refl (stop !)))) (look-in ! 0 (sub ! 0 refl (whole !))))) (from ! (stop !)) (init ! 7 refl (tt, (tt, (record { fits = room g .0 }, tt)))) $
+        assigns ! (of-opd ! (load ! (from ! (hop ! (look ! 15 refl) (fld ! refl (stop !)))) (look-in ! 0 (sub ! 0 refl (whole !))))) (from ! (stop !)) (init ! 9 refl (tt, (tt, (record { fits = room g .0 }, tt)))) $
+        assigns ! (of-opd ! (load ! (from ! (hop ! (look ! 15 refl) (fld ! refl (stop !)))) (look-in ! 0 (sub ! 1 refl (whole !))))) (from ! (stop !)) (init ! 7 refl (tt, record { fits = at-fits g })) $
         -- what the Reader owns is had twice, and of one copy the slice's part goes to the callee
         move ! (1 ∷ []) $ use1 W (‵ Own ⊛ ‵ Own) (LL.copy D (T′.the-copy α) 𝓤 H A W .twice h (mach ∷ [])) $ split ! $
         use1 W (given (mach ∷ [] ≡ mach ∷ []) (‵ (all-own (D .parts) L vh))) (own-open 𝓤 H A W D L vh mach) $ learn ! (λ _. use1 W (‵ (ownAt (D .parts) L 0 (h .file)) ⊛ ‵ (rest (D .parts) L 0 vh)) (own-out 𝓤 H A W (D .parts) L 0 vh) $ split ! $ move ! (1 ∷ []) $ drop ! $
         move ! (6 ∷ 0 ∷ []) $ use2 W (raw (ReadOn 𝓤 H A at-mem run .pre to)) (goes (at-fits g)) $
         -- [what the callee asks; what the Reader owns; the struct's cell; the open borrow; obs; auth; width's; _5; …]
-        calls-at ! fm (ReadOn 𝓤 H A at-mem run) known to (and-then ! (load ! (from ! (stop !)) (look ! 7 refl)) (and-then ! (load ! (from ! (stop !)) (look ! 11 refl)) (and-then ! (load ! (from ! (stop !)) (look ! 13 refl)) (no-more !)))) (λ u.
-        use1 W (later (some (λ (t : Step). ((‵ (flft κ′ q′) ⊛ ‵ ftrue) ⊛ ‵ (S.the-row .own t (u ∷ []))) ⊛ raw (ensured 𝓤 H A read-on.ended (read-on.clauses 𝓤 H A at-mem run) (κ′, tt) (h .file, (h .at, (n, tt))) tt t)))) (id⊢ 𝓤 _) $ await ! tt $ pick ! (λ t.
+        calls-at ! fm (ReadOn 𝓤 H A at-mem run) known to (and-then ! (load ! (from ! (stop !)) (look ! 9 refl)) (and-then ! (load ! (from ! (stop !)) (look ! 7 refl)) (and-then ! (load ! (from ! (stop !)) (look ! 13 refl)) (no-more !)))) (λ u.
+        use1 W (later (some (λ (t : Outcome). ((‵ (flft κ′ q′) ⊛ ‵ ftrue) ⊛ ‵ (S.the-row .own t (u ∷ []))) ⊛ raw (ensured 𝓤 H A read-on.ended (read-on.clauses 𝓤 H A at-mem run) (κ′, tt) (h .file, (h .at, (n, tt))) tt t)))) (id⊢ 𝓤 _) $ await ! tt $ pick ! (λ t.
         split ! $ move ! (1 ∷ []) $ use1 W (raw (fact 𝓤 (t ≡ found))) (said t) $ heard ! (t ≡ found) (λ e. split ! $ move ! (1 ∷ []) $
-        -- [the step; 'a's token; what the Reader owns; the struct's cell; the open borrow; obs; auth; width's; _5; …; _4; …; _3; …; _2; …; _1; …; room for _0; …]
+        -- [the outcome; 'a's token; what the Reader owns; the struct's cell; the open borrow; obs; auth; width's; _5; …; _4; …; _3; …; _2; …; _1; …; room for _0; …]
         peeks ! S.the-row (Is S.the-row) (shows 𝓤 H A S.the-row) t (u ∷ []) (λ is.
-        land ! (from ! (stop !)) (init ! 10 refl (LL.lawful S.the-type S′.the-laws 𝓤 H A W .typed t _ is .0)) $ rewrite ! 10 (λ (w : Val). ‵ (fat fullShare S′.mir l₄ 0 w)) (ap only (LL.tells S.the-type S′.the-laws t _ is)) refl $
-        assigns ! (of-opd ! (load ! (from ! (fld ! refl (stop !))) (look-in ! 10 (sub ! 1 refl (whole !))))) (from ! (hop ! (look ! 16 refl) (fld ! refl (stop !)))) (store-in ! 3 (sub ! 1 refl (whole !)) (tt, record { fits = step-fits t u is })) $
-        assigns ! (of-opd ! (load ! (from ! (fld ! refl (stop !))) (look-in ! 10 (sub ! 0 refl (whole !))))) (from ! (stop !)) (init ! 18 refl (EL.lawful N.the-type N′.the-laws 𝓤 H A W tt .typed (t .answer) _ (is-answer t u is) .0)) $
+        land ! (from ! (stop !)) (init ! 12 refl (LL.lawful S.the-type S′.the-laws 𝓤 H A W .typed t _ is .0)) $ rewrite ! 12 (λ (w : Val). ‵ (fat fullShare S′.mir l₃ 0 w)) (ap only (LL.tells S.the-type S′.the-laws t _ is)) refl $
+        assigns ! (of-opd ! (load ! (from ! (fld ! refl (stop !))) (look-in ! 12 (sub ! 1 refl (whole !))))) (from ! (hop ! (look ! 16 refl) (fld ! refl (stop !)))) (store-in ! 3 (sub ! 1 refl (whole !)) (tt, record { fits = outcome-fits t u is })) $
+        assigns ! (of-opd ! (load ! (from ! (fld ! refl (stop !))) (look-in ! 12 (sub ! 0 refl (whole !))))) (from ! (stop !)) (init ! 18 refl (EL.lawful N.the-type N′.the-laws 𝓤 H A W tt .typed (t .answer) _ (is-answer t u is) .0)) $
         -- the reader moved on, at which the borrow is closed
-        move ! (2 ∷ []) $ use1 W (‵ (R .own (after t) (T′.lowered (after t) ∷ []))) (again t (step-fits t u is)) $
+        move ! (2 ∷ []) $ use1 W (‵ (R .own (after t) (T′.lowered (after t) ∷ []))) (again t (outcome-fits t u is)) $
         move ! (3 ∷ []) $ use1 W (‵ (cellAt fullShare (R .mir) (T′.lowered (after t) ∷ []) b o)) (W .laws .at-raw fullShare (T′.mir erased) b o (T′.lowered (after t))) $
         move ! (0 ∷ 1 ∷ 4 ∷ 5 ∷ 6 ∷ []) $ closes ! tt R (after t) (T′.lowered (after t) ∷ []) b o $
         returns ! (look ! 16 refl) $ forget ! 6 refl $ forget ! 8 refl $ forget ! 10 refl $ forget ! 12 refl $ forget ! 14 refl $ forget ! 16 refl $

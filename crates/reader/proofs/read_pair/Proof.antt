@@ -48,8 +48,7 @@ use denote.Triple.Spec.{Meets, tripleOf}
 use denote.Triple.Table.{entered, cited}
 use denote.Triple.Walked.{says, Stays, stay-none, stay-none-slice, walkOf, goes-none, goes-none-slice, Walks, ends-at, walked, walk-meets}
 use denote.Exit.{yes}
-use Rattle.bits.specs.Fields.{fieldAt}
-use Rattle.reader.specs.Reading.{fieldOf, movedOn, pairOf}
+use Rattle.reader.specs.Reading.{answerOf, movedOn, pairOf}
 use Rattle.reader.specs.declared.Reader.{Reader}
 use Rattle.reader.specs.declared.Answer.{Answer}
 use Rattle.reader.specs.declared.Pair.{Pair}
@@ -74,10 +73,6 @@ stayed = (stay-none-slice (0 ∷ []) tt (plain (λ _. u8)) yes, (stay-none (λ _
 -- the contract that the proof cites
 abbrev Read : {M : Type 1} (𝓤 : URA M) (H : Heap 𝓤) (A : Atoms 𝓤) (mem : Memory → SProp 𝓤) (run : Routine → Fun 𝓤) → Contract 𝓤
 Read 𝓤 H A mem run = tripleOf 𝓤 H A read.signature (read.spec 𝓤 H A mem run)
-
--- what `read` answers at a reader
-abbrev answer : Reader → ℕ → Answer
-answer r n = fieldOf (fieldAt (now (r .file)) (r .at) n)
 
 -- the machine value of an answer can only be its own
 is-at : (a : Answer) (u : Val) → Is N.the-row a (u ∷ []) → Is N.the-row a (EL.vals N.the-type N′.the-laws a)
@@ -140,7 +135,7 @@ module _ {M : Type 1} (𝓤 : URA M) (H : Heap 𝓤) (A : Atoms 𝓤) (W : Given
 
     -- what the caller has of the call, once the loan is ended
     abbrev Back : Reader → Val → SProp 𝓤
-    Back r u = sep 𝓤 (sep 𝓤 (sep 𝓤 (H .at fullShare (T′.mir erased) l 0 (T′.lowered (movedOn r n))) (sem 𝓤 H A (R .own (movedOn r n) (T′.lowered (movedOn r n) ∷ [])))) (A .lft κ q)) (sem 𝓤 H A (N.the-row .own (answer r n) (u ∷ [])))
+    Back r u = sep 𝓤 (sep 𝓤 (sep 𝓤 (H .at fullShare (T′.mir erased) l 0 (T′.lowered (movedOn r n))) (sem 𝓤 H A (R .own (movedOn r n) (T′.lowered (movedOn r n) ∷ [])))) (A .lft κ q)) (sem 𝓤 H A (N.the-row .own (answerOf r n) (u ∷ [])))
 
     back : (x : ℕ × GName) (r : Reader) (u : Val) → ent 𝓤 (sep 𝓤 (Read 𝓤 H A at-mem run .post (to (x .0) (x .1) r) u) (Kept x)) (H .⇛ (Back r u))
     unfolding partOf
@@ -148,8 +143,8 @@ module _ {M : Type 1} (𝓤 : URA M) (H : Heap 𝓤) (A : Atoms 𝓤) (W : Given
         let r′ : Reader = movedOn r n in
         qed W (raw (Read 𝓤 H A at-mem run .post (to ν δ r) u) ∷ ‵ (flent (ν ∷ κ) (Body (mem R) l 0 δ)) ∷ raw (Rest 𝓤 H A W ν loans) ∷ []) ∵ updating ! $
         use1 W (later (some (λ (a : Answer). ((‵ (flft (ν ∷ κ) loans) ⊛ ‵ (flft κ mine) ⊛ ‵ ftrue) ⊛ ‵ (N.the-row .own a (u ∷ []))) ⊛ raw (ensured 𝓤 H A read.ended (read.clauses 𝓤 H A at-mem run) (ν ∷ κ, (κ, tt)) (ref δ r, (n, tt)) tt a)))) (id⊢ 𝓤 _) $ await ! tt $ pick ! (λ a.
-        split ! $ move ! (1 ∷ []) $ use1 W (some (λ (zs : Reader × (Unit {0} × Unit {0})). ‵ (lasts read.ended (ν ∷ κ, (κ, tt)) (ref δ r, (n, tt)) zs) ⊛ raw (fact 𝓤 ((a ≡ answer r n) × (zs .0 ≡ movedOn r n))))) (id⊢ 𝓤 _) $ pick ! (λ zs.
-        split ! $ move ! (1 ∷ []) $ heard ! ((a ≡ answer r n) × (zs .0 ≡ movedOn r n)) (λ e. fsplit ! $ rewrite ! 0 (λ (y : Reader). ‵ (fres δ (R .coded .code y))) (e .1) refl $
+        split ! $ move ! (1 ∷ []) $ use1 W (some (λ (zs : Reader × (Unit {0} × Unit {0})). ‵ (lasts read.ended (ν ∷ κ, (κ, tt)) (ref δ r, (n, tt)) zs) ⊛ raw (fact 𝓤 ((a ≡ answerOf r n) × (zs .0 ≡ movedOn r n))))) (id⊢ 𝓤 _) $ pick ! (λ zs.
+        split ! $ move ! (1 ∷ []) $ heard ! ((a ≡ answerOf r n) × (zs .0 ≡ movedOn r n)) (λ e. fsplit ! $ rewrite ! 0 (λ (y : Reader). ‵ (fres δ (R .coded .code y))) (e .1) refl $
         move ! (2 ∷ []) $ split ! $ rewrite ! 1 (λ (y : Answer). ‵ (N.the-row .own y (u ∷ []))) (e .0) refl $ split ! $
         -- [the loan's token; κ's half; the answer; the last value; true; the lender's part; the rest of ν's token]
         move ! (0 ∷ 6 ∷ []) $ use2 W (later (‵ (fdead (ν ∷ κ)) ⊛ ‵ (flft κ loans))) (within-end 𝓤 H A W ν κ loans) $ await ! tt $ split ! $
@@ -189,8 +184,8 @@ module _ {M : Type 1} (𝓤 : URA M) (H : Heap 𝓤) (A : Atoms 𝓤) (W : Given
     abbrev Own : Fml
     Own = ShrSlice (named 0) κ u8 .own s (v ∷ [])
 
-    is-both : (a b : Val) → Is N.the-row (answer r₀ n) (a ∷ []) → Is N.the-row (answer r₁ m) (b ∷ []) → Is P.the-row both (low ∷ [])
-    is-both a b is is′ = LL.owes P.the-type P′.the-laws both (is-at (answer r₀ n) a is, (is-at (answer r₁ m) b is′, tt))
+    is-both : (a b : Val) → Is N.the-row (answerOf r₀ n) (a ∷ []) → Is N.the-row (answerOf r₁ m) (b ∷ []) → Is P.the-row both (low ∷ [])
+    is-both a b is is′ = LL.owes P.the-type P′.the-laws both (is-at (answerOf r₀ n) a is, (is-at (answerOf r₁ m) b is′, tt))
 
     exits : Is P.the-row both (low ∷ []) → ent 𝓤 (⋆ 𝓤 H A (‵ (flft κ q) ∷ ‵ Own ∷ [])) (Post low)
     exits is =
@@ -217,17 +212,17 @@ module _ {M : Type 1} (𝓤 : URA M) (H : Heap 𝓤) (A : Atoms 𝓤) (W : Given
           move ! (11 ∷ 1 ∷ 0 ∷ []) $ use3 W (later (some (λ (y : ℕ × GName). raw (Read 𝓤 H A at-mem run .pre (to l₅ n n-fits (y .0) (y .1) r₀)) ⊛ raw (Kept l₅ n n-fits y)))) (lent l₅ n n-fits r₀) $ await ! tt $ pick ! (λ y. split ! $
           -- [what `read` asks; what the lender keeps; what the slice owns; _9; …; _8; …; _7; …; _6; …; _5's; _4; …; _3; …; _2; …; _1; …; room for _0; …]
           calls-at ! fm (Read 𝓤 H A at-mem run) known (to l₅ n n-fits (y .0) (y .1) r₀) (and-then ! (load ! (from ! (stop !)) (look ! 5 refl)) (and-then ! (load ! (from ! (stop !)) (look ! 14 refl)) (no-more !))) (λ a.
-          use2 W (later (((‵ (fat fullShare (T′.mir erased) l₅ 0 (T′.lowered r₁)) ⊛ ‵ (R .own r₁ (T′.lowered r₁ ∷ []))) ⊛ ‵ (flft κ q)) ⊛ ‵ (N.the-row .own (answer r₀ n) (a ∷ [])))) (back l₅ n n-fits y r₀ a) $ await ! tt $ split ! $ split ! $ split ! $
-          move ! (3 ∷ []) $ peeks ! N.the-row (Is N.the-row) (shows 𝓤 H A N.the-row) (answer r₀ n) (a ∷ []) (λ is.
+          use2 W (later (((‵ (fat fullShare (T′.mir erased) l₅ 0 (T′.lowered r₁)) ⊛ ‵ (R .own r₁ (T′.lowered r₁ ∷ []))) ⊛ ‵ (flft κ q)) ⊛ ‵ (N.the-row .own (answerOf r₀ n) (a ∷ [])))) (back l₅ n n-fits y r₀ a) $ await ! tt $ split ! $ split ! $ split ! $
+          move ! (3 ∷ []) $ peeks ! N.the-row (Is N.the-row) (shows 𝓤 H A N.the-row) (answerOf r₀ n) (a ∷ []) (λ is.
           -- [the answer; the reader; what it owns; the token; what the slice owns; _9; …; _8; …; _7; …; _6; …; _5's; _4; …]
-          land ! (from ! (stop !)) (init ! 11 refl (EL.lawful N.the-type N′.the-laws 𝓤 H A W tt .typed (answer r₀ n) _ is .0)) $ rewrite ! 11 (λ (w : Val). ‵ (fat fullShare N′.mir l₆ 0 w)) (ap only (EL.tells N.the-type N′.the-laws (answer r₀ n) _ is)) refl $ drop ! $
+          land ! (from ! (stop !)) (init ! 11 refl (EL.lawful N.the-type N′.the-laws 𝓤 H A W tt .typed (answerOf r₀ n) _ is .0)) $ rewrite ! 11 (λ (w : Val). ‵ (fat fullShare N′.mir l₆ 0 w)) (ap only (EL.tells N.the-type N′.the-laws (answerOf r₀ n) _ is)) refl $ drop ! $
           -- the same again
           assigns ! (addr ! (from ! (stop !))) (from ! (stop !)) (init ! 4 refl (tt, tt)) $
           use3 W (later (some (λ (y : ℕ × GName). raw (Read 𝓤 H A at-mem run .pre (to l₅ m m-fits (y .0) (y .1) r₁)) ⊛ raw (Kept l₅ m m-fits y)))) (lent l₅ m m-fits r₁) $ await ! tt $ pick ! (λ y′. split ! $
           calls-at ! fm (Read 𝓤 H A at-mem run) known (to l₅ m m-fits (y′ .0) (y′ .1) r₁) (and-then ! (load ! (from ! (stop !)) (look ! 3 refl)) (and-then ! (load ! (from ! (stop !)) (look ! 12 refl)) (no-more !))) (λ b.
-          use2 W (later (((‵ (fat fullShare (T′.mir erased) l₅ 0 (T′.lowered (movedOn r₁ m))) ⊛ ‵ (R .own (movedOn r₁ m) (T′.lowered (movedOn r₁ m) ∷ []))) ⊛ ‵ (flft κ q)) ⊛ ‵ (N.the-row .own (answer r₁ m) (b ∷ [])))) (back l₅ m m-fits y′ r₁ b) $ await ! tt $ split ! $ split ! $ split ! $
-          move ! (3 ∷ []) $ peeks ! N.the-row (Is N.the-row) (shows 𝓤 H A N.the-row) (answer r₁ m) (b ∷ []) (λ is′.
-          land ! (from ! (stop !)) (init ! 9 refl (EL.lawful N.the-type N′.the-laws 𝓤 H A W tt .typed (answer r₁ m) _ is′ .0)) $ rewrite ! 9 (λ (w : Val). ‵ (fat fullShare N′.mir l₇ 0 w)) (ap only (EL.tells N.the-type N′.the-laws (answer r₁ m) _ is′)) refl $ drop ! $
+          use2 W (later (((‵ (fat fullShare (T′.mir erased) l₅ 0 (T′.lowered (movedOn r₁ m))) ⊛ ‵ (R .own (movedOn r₁ m) (T′.lowered (movedOn r₁ m) ∷ []))) ⊛ ‵ (flft κ q)) ⊛ ‵ (N.the-row .own (answerOf r₁ m) (b ∷ [])))) (back l₅ m m-fits y′ r₁ b) $ await ! tt $ split ! $ split ! $ split ! $
+          move ! (3 ∷ []) $ peeks ! N.the-row (Is N.the-row) (shows 𝓤 H A N.the-row) (answerOf r₁ m) (b ∷ []) (λ is′.
+          land ! (from ! (stop !)) (init ! 9 refl (EL.lawful N.the-type N′.the-laws 𝓤 H A W tt .typed (answerOf r₁ m) _ is′ .0)) $ rewrite ! 9 (λ (w : Val). ‵ (fat fullShare N′.mir l₇ 0 w)) (ap only (EL.tells N.the-type N′.the-laws (answerOf r₁ m) _ is′)) refl $ drop ! $
           -- [the reader; what it owns; the token; what the slice owns; _9; …; _8; …; _7; …; _6; …; _5's; _4; …; _3; …; _2; …; _1; …; room for _0; …]
           assigns ! (agg ! (and-then ! (load ! (from ! (stop !)) (look ! 10 refl)) (and-then ! (load ! (from ! (stop !)) (look ! 8 refl)) (no-more !)))) (from ! (stop !)) (init ! 21 refl (LL.lawful P.the-type P′.the-laws 𝓤 H A W .typed both _ (is-both a b is is′) .0)) $
           returns ! (look ! 21 refl) $ forget ! 0 refl $ forget ! 4 refl $ forget ! 6 refl $ forget ! 8 refl $ forget ! 10 refl $ forget ! 13 refl $ forget ! 15 refl $ forget ! 17 refl $ forget ! 19 refl $ forget ! 21 refl $
