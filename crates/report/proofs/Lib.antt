@@ -1,0 +1,3 @@
+pub mod Decoding
+pub mod Writing
+pub mod Cases
