@@ -1,3 +1,4 @@
 pub mod Decoding
+pub mod Decimal
 pub mod Writing
 pub mod Cases
