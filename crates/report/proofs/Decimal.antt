@@ -36,11 +36,10 @@ unfolding digits
 short k zero n h = omega arith
 short zero (suc fuel) n h = rw (lt-ltb n 10 h) (omega arith)
 short (suc k) (suc fuel) n h =
-    omega
-    (
+    omega (
       arith,
       one-more (ltb n 10) (digits fuel (n / 10)) (48 + n % 10),
-      short k fuel (n / 10) (div-lt-iff-lt-mul (omega arith) .1 (rw pow-suc at h))
+      short k fuel (n / 10) (div-lt-iff-lt-mul (omega arith) .1 (rw pow-suc at h)),
     )
 
 -- What a usize holds has at most 20 digits.

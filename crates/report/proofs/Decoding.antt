@@ -10,7 +10,7 @@ use Rattle.rules.specs.declared.Place.{Place}
 use Rattle.rules.specs.declared.Place.the-variants.{Bit, Node}
 use Rattle.rules.specs.declared.Verdict.{Verdict}
 use Rattle.rules.specs.declared.Verdict.the-variants.{Accepted, Refused}
-use Rattle.report.specs.Code.{kindOf, indexOf, codeOf, Holds, decoded}
+use Rattle.report.specs.Code.{kindOf, indexOf, codeOf, Lossless, decoded}
 
 -- The parts of a refusal's code.
 parts : (number kind index : ℕ) → 0 < number → number < 2 ^ 31 → kind < 2 → index < 2 ^ 32
@@ -29,7 +29,7 @@ refused-back number (Node k) positive below h =
     rw (p .0, p .1, p .2, p .3)
 
 -- The code of a verdict of document 01 determines it.
-pub decoded-back : (v : Verdict) → Holds v → decoded (codeOf v) ≡ v
+pub decoded-back : (v : Verdict) → Lossless v → decoded (codeOf v) ≡ v
 unfolding decoded codeOf
 decoded-back (Accepted n) h = rw (lt-ltb n (2 ^ 32) h)
 decoded-back (Refused f) h = refused-back (f .number) (f .place) (h .0) (h .1) (h .2)

@@ -14,7 +14,7 @@ pasted before at text room =
     record {
       ends = refl;
       front = take-paste before at text (length text) (omega arith) (omega arith) ∙ rw take-length;
-      rest = drop-paste before at text (length text) (omega arith) (omega arith)
+      rest = drop-paste before at text (length text) (omega arith) (omega arith);
     }
 
 -- One text after another.
@@ -24,7 +24,7 @@ then {before} {text} {after} {more} {last} {at} {next} {end} p q =
     record {
       ends = rw length-append (omega arith);
       front = q .front ∙ rw (p .front) (append-assoc (take at before) text more);
-      rest = q .rest ∙ past after ∙ rw (p .rest) (sym (past before))
+      rest = q .rest ∙ past after ∙ rw (p .rest) (sym (past before));
     }
   where
     past : (l : List ℕ) → drop end l ≡ drop (length more) (drop next l)

@@ -22,10 +22,10 @@ unfoldable pub codeOf : Verdict → ℕ
 codeOf (Accepted n) = n
 codeOf (Refused f) = (f .number % 2 ^ 31 * 2 + kindOf (f .place)) * 2 ^ 32 + indexOf (f .place) % 2 ^ 32
 
--- What the parts of the code hold in full; document 01's numbers are 1 to 80, and its places far below 2 ^ 32.
-abbrev pub Holds : Verdict → Type 0
-Holds (Accepted n) = n < 2 ^ 32
-Holds (Refused f) = (0 < f .number) × (f .number < 2 ^ 31) × (indexOf (f .place) < 2 ^ 32)
+-- Where no bit is cut off; document 01's numbers are 1 to 80, and its places far below 2 ^ 32.
+abbrev pub Lossless : Verdict → Type 0
+Lossless (Accepted n) = n < 2 ^ 32
+Lossless (Refused f) = (0 < f .number) × (f .number < 2 ^ 31) × (indexOf (f .place) < 2 ^ 32)
 
 -- The verdict that a number stands for.
 unfoldable pub decoded : ℕ → Verdict
@@ -34,5 +34,5 @@ decoded code =
     (Refused
     (record {
       number = code / 2 ^ 33;
-      place = cond (eqb (code / 2 ^ 32 % 2) 1) (Node (code % 2 ^ 32)) (Bit (code % 2 ^ 32))
+      place = cond (eqb (code / 2 ^ 32 % 2) 1) (Node (code % 2 ^ 32)) (Bit (code % 2 ^ 32));
     }))

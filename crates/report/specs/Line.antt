@@ -1,6 +1,6 @@
 -- Document 01, "Cases": the check program prints one line in full: the word and the step number, or the number, `node` or
 -- `bit`, and the place. A text is the list of its bytes.
-use Prim.Native.Nat.{ℕ, zero, suc, _+_, _/_, _%_}
+use Prim.Native.Nat.{ℕ, zero, suc, _+_, _/_, _%_, _^_, _<_}
 use Prim.Native.Char.{code}
 use Prim.Native.String.{String, [] as []ˢ, _∷_ as _∷ˢ_}
 use mathlib.Core.Bool.{cond}
@@ -11,6 +11,7 @@ use Rattle.rules.specs.declared.Place.{Place}
 use Rattle.rules.specs.declared.Place.the-variants.{Bit, Node}
 use Rattle.rules.specs.declared.Verdict.{Verdict}
 use Rattle.rules.specs.declared.Verdict.the-variants.{Accepted, Refused}
+use Rattle.report.specs.Code.{indexOf}
 
 -- The bytes of a text of ASCII characters.
 abbrev pub ascii : String → List ℕ
@@ -41,6 +42,11 @@ wordsOf (Refused f) = (ascii "refused " ++ decimal (f .number)) ++ placeText (f 
 -- The line, in full, ends in one newline.
 unfoldable pub lineOf : Verdict → List ℕ
 lineOf v = wordsOf v ++ ascii "\n"
+
+-- What the code's types hold: every number is below 2 ^ 64.
+abbrev pub Held : Verdict → Type 0
+Held (Accepted n) = n < 2 ^ 64
+Held (Refused f) = (f .number < 2 ^ 64) × (indexOf (f .place) < 2 ^ 64)
 
 -- A buffer after the line was written at its front, and how many bytes that were. Where it has no room, nothing is written.
 unfoldable pub lineInto : Verdict → List ℕ → List ℕ

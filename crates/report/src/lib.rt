@@ -10,6 +10,7 @@ use rules::Place;
 use rules::Verdict;
 
 const HALF: u64 = 2147483648;
+
 const WORD: u64 = 4294967296;
 
 // The verdict as one number, by which a host learns it over the C interface.

@@ -22,13 +22,12 @@ abbrev given : ℕ → In 1 put-number-kinds.ps
 given t = and 1 put-number-kinds.ps (is 1 put-number-kinds.ps μ-put-number t) put-number.Pre
 
 abbrev callees : ℕ → lts.Claims
-callees t =
-    (
-      put-reads.Asked,
-      put-reads.Learnt,
-      and 1 put-number-kinds.ps (falls 1 put-number-kinds.ps _<_ μ-put-number t) put-number.Pre,
-      put-number.Post
-    )
+callees t = (
+  put-reads.Asked,
+  put-reads.Learnt,
+  and 1 put-number-kinds.ps (falls 1 put-number-kinds.ps _<_ μ-put-number t) put-number.Pre,
+  put-number.Post,
+)
 
 put-requires : (t : ℕ) → lts.Need-put-requires (callees t) (given t) put-number.Post
 put-requires t c κs =

@@ -22,12 +22,11 @@ loop-holds c = (search needs, search needs, paste-zero (c .args .out .now) (c .a
 loop-again : tie.Need-loop-again Inv-loop μ-loop
 loop-again c =
     let a = c .before .before .before .args in
-    let k = c .before .before .loop .k in
-    (
+    let k = c .before .before .loop .k in (
       search needs,
       simp length-set (search needs),
       rw (add-one, c .before .before .loop .inv .2)
-      (paste-suc (a .out .now) (a .at) (a .text .now) k 0 (omega arith) (omega arith))
+          (paste-suc (a .out .now) (a .at) (a .text .now) k 0 (omega arith) (omega arith)),
     )
 
 returns : tie.Need-returns Inv-loop μ-loop

@@ -15,10 +15,9 @@ put-number-requires c κs =
 returns : tie.Need-returns
 returns c =
     let p = c .before .before .before .before .before .before in
-    let n = p .before .before .before .before .args .n in
-    (
+    let n = p .before .before .before .before .args .n in (
       then (p .put .ensures) (c .before .before .put-number .ensures),
-      omega (arith, p .put .ensures .ends, c .before .before .put-number .ensures .ends, decimal-short n (omega arith))
+      omega (arith, p .put .ensures .ends, c .before .before .put-number .ensures .ends, decimal-short n (omega arith)),
     )
 
 pub put-named-spec : {M : Type 1} → statement M

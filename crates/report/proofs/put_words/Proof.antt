@@ -11,12 +11,11 @@ returns c = (rw (c .before .before .before .before .before .before .v .given .1)
 
 returns-2 : tie.Need-returns-2
 unfolding wordsOf
-returns-2 c =
-    (
-      rw (c .before .before .before .before .before .before .before .before .before .before .before .v2 .given .1)
+returns-2 c = (
+  rw (c .before .before .before .before .before .before .before .before .before .before .before .v2 .given .1)
       (then (c .before .before .before .before .before .before .put-named2 .ensures .0) (c .before .before .put-place .ensures .0)),
-      search needs
-    )
+  search needs,
+)
 
 pub put-words-spec : {M : Type 1} → statement M
 put-words-spec =
