@@ -84,6 +84,39 @@ impl Derivation {
         }
     }
 
+    /// Puts another set wherever the derivation has this one.
+    pub fn replace_set(&mut self, old: StateSet, new: StateSet) {
+        let k = match &mut self.step {
+            Step::While { k, .. } => Some(k),
+            _ => None,
+        };
+        for set in [Some(&mut self.tables.p), k].into_iter().flatten() {
+            if *set == old {
+                *set = new;
+            }
+        }
+        for child in &mut self.children {
+            child.replace_set(old, new);
+        }
+    }
+
+    /// Puts another relation wherever the derivation has this one.
+    pub fn replace_relation(&mut self, old: &Relation, new: &Relation) {
+        let w = match &mut self.step {
+            Step::While { w, .. } => Some(w),
+            _ => None,
+        };
+        let Tables { r, g, q, .. } = &mut self.tables;
+        for relation in [Some(r), Some(g), Some(q), w].into_iter().flatten() {
+            if relation == old {
+                relation.clone_from(new);
+            }
+        }
+        for child in &mut self.children {
+            child.replace_relation(old, new);
+        }
+    }
+
     /// The proof as the file has it, or none where it takes more than 16 sets or relations.
     pub fn proof(&self) -> Option<Proof> {
         let mut numbering = Numbering { sets: Vec::new(), relations: Vec::new() };

@@ -4,9 +4,27 @@ use reference::language::{Expression, Handler, Operation, Statement};
 use reference::proof_file::{Node, Proof, Rule};
 use reference::states::StateSet;
 
-/// A field of a file: its first bit and its width.
+/// What a field says.
+#[derive(Clone, Copy, PartialEq, Eq, Debug)]
+pub enum What {
+    Variables,
+    Size,
+    Statement,
+    Variable,
+    Expression,
+    Constant,
+    Operation,
+    Count,
+    Table,
+    Rule,
+    SetNumber,
+    RelationNumber,
+}
+
+/// A field of a file: what it says, its first bit and its width.
 #[derive(Clone, Copy, Debug)]
 pub struct Field {
+    pub what: What,
     pub bit: usize,
     pub width: usize,
 }
@@ -16,6 +34,32 @@ pub struct Field {
 pub struct Packed {
     pub bytes: Vec<u8>,
     pub fields: Vec<Field>,
+}
+
+impl Packed {
+    /// The fields that say this, in file order.
+    pub fn that_say(&self, what: What) -> Vec<Field> {
+        self.fields.iter().copied().filter(|field| field.what == what).collect()
+    }
+
+    /// The bytes with another value in one field.
+    pub fn with_field(&self, field: Field, value: u64) -> Vec<u8> {
+        let mut bytes = self.bytes.clone();
+        for place in 0..field.width {
+            let bit = field.bit + place;
+            let mask = 0x80 >> (bit % 8);
+            bytes[bit / 8] &= !mask;
+            if value >> (field.width - 1 - place) & 1 == 1 {
+                bytes[bit / 8] |= mask;
+            }
+        }
+        bytes
+    }
+
+    /// Where the last field ends.
+    pub fn end(&self) -> usize {
+        self.fields.last().map_or(0, |field| field.bit + field.width)
+    }
 }
 
 /// Writes fields, most significant bit first, with no gaps.
@@ -31,12 +75,8 @@ impl Packer {
         Packer::default()
     }
 
-    pub fn bit(&self) -> usize {
-        self.bit
-    }
-
-    pub fn put(&mut self, value: u64, width: usize) {
-        self.fields.push(Field { bit: self.bit, width });
+    pub fn put(&mut self, what: What, value: u64, width: usize) {
+        self.fields.push(Field { what, bit: self.bit, width });
         for place in (0..width).rev() {
             if self.bit % 8 == 0 {
                 self.bytes.push(0);
@@ -55,18 +95,18 @@ impl Packer {
 
     /// The number of variables and their sizes.
     pub fn sizes(&mut self, sizes: &[usize]) {
-        self.put(sizes.len() as u64, 3);
+        self.put(What::Variables, sizes.len() as u64, 3);
         for size in sizes {
-            self.put(*size as u64, 5);
+            self.put(What::Size, *size as u64, 5);
         }
     }
 
     pub fn statement(&mut self, statement: &Statement) {
         match statement {
-            Statement::Nil => self.put(0, 3),
+            Statement::Nil => self.put(What::Statement, 0, 3),
             Statement::Assignment(variable, value) => {
-                self.put(1, 3);
-                self.put(*variable as u64, 2);
+                self.put(What::Statement, 1, 3);
+                self.put(What::Variable, *variable as u64, 2);
                 self.expression(value);
             }
             Statement::Sequence(left, right) => self.two_parts(2, left, right),
@@ -77,13 +117,13 @@ impl Packer {
     }
 
     fn two_parts(&mut self, code: u64, left: &Statement, right: &Statement) {
-        self.put(code, 3);
+        self.put(What::Statement, code, 3);
         self.statement(left);
         self.statement(right);
     }
 
     fn tested(&mut self, code: u64, test: &Expression, body: &Statement) {
-        self.put(code, 3);
+        self.put(What::Statement, code, 3);
         self.expression(test);
         self.statement(body);
     }
@@ -91,20 +131,20 @@ impl Packer {
     pub fn expression(&mut self, expression: &Expression) {
         match expression {
             Expression::Integer(value) => {
-                self.put(0, 2);
-                self.put(*value as u64 & 0xFF, 8);
+                self.put(What::Expression, 0, 2);
+                self.put(What::Constant, *value as u64 & 0xFF, 8);
             }
             Expression::Truth(value) => {
-                self.put(1, 2);
-                self.put(u64::from(*value), 1);
+                self.put(What::Expression, 1, 2);
+                self.put(What::Constant, u64::from(*value), 1);
             }
             Expression::Variable(variable) => {
-                self.put(2, 2);
-                self.put(*variable as u64, 2);
+                self.put(What::Expression, 2, 2);
+                self.put(What::Variable, *variable as u64, 2);
             }
             Expression::Operation(operation, left, right) => {
-                self.put(3, 2);
-                self.put(operation_code(*operation), 3);
+                self.put(What::Expression, 3, 2);
+                self.put(What::Operation, operation_code(*operation), 3);
                 self.expression(left);
                 self.expression(right);
             }
@@ -113,13 +153,13 @@ impl Packer {
 
     /// State 0 first.
     pub fn set(&mut self, set: StateSet, states: usize) {
-        self.put(set.0.reverse_bits() >> (64 - states), states);
+        self.put(What::Table, set.0.reverse_bits() >> (64 - states), states);
     }
 
     /// The counts and the tables themselves.
     pub fn tables(&mut self, proof: &Proof, states: usize) {
-        self.put(proof.sets.len() as u64, 5);
-        self.put(proof.relations.len() as u64, 5);
+        self.put(What::Count, proof.sets.len() as u64, 5);
+        self.put(What::Count, proof.relations.len() as u64, 5);
         for set in &proof.sets {
             self.set(*set, states);
         }
@@ -131,13 +171,14 @@ impl Packer {
     }
 
     pub fn node(&mut self, node: &Node) {
-        self.put(rule_code(node.rule), 3);
-        for table in [node.p, node.r, node.g, node.q] {
-            self.put(table as u64, 4);
+        self.put(What::Rule, rule_code(node.rule), 3);
+        self.put(What::SetNumber, node.p as u64, 4);
+        for relation in [node.r, node.g, node.q] {
+            self.put(What::RelationNumber, relation as u64, 4);
         }
         if let Rule::While { k, w } = node.rule {
-            self.put(k as u64, 4);
-            self.put(w as u64, 4);
+            self.put(What::SetNumber, k as u64, 4);
+            self.put(What::RelationNumber, w as u64, 4);
         }
         for child in &node.children {
             self.node(child);
