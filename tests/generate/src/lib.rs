@@ -9,5 +9,7 @@ pub mod derive;
 pub mod explore;
 pub mod pack;
 pub mod pairs;
+pub mod programs;
 pub mod random;
 pub mod steps;
+pub mod vacuous;
