@@ -68,6 +68,14 @@ impl Derivation {
         1 + self.children.iter().map(Derivation::levels).max().unwrap_or(0)
     }
 
+    /// Shows every node, in file order.
+    pub fn each(&self, show: &mut impl FnMut(&Derivation)) {
+        show(self);
+        for child in &self.children {
+            child.each(show);
+        }
+    }
+
     /// The nodes in file order, by the path that leads to each.
     pub fn paths(&self) -> Vec<Vec<usize>> {
         let mut paths = vec![vec![]];

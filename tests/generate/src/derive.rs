@@ -139,7 +139,11 @@ impl Deriver<'_> {
         }
         let holds = self.space.where_true(test);
         let body = fitted(self.derive(body, p.meet(holds), r, coarse)?, p.meet(holds));
-        let q = body.tables.q.join(&starting_in(p.minus(holds), &r.reach()));
+        // A weakened body may bring pairs from states of P where the test is false; what leads
+        // there must have them too (32).
+        let reach = r.reach();
+        let ends = body.tables.q.join(&starting_in(p.minus(holds), &reach));
+        let q = ends.join(&starting_in(p, &then(&reach, &ends)));
         let tables = Tables { p, r: r.clone(), g: body.tables.g.clone(), q };
         Some(Derivation { step: Step::If, tables, children: vec![body] })
     }

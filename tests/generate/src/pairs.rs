@@ -96,7 +96,7 @@ pub fn random_space(random: &mut Random, most: usize) -> Space {
 }
 
 fn random_set(random: &mut Random, all: StateSet) -> StateSet {
-    let share = *random.pick(&[0, 10, 50, 100, 100]);
+    let share = *random.pick(&[0, 5, 10, 50, 50, 100, 100, 100, 100, 100]);
     random.thinned(all, share)
 }
 
