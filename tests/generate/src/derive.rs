@@ -16,6 +16,8 @@ pub struct Deriver<'a> {
     pub random: &'a mut Random,
     /// How often, of 100, a weaken is put in where none is needed.
     pub weakens: usize,
+    /// Whether K and W may hold more than they must.
+    pub noise: bool,
     /// Statements still to be looked at; nested loops and parallels try theirs many times.
     pub effort: usize,
 }
@@ -173,6 +175,9 @@ impl Deriver<'_> {
 
     /// The least K, at times with more of P and with states outside P that do not count.
     fn loop_k(&mut self, p: StateSet, r: &Relation, holds: StateSet) -> StateSet {
+        if !self.noise {
+            return r.reach().image(p.meet(holds));
+        }
         let extra = if self.random.chance(15) { p } else { StateSet::NONE };
         let extra = self.random.thinned(extra, 20).join(p.meet(holds));
         let outside = if self.random.chance(30) { self.space.all().minus(p) } else { StateSet::NONE };
@@ -203,7 +208,8 @@ impl Deriver<'_> {
     /// comes back to itself.
     fn ranking(&mut self, steps: &Relation) -> Option<Relation> {
         let mut w = then(steps, &steps.reach());
-        for _ in 0..if self.random.chance(20) { 4 } else { 0 } {
+        let more = if self.noise && self.random.chance(20) { 4 } else { 0 };
+        for _ in 0..more {
             let (s, t) = (self.state(), self.state());
             if s != t && !w.has(t, s) {
                 w.set_row(s, w.row(s).with(t));

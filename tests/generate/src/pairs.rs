@@ -75,7 +75,7 @@ fn attempt(random: &mut Random, scale: Scale) -> Option<Pair> {
     let statement = author.statement(&scope, 1);
     let weakens = *random.pick(&[0, 5, 20]);
     let p = random_set(random, space.all());
-    let mut deriver = Deriver { space: &space, random, weakens, effort: 600 };
+    let mut deriver = Deriver { space: &space, random, weakens, noise: true, effort: 600 };
     let mut derivation = deriver.derive(&statement, p, &rely, coarse)?;
     enlarge(random, &space, &mut derivation);
     Pair::new(Handler { space, statement }, derivation)
