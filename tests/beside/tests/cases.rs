@@ -5,7 +5,7 @@ use generate::author::operate;
 use generate::derivation::Derivation;
 use generate::pack::{self, What};
 use generate::pairs::Pair;
-use generate::programs::{self, in_order, of_steps, repeat, sequence, sum};
+use generate::programs::{self, in_order, number, of_steps, read, repeat, sequence, store, sum};
 use generate::random::Random;
 use generate::vacuous;
 use reference::language::{Expression, Operation, Statement};
@@ -32,10 +32,6 @@ fn vacuous(sizes: &[usize], statement: Statement) -> Verdict {
     judge_pair(&vacuous::pair(sizes, statement))
 }
 
-fn variable(variable: usize) -> Expression {
-    Expression::Variable(variable)
-}
-
 #[test]
 fn the_marked_files() {
     assert_eq!(judge(&HANDLER, &PROOF), Verdict::Accepted(1));
@@ -58,12 +54,9 @@ fn the_marked_tables() {
 
 #[test]
 fn the_marked_step_numbers() {
-    let twice = operate(Operation::Add, variable(0), variable(0));
-    assert_eq!(vacuous(&[2, 3], Statement::Assignment(1, twice)), Verdict::Accepted(4));
-    let test = operate(Operation::Greater, variable(0), Expression::Integer(0));
-    let less = operate(Operation::Subtract, variable(0), Expression::Integer(1));
-    let countdown = repeat(test, Statement::Assignment(0, less));
-    assert_eq!(vacuous(&[4], countdown), Verdict::Accepted(28));
+    let twice = operate(Operation::Add, read(0), read(0));
+    assert_eq!(vacuous(&[2, 3], store(1, twice)), Verdict::Accepted(4));
+    assert_eq!(vacuous(&[4], programs::count_down(0)), Verdict::Accepted(28));
     assert_eq!(vacuous(&[2], sequence(Statement::Nil, Statement::Nil)), Verdict::Accepted(1));
 }
 
@@ -79,7 +72,7 @@ fn the_marked_sizes() {
 /// The test (c = 0) ∨ (c = 1) of a loop, with c moved.
 #[test]
 fn the_marked_test() {
-    let is = |value| operate(Operation::Equal, variable(0), Expression::Integer(value));
+    let is = |value| operate(Operation::Equal, read(0), number(value));
     let statement = repeat(operate(Operation::Or, is(0), is(1)), Statement::Nil);
     let mut pair = vacuous::pair(&[2], statement);
     let all = StateSet::first(2);
@@ -146,31 +139,23 @@ fn levels_of_statements() {
 
 #[test]
 fn nodes_of_expressions() {
-    let store = |leaves| Statement::Assignment(0, sum(leaves, leaves));
-    assert_eq!(vacuous(&[2], store(16)), Verdict::Accepted(32));
-    let (bytes, place) = place_in(&store(17), What::Expression, 31);
+    let long = |leaves| store(0, sum(leaves, leaves));
+    assert_eq!(vacuous(&[2], long(16)), Verdict::Accepted(32));
+    let (bytes, place) = place_in(&long(17), What::Expression, 31);
     assert_eq!(judge(&bytes, &PROOF), at_bit(17, place));
     // The limit is one expression's: two of 31 nodes pass.
-    assert_eq!(vacuous(&[2], sequence(store(16), store(16))), Verdict::Accepted(65));
+    assert_eq!(vacuous(&[2], sequence(long(16), long(16))), Verdict::Accepted(65));
 }
 
 /// The derivation under so many weakens.
-fn under(mut root: Derivation, weakens: usize) -> Derivation {
-    for _ in 0..weakens {
-        let (p, r) = (root.tables.p, root.tables.r.clone());
-        root = root.weakened(p, r);
-    }
-    root
+fn under(root: Derivation, weakens: usize) -> Derivation {
+    (0..weakens).fold(root, |root, _| root.under_weaken())
 }
 
 /// A weaken over each of 63 nodes, and `more` over the root, on two variables of size 2.
 fn weakened(more: usize) -> (Vec<u8>, pack::Packed) {
-    fn each(mut node: Derivation) -> Derivation {
-        node.children = node.children.into_iter().map(each).collect();
-        under(node, 1)
-    }
     let pair = vacuous::pair(&[2, 2], in_order(vec![Statement::Nil; 32]));
-    let root = under(each(pair.derivation), more);
+    let root = under(pair.derivation.doubled(), more);
     let proof = root.proof().expect("it has one set and one relation");
     (pair.handler_file.bytes, pack::proof(&proof, 4))
 }
@@ -213,8 +198,8 @@ fn sizes() {
 /// With no state in P, no store is out of range and no test is moved.
 #[test]
 fn an_empty_precondition() {
-    let beyond = Statement::Assignment(0, Expression::Integer(100));
-    let test = operate(Operation::Equal, variable(0), variable(0));
+    let beyond = store(0, number(100));
+    let test = operate(Operation::Equal, read(0), read(0));
     let statement = sequence(
         programs::parallel(beyond.clone(), beyond.clone()),
         programs::when(test.clone(), repeat(test, beyond)),

@@ -4,7 +4,7 @@ use beside::judge;
 use generate::author::operate;
 use generate::derivation::{Derivation, Step, Tables};
 use generate::pairs::Pair;
-use generate::programs::{parallel, repeat, sequence, when};
+use generate::programs::{number, parallel, read, repeat, sequence, store, when};
 use reference::language::{Expression, Handler, Operation, Statement};
 use reference::space::Space;
 use reference::states::{Relation, StateSet};
@@ -53,19 +53,19 @@ fn looping(k: &[usize], w: Relation) -> Step {
 }
 
 fn c() -> Expression {
-    Expression::Variable(0)
+    read(0)
 }
 
 fn c_is(value: i64) -> Expression {
-    operate(Operation::Equal, c(), Expression::Integer(value))
+    operate(Operation::Equal, c(), number(value))
 }
 
 fn set(value: Expression) -> Statement {
-    Statement::Assignment(0, value)
+    store(0, value)
 }
 
 fn one() -> Expression {
-    Expression::Integer(1)
+    number(1)
 }
 
 fn nil() -> Statement {
@@ -120,7 +120,7 @@ fn assignments() {
     let node = |p: &[usize], r, q| node(Step::Assignment, p, r, q, vec![]);
     let more = || set(operate(Operation::Add, c(), one()));
     refused(more(), node(&[0, 2], none(), every()), 40, 0);
-    refused(set(Expression::Integer(-1)), node(&[0], none(), every()), 40, 0);
+    refused(set(number(-1)), node(&[0], none(), every()), 40, 0);
     accepted(more(), node(&[0, 1], none(), every()), 3);
     refused(set(c()), node(&[0, 1], pairs(&[(0, 1)]), every()), 41, 0);
     // A pair (s,s) moves nothing, nor does one from outside P.

@@ -187,10 +187,10 @@ fn too_many_nodes(random: &mut Random) -> Constructed {
     let mut root = vacuous::derivation(&statement, &Relation::none());
     let most = if deep { 24 } else { 127 };
     if !deep {
-        root = doubled(root);
+        root = root.doubled();
     }
     while root.nodes() <= most || (!deep && random.chance(50)) {
-        root = over(root);
+        root = root.under_weaken();
     }
     let handler = Handler { space: Space::new(&[2, 2]), statement };
     let proof = root.proof().expect("there are one set and one relation");
@@ -201,17 +201,6 @@ fn too_many_nodes(random: &mut Random) -> Constructed {
         proof: file.bytes,
         verdict: refused_at_bit(24, place),
     }
-}
-
-/// A weaken over every node.
-fn doubled(mut node: Derivation) -> Derivation {
-    node.children = node.children.into_iter().map(doubled).collect();
-    over(node)
-}
-
-fn over(node: Derivation) -> Derivation {
-    let (p, r) = (node.tables.p, node.tables.r.clone());
-    node.weakened(p, r)
 }
 
 /// The first node, in file order, that is the 128th or on level 25.

@@ -60,6 +60,17 @@ impl Derivation {
         Derivation { step: Step::Weaken, tables: Tables { p, r, g, q }, children: vec![self] }
     }
 
+    /// A weaken over this node that weakens nothing.
+    pub fn under_weaken(self) -> Derivation {
+        Derivation { step: Step::Weaken, tables: self.tables.clone(), children: vec![self] }
+    }
+
+    /// A weaken that weakens nothing over every node.
+    pub fn doubled(mut self) -> Derivation {
+        self.children = self.children.into_iter().map(Derivation::doubled).collect();
+        self.under_weaken()
+    }
+
     pub fn nodes(&self) -> usize {
         1 + self.children.iter().map(Derivation::nodes).sum::<usize>()
     }

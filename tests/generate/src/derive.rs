@@ -252,6 +252,22 @@ impl Deriver<'_> {
     }
 }
 
+/// The derivation with the least tables, K and W among them, and no weaken that is not needed.
+pub fn least(
+    space: &Space,
+    statement: &Statement,
+    p: StateSet,
+    r: &Relation,
+    coarse: bool,
+) -> Option<Derivation> {
+    let mut random = Random::new(0);
+    let mut deriver =
+        Deriver { space, random: &mut random, weakens: 0, noise: false, effort: 100_000 };
+    let root = deriver.derive(statement, p, r, coarse)?;
+    let g = root.tables.g.clone();
+    Some(settled(root, &g))
+}
+
 fn leaf(step: Step, tables: Tables) -> Derivation {
     Derivation { step, tables, children: vec![] }
 }

@@ -7,10 +7,22 @@ use reference::language::{Expression, Operation, Statement};
 /// The most that E of a test or a stored value can be: 31 nodes, every leaf a variable.
 const MOST_E: u64 = 31;
 
+pub fn read(variable: usize) -> Expression {
+    Expression::Variable(variable)
+}
+
+pub fn number(value: i64) -> Expression {
+    Expression::Integer(value)
+}
+
+pub fn store(variable: usize, value: Expression) -> Statement {
+    Statement::Assignment(variable, value)
+}
+
 /// A sum with this many leaves, the first `variables` of them variable 0.
 pub fn sum(leaves: u64, variables: u64) -> Expression {
     let leaf = |index: u64| {
-        if index < variables { Expression::Variable(0) } else { Expression::Integer(1) }
+        if index < variables { read(0) } else { number(1) }
     };
     (1..leaves).fold(leaf(0), |sum, index| operate(Operation::Add, sum, leaf(index)))
 }
@@ -29,7 +41,7 @@ pub fn test_of(e: u64) -> Expression {
     let leaves = ((e + 2) / 2).max(2);
     let variables = e + 1 - leaves;
     let left = sum(leaves - 1, variables);
-    let right = if variables == leaves { Expression::Variable(0) } else { Expression::Integer(1) };
+    let right = if variables == leaves { read(0) } else { number(1) };
     operate(Operation::Equal, left, right)
 }
 
@@ -49,6 +61,18 @@ pub fn repeat(test: Expression, body: Statement) -> Statement {
     Statement::While(test, Box::new(body))
 }
 
+/// Counts a variable down to 0.
+pub fn count_down(variable: usize) -> Statement {
+    let next = operate(Operation::Subtract, read(variable), number(1));
+    repeat(operate(Operation::Greater, read(variable), number(0)), store(variable, next))
+}
+
+/// Counts a variable up to the bound.
+pub fn count_up(variable: usize, bound: i64) -> Statement {
+    let next = operate(Operation::Add, read(variable), number(1));
+    repeat(operate(Operation::Less, read(variable), number(bound)), store(variable, next))
+}
+
 /// The parts in order, in a tree of sequences as flat as can be; there is at least one.
 pub fn in_order(mut parts: Vec<Statement>) -> Statement {
     if parts.len() == 1 {
@@ -63,7 +87,7 @@ pub fn in_order(mut parts: Vec<Statement>) -> Statement {
 pub fn of_steps(steps: u64) -> Statement {
     match steps {
         0 => Statement::Nil,
-        1..=32 => Statement::Assignment(0, value_of(steps - 1)),
+        1..=32 => store(0, value_of(steps - 1)),
         33..=2299 => small(steps),
         _ => {
             // 64 (E + 2) + 63 (body + 1) leaves the rest E + 2 in steps of 63.

@@ -4,9 +4,9 @@ use generate::author::operate;
 use generate::damage::damaged;
 use generate::explore::{explore, Breach, Exploration, Promise};
 use generate::pairs::{accepted, Scale};
-use generate::programs::{parallel, repeat, sequence};
+use generate::programs::{count_down, number, parallel, read, sequence, store};
 use generate::random::Random;
-use reference::language::{Expression, Handler, Operation, Statement};
+use reference::language::{Handler, Operation, Statement};
 use reference::space::Space;
 use reference::states::{Relation, StateSet};
 use reference::{check, handler_file, proof_file, Verdict, TABLE_WORDS};
@@ -57,14 +57,6 @@ fn accepted_pairs_keep_demand_3() {
     assert!(whole > 500 && damaged_too > 1000 && long > 100, "{whole} {damaged_too} {long}");
 }
 
-fn variable(variable: usize) -> Expression {
-    Expression::Variable(variable)
-}
-
-fn set(variable: usize, value: i64) -> Statement {
-    Statement::Assignment(variable, Expression::Integer(value))
-}
-
 fn handler(sizes: &[usize], statement: Statement) -> Handler {
     Handler { space: Space::new(sizes), statement }
 }
@@ -85,8 +77,8 @@ fn without(relation: &Relation, s: usize, t: usize) -> Relation {
 /// d ← c + c takes 4 steps, and with c read as 0 and then as 1 it stores the odd value 1.
 #[test]
 fn reads_in_separate_steps() {
-    let sum = operate(Operation::Add, variable(0), variable(0));
-    let handler = handler(&[2, 3], Statement::Assignment(1, sum));
+    let sum = operate(Operation::Add, read(0), read(0));
+    let handler = handler(&[2, 3], store(1, sum));
     let mut promise = lenient(&handler, 4);
     assert!(matches!(explore(&handler, &promise, 1000), Exploration::Holds { longest: 4, .. }));
     promise.steps = 3;
@@ -103,9 +95,9 @@ fn reads_in_separate_steps() {
 /// The test (c = 0) ∨ (c = 1) is true in both states, yet it can be read false.
 #[test]
 fn a_test_is_not_read_at_one_instant() {
-    let is = |value| operate(Operation::Equal, variable(0), Expression::Integer(value));
+    let is = |value| operate(Operation::Equal, read(0), number(value));
     let test = operate(Operation::Or, is(0), is(1));
-    let body = Statement::If(test, Box::new(set(1, 1)));
+    let body = Statement::If(test, Box::new(store(1, number(1))));
     let handler = handler(&[2, 2], body);
     let mut promise = lenient(&handler, 100);
     promise.p = StateSet::NONE.with(2);
@@ -119,9 +111,7 @@ fn a_test_is_not_read_at_one_instant() {
 /// The count from 3 down to 0 stays within its 28 steps.
 #[test]
 fn a_countdown_ends() {
-    let test = operate(Operation::Greater, variable(0), Expression::Integer(0));
-    let less = operate(Operation::Subtract, variable(0), Expression::Integer(1));
-    let handler = handler(&[4], repeat(test, Statement::Assignment(0, less)));
+    let handler = handler(&[4], count_down(0));
     let mut promise = lenient(&handler, 28);
     assert!(matches!(explore(&handler, &promise, 9000), Exploration::Holds { longest: 28, .. }));
     promise.g = without(&promise.g, 2, 1);
@@ -134,7 +124,7 @@ fn a_countdown_ends() {
 /// A store out of range stands still, even where the other side still steps.
 #[test]
 fn a_store_out_of_range_stands_still() {
-    let handler = handler(&[2, 2], parallel(set(0, 2), sequence(set(1, 1), set(1, 0))));
+    let handler = handler(&[2, 2], parallel(store(0, number(2)), sequence(store(1, number(1)), store(1, number(0)))));
     let promise = lenient(&handler, 100);
     assert_eq!(explore(&handler, &promise, 1000), Exploration::Broken(Breach::StandsStill));
 }

@@ -8,7 +8,7 @@ use crate::Sample;
 use generate::author::operate;
 use generate::derivation::{Derivation, Step, Tables};
 use generate::pairs::Pair;
-use generate::programs::{parallel, repeat, sequence, when};
+use generate::programs::{number, parallel, read, repeat, sequence, store, when};
 use reference::language::{Expression, Handler, Operation, Statement};
 use reference::space::{Space, Values};
 use reference::states::{Relation, StateSet};
@@ -58,14 +58,6 @@ pub fn sample() -> Sample {
     Sample { name: "findp", about: ABOUT, variables: &["ot", "et", "oc", "ec"], pair }
 }
 
-fn read(variable: usize) -> Expression {
-    Expression::Variable(variable)
-}
-
-fn number(value: i64) -> Expression {
-    Expression::Integer(value)
-}
-
 fn plus(left: Expression, right: Expression) -> Expression {
     operate(Operation::Add, left, right)
 }
@@ -76,10 +68,6 @@ fn less(left: Expression, right: Expression) -> Expression {
 
 fn both(left: Expression, right: Expression) -> Expression {
     operate(Operation::And, left, right)
-}
-
-fn store(variable: usize, value: Expression) -> Statement {
-    Statement::Assignment(variable, value)
 }
 
 /// oc < ot ∧ oc < et

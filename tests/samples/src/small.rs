@@ -3,35 +3,17 @@
 use crate::Sample;
 use generate::author::operate;
 use generate::derivation::{Derivation, Step, Tables};
-use generate::derive::Deriver;
+use generate::derive::least;
 use generate::pairs::Pair;
-use generate::programs::{parallel, repeat, sequence};
-use generate::random::Random;
-use reference::language::{Expression, Handler, Operation, Statement};
+use generate::programs::{count_down, count_up, number, parallel, read, repeat, sequence, store};
+use reference::language::{Handler, Operation, Statement};
 use reference::space::Space;
 use reference::states::{Relation, StateSet};
-
-fn read(variable: usize) -> Expression {
-    Expression::Variable(variable)
-}
-
-fn number(value: i64) -> Expression {
-    Expression::Integer(value)
-}
-
-fn store(variable: usize, value: Expression) -> Statement {
-    Statement::Assignment(variable, value)
-}
 
 /// The pair with the least tables for this precondition and rely.
 fn derived(sizes: &[usize], statement: Statement, p: StateSet, r: &Relation) -> Pair {
     let space = Space::new(sizes);
-    let mut random = Random::new(0);
-    let mut deriver =
-        Deriver { space: &space, random: &mut random, weakens: 0, noise: false, effort: 10_000 };
-    let mut derivation = deriver.derive(&statement, p, r, false).expect("the sample holds");
-    let (g, q) = (derivation.tables.g.clone(), derivation.tables.q.clone());
-    derivation.settle(g, q);
+    let derivation = least(&space, &statement, p, r, false).expect("the sample holds");
     Pair::new(Handler { space, statement }, derivation).expect("the sample is small")
 }
 
@@ -84,11 +66,6 @@ pub fn slot() -> Sample {
     }
 }
 
-fn count_down(variable: usize) -> Statement {
-    let test = operate(Operation::Greater, read(variable), number(0));
-    repeat(test, store(variable, operate(Operation::Subtract, read(variable), number(1))))
-}
-
 pub fn countdown() -> Sample {
     Sample {
         name: "countdown",
@@ -100,14 +77,13 @@ pub fn countdown() -> Sample {
 }
 
 pub fn counters() -> Sample {
-    let test = operate(Operation::Less, read(1), number(3));
-    let up = repeat(test, store(1, operate(Operation::Add, read(1), number(1))));
+    let statement = parallel(count_down(0), count_up(1, 3));
     Sample {
         name: "counters",
         about: "Two counters side by side, one counting down and one up. Each side bears the \
                 other's steps, so its W must descend along them too (55); at the end both have \
                 arrived, which neither side says alone (66).",
         variables: &["a", "b"],
-        pair: derived(&[4, 4], parallel(count_down(0), up), StateSet::first(16), &Relation::none()),
+        pair: derived(&[4, 4], statement, StateSet::first(16), &Relation::none()),
     }
 }

@@ -163,6 +163,9 @@ impl Words<'_> {
         if pairs.is_empty() {
             return "no pair".into();
         }
+        if pairs.len() == rows.len() * rows.len() {
+            return "every pair".into();
+        }
         if rows.iter().all(|row| *row == rows[0]) {
             return format!("every pair that ends in: {}", self.set(rows[0]));
         }
