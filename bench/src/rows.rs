@@ -2,7 +2,7 @@
 
 use generate::author::operate;
 use generate::derivation::Derivation;
-use generate::derive::least;
+use generate::derive::{least, Demand};
 use generate::pairs::Pair;
 use generate::programs::{count_down, count_up, in_order, number, parallel, read, store, when};
 use reference::language::{Handler, Operation, Statement};
@@ -50,7 +50,8 @@ fn accepted(name: &'static str, pair: Pair) -> Row {
 /// The derivation from every state, with the least tables or with coarse postconditions.
 fn derive(sizes: &[usize], statement: &Statement, r: &Relation, coarse: bool) -> Derivation {
     let space = Space::new(sizes);
-    least(&space, statement, space.all(), r, coarse).expect("the row is made to hold")
+    let demand = Demand { p: space.all(), r, coarse };
+    least(&space, statement, demand).expect("the row is made to hold")
 }
 
 fn pair(sizes: &[usize], statement: Statement, derivation: Derivation) -> Pair {
@@ -71,10 +72,7 @@ fn typical() -> Pair {
 /// Ten parallels of two loops each, and a weaken over every node.
 fn large() -> Pair {
     let sizes = [4, 4, 4];
-    let blocks = [
-        parallel(count_down(0), count_up(1, 3)),
-        parallel(count_down(1), count_up(2, 3)),
-    ];
+    let blocks = [parallel(count_down(0), count_up(1, 3)), parallel(count_down(1), count_up(2, 3))];
     let more = (0..10).map(|index| blocks[index % 2].clone());
     let statement = in_order(more.chain([Statement::Nil, Statement::Nil]).collect());
     let root = derive(&sizes, &statement, &Relation::none(), true).doubled().under_weaken();
@@ -120,8 +118,6 @@ fn refused_at_last(large: Pair) -> Row {
         name: "large, refused at its last node",
         handler: pair.handler_file.bytes,
         proof: pair.proof_file.bytes,
-        expected: |verdict| {
-            verdict == Verdict::Refused { number: 35, place: Place::Node(126) }
-        },
+        expected: |verdict| verdict == Verdict::Refused { number: 35, place: Place::Node(126) },
     }
 }

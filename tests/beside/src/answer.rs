@@ -16,13 +16,13 @@ pub fn verdict(answer: u64) -> Verdict {
 #[cfg(test)]
 mod tests {
     use super::*;
+    use crate::{at_bit, at_node};
 
     #[test]
     fn answers() {
-        let refused = |number, place| Verdict::Refused { number, place };
         assert_eq!(verdict(0xFFFF_FFFF), Verdict::Accepted(u32::MAX));
-        assert_eq!(verdict(2 << 32), refused(1, Place::Bit(0)));
-        assert_eq!(verdict((36 << 32) + 23), refused(18, Place::Bit(23)));
-        assert_eq!(verdict((87 << 32) + 5), refused(43, Place::Node(5)));
+        assert_eq!(verdict(2 << 32), at_bit(1, 0));
+        assert_eq!(verdict((36 << 32) + 23), at_bit(18, 23));
+        assert_eq!(verdict((87 << 32) + 5), at_node(43, 5));
     }
 }

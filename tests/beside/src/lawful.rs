@@ -65,11 +65,19 @@ fn tables(handler: &[u8], proof: &[u8], words: &[u64]) -> Result<(), String> {
     };
     for (index, word) in words[..TABLE_WORDS].iter().enumerate() {
         let expected = if index < 16 {
-            if index < sets { row(index) } else { 0 }
+            if index < sets {
+                row(index)
+            } else {
+                0
+            }
         } else {
             let (relation, state) = ((index - 16) / 64, (index - 16) % 64);
             let there = relation < relations && state < states;
-            if there { row(sets + relation * states + state) } else { 0 }
+            if there {
+                row(sets + relation * states + state)
+            } else {
+                0
+            }
         };
         if *word != expected {
             return Err(format!("word {index} is {word:X}, not {expected:X}"));

@@ -5,7 +5,7 @@ pub mod lawful;
 #[cfg(feature = "proved")]
 pub mod proved;
 
-use reference::Verdict;
+use reference::{Place, Verdict};
 
 /// Something that decides two files and leaves tables in the work words.
 pub trait Checker {
@@ -64,6 +64,16 @@ pub fn judge_with(handler: &[u8], proof: &[u8], words: usize) -> Verdict {
         }
     }
     first.expect("the reference is always there").0
+}
+
+/// A refusal at a bit.
+pub fn at_bit(number: u32, bit: u32) -> Verdict {
+    Verdict::Refused { number, place: Place::Bit(bit) }
+}
+
+/// A refusal at a node.
+pub fn at_node(number: u32, node: u32) -> Verdict {
+    Verdict::Refused { number, place: Place::Node(node) }
 }
 
 /// What word `index` holds before a call: never 0, and no two alike.

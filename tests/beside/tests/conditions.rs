@@ -1,6 +1,6 @@
 //! Each condition, by a derivation made by hand that breaks it and no earlier one.
 
-use beside::judge;
+use beside::{at_node, judge};
 use generate::author::operate;
 use generate::derivation::{Derivation, Step, Tables};
 use generate::pairs::Pair;
@@ -8,7 +8,7 @@ use generate::programs::{number, parallel, read, repeat, sequence, store, when};
 use reference::language::{Expression, Handler, Operation, Statement};
 use reference::space::Space;
 use reference::states::{Relation, StateSet};
-use reference::{Place, Verdict};
+use reference::Verdict;
 
 /// The one variable c, of size 3.
 const STATES: usize = 3;
@@ -34,7 +34,13 @@ fn none() -> Relation {
 }
 
 /// A node with P, R and Q; its G holds every pair.
-fn node(step: Step, p: &[usize], r: Relation, q: Relation, children: Vec<Derivation>) -> Derivation {
+fn node(
+    step: Step,
+    p: &[usize],
+    r: Relation,
+    q: Relation,
+    children: Vec<Derivation>,
+) -> Derivation {
     Derivation { step, tables: Tables { p: states(p), r, g: every(), q }, children }
 }
 
@@ -49,7 +55,7 @@ fn guarantee(mut node: Derivation, g: Relation) -> Derivation {
 }
 
 fn looping(k: &[usize], w: Relation) -> Step {
-    Step::While { k: states(k), w }
+    Step::While { k: states(k), w: Box::new(w) }
 }
 
 fn c() -> Expression {
@@ -79,8 +85,7 @@ fn verdict(statement: Statement, derivation: Derivation) -> Verdict {
 }
 
 fn refused(statement: Statement, derivation: Derivation, number: u32, at: u32) {
-    let expected = Verdict::Refused { number, place: Place::Node(at) };
-    assert_eq!(verdict(statement, derivation), expected);
+    assert_eq!(verdict(statement, derivation), at_node(number, at));
 }
 
 fn accepted(statement: Statement, derivation: Derivation, steps: u32) {
@@ -93,10 +98,18 @@ fn rules() {
     let wrong = skip(&[], none(), none());
     refused(set(one()), wrong.clone().weakened(states(&[]), none()), 30, 1);
     // All of node 0 goes before the rule of node 1: here 61 at 0, and 30 at 1 once that holds.
-    let both = |q| node(Step::Sequence, &[0], none(), q, vec![
-        node(Step::Assignment, &[0], none(), pairs(&[(0, 0)]), vec![]),
-        skip(&[0], none(), pairs(&[(0, 0)])),
-    ]);
+    let both = |q| {
+        node(
+            Step::Sequence,
+            &[0],
+            none(),
+            q,
+            vec![
+                node(Step::Assignment, &[0], none(), pairs(&[(0, 0)]), vec![]),
+                skip(&[0], none(), pairs(&[(0, 0)])),
+            ],
+        )
+    };
     refused(sequence(nil(), nil()), both(none()), 61, 0);
     refused(sequence(nil(), nil()), both(every()), 30, 1);
 }

@@ -3,12 +3,12 @@
 //! `HANDOVER_COMPARISONS` asks for more than the default, `HANDOVER_SEED` for others.
 
 use beside::lawful::NUMBERS;
-use beside::{judge, judge_with};
+use beside::{at_bit, judge, judge_with};
 use generate::construct::{self, Constructed};
 use generate::damage::damaged;
 use generate::pairs::{accepted, Pair, Scale};
 use generate::random::Random;
-use reference::{Place, Verdict, LONGEST_FILE, TABLE_WORDS};
+use reference::{Verdict, LONGEST_FILE, TABLE_WORDS};
 use std::collections::BTreeMap;
 
 const LEAST_EACH: usize = 50;
@@ -97,6 +97,6 @@ fn host_fault(random: &mut Random, pair: &Pair) -> Verdict {
     let words = if short { random.below(TABLE_WORDS) } else { TABLE_WORDS + random.below(3) };
     let verdict = judge_with(&files[0], &files[1], words);
     let number = if short { 1 } else { 2 };
-    assert_eq!(verdict, Verdict::Refused { number, place: Place::Bit(0) });
+    assert_eq!(verdict, at_bit(number, 0));
     verdict
 }

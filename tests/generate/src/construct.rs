@@ -48,7 +48,11 @@ fn refused_at_bit(number: u32, bit: usize) -> Verdict {
 
 /// The file that has faults of this number.
 fn owner(pair: &Pair, number: u32) -> &Packed {
-    if number < 20 { &pair.handler_file } else { &pair.proof_file }
+    if number < 20 {
+        &pair.handler_file
+    } else {
+        &pair.proof_file
+    }
 }
 
 /// A file cut short: its last byte always holds a part of a field.

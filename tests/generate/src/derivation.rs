@@ -20,7 +20,7 @@ pub enum Step {
     Sequence,
     Parallel,
     If,
-    While { k: StateSet, w: Relation },
+    While { k: StateSet, w: Box<Relation> },
     Weaken,
 }
 
@@ -122,7 +122,7 @@ impl Derivation {
     /// Puts another relation wherever the derivation has this one.
     pub fn replace_relation(&mut self, old: &Relation, new: &Relation) {
         let w = match &mut self.step {
-            Step::While { w, .. } => Some(w),
+            Step::While { w, .. } => Some(&mut **w),
             _ => None,
         };
         let Tables { r, g, q, .. } = &mut self.tables;
@@ -163,10 +163,9 @@ impl Numbering {
             Step::Parallel => Rule::Parallel,
             Step::If => Rule::If,
             Step::Weaken => Rule::Weaken,
-            Step::While { k, w } => Rule::While {
-                k: number(&mut self.sets, k),
-                w: number(&mut self.relations, w),
-            },
+            Step::While { k, w } => {
+                Rule::While { k: number(&mut self.sets, k), w: number(&mut self.relations, &**w) }
+            }
         };
         let children = derivation.children.iter().map(|child| self.node(child)).collect();
         Node { rule, p, r, g, q, children }

@@ -3,13 +3,32 @@
 //!
 //! Each function returns a node whose P holds at least the states asked for, whose R is the
 //! one asked for, and whose G and Q are what the statement needs; `Derivation::settle` may
-//! enlarge G and Q afterwards, which no condition but 31 to 34 and the closure minds.
+//! enlarge G and Q afterwards.
 
 use crate::derivation::{Derivation, Step, Tables};
 use crate::random::Random;
 use reference::language::{Expression, Statement};
 use reference::space::Space;
 use reference::states::{Relation, StateSet};
+
+/// What a statement is derived under.
+#[derive(Clone, Copy)]
+pub struct Demand<'a> {
+    pub p: StateSet,
+    pub r: &'a Relation,
+    /// Asks for postconditions that hold every pair, so that a large handler needs few tables.
+    pub coarse: bool,
+}
+
+impl<'a> Demand<'a> {
+    fn from(self, p: StateSet) -> Demand<'a> {
+        Demand { p, ..self }
+    }
+
+    fn tables(self, g: Relation, q: Relation) -> Tables {
+        Tables { p: self.p, r: self.r.clone(), g, q }
+    }
+}
 
 pub struct Deriver<'a> {
     pub space: &'a Space,
@@ -23,108 +42,79 @@ pub struct Deriver<'a> {
 }
 
 impl Deriver<'_> {
-    /// `coarse` asks for postconditions that hold every pair, so that a large handler needs
-    /// few tables.
-    pub fn derive(
-        &mut self,
-        statement: &Statement,
-        p: StateSet,
-        r: &Relation,
-        coarse: bool,
-    ) -> Option<Derivation> {
+    pub fn derive(&mut self, statement: &Statement, demand: Demand) -> Option<Derivation> {
         self.effort = self.effort.checked_sub(1)?;
         if self.random.chance(self.weakens) {
-            if let Some(node) = self.weaken(statement, p, r, coarse) {
+            if let Some(node) = self.weaken(statement, demand) {
                 return Some(node);
             }
         }
-        self.rule(statement, p, r, coarse)
+        self.rule(statement, demand)
     }
 
-    fn rule(
-        &mut self,
-        statement: &Statement,
-        p: StateSet,
-        r: &Relation,
-        coarse: bool,
-    ) -> Option<Derivation> {
-        let p = r.reach().image(p);
+    fn rule(&mut self, statement: &Statement, demand: Demand) -> Option<Derivation> {
+        let demand = demand.from(demand.r.reach().image(demand.p));
         let mut node = match statement {
-            Statement::Nil => self.skip(p, r),
-            Statement::Assignment(variable, value) => self.assignment(*variable, value, p, r)?,
-            Statement::Sequence(left, right) => self.sequence(left, right, p, r, coarse)?,
-            Statement::Parallel(left, right) => self.parallel(left, right, p, r, coarse)?,
-            Statement::If(test, body) => self.if_rule(test, body, p, r, coarse)?,
-            Statement::While(test, body) => self.while_rule(test, body, p, r)?,
+            Statement::Nil => skip(demand),
+            Statement::Assignment(variable, value) => self.assignment(*variable, value, demand)?,
+            Statement::Sequence(left, right) => self.sequence(left, right, demand)?,
+            Statement::Parallel(left, right) => self.parallel(left, right, demand)?,
+            Statement::If(test, body) => self.if_rule(test, body, demand)?,
+            Statement::While(test, body) => self.while_rule(test, body, demand)?,
         };
-        if coarse {
+        if demand.coarse {
             node.tables.q = Relation::of_rows(vec![self.space.all(); self.space.states()]);
         }
         Some(node)
     }
 
     /// A weaken whose child bears a wider rely.
-    fn weaken(
-        &mut self,
-        statement: &Statement,
-        p: StateSet,
-        r: &Relation,
-        coarse: bool,
-    ) -> Option<Derivation> {
-        let mut wider = r.clone();
+    fn weaken(&mut self, statement: &Statement, demand: Demand) -> Option<Derivation> {
+        let mut wider = demand.r.clone();
         for _ in 0..self.random.below(4) {
             let (s, t) = (self.state(), self.state());
             wider.set_row(s, wider.row(s).with(t));
         }
-        let p = r.reach().image(p);
-        let child = self.rule(statement, p, &wider, coarse)?;
-        Some(child.weakened(p, r.clone()))
+        let p = demand.r.reach().image(demand.p);
+        let child = self.rule(statement, Demand { p, r: &wider, ..demand })?;
+        Some(child.weakened(p, demand.r.clone()))
     }
 
     fn state(&mut self) -> usize {
         self.random.below(self.space.states())
     }
 
-    fn skip(&self, p: StateSet, r: &Relation) -> Derivation {
-        let q = starting_in(p, &r.reach());
-        leaf(Step::Skip, Tables { p, r: r.clone(), g: Relation::none(), q })
-    }
-
     fn assignment(
         &self,
         variable: usize,
         value: &Expression,
-        p: StateSet,
-        r: &Relation,
+        demand: Demand,
     ) -> Option<Derivation> {
-        if value.occurrences(&|v| self.moves(p, r, v)) > 0 {
+        if value.occurrences(&|v| self.moves(demand, v)) > 0 {
             return None;
         }
         let (mut store, mut g) = (Relation::none(), Relation::none());
-        for s in p.members() {
+        for s in demand.p.members() {
             let end = self.space.store(s, variable, value.value(self.space.values(s)))?;
             store.set_row(s, StateSet::NONE.with(end));
             g.set_row(s, StateSet::NONE.with(end).without(s));
         }
-        let reach = r.reach();
-        let q = then(&starting_in(p, &reach), &then(&store, &reach));
-        Some(leaf(Step::Assignment, Tables { p, r: r.clone(), g, q }))
+        let reach = demand.r.reach();
+        let q = then(&starting_in(demand.p, &reach), &then(&store, &reach));
+        Some(leaf(Step::Assignment, demand.tables(g, q)))
     }
 
     fn sequence(
         &mut self,
         left: &Statement,
         right: &Statement,
-        p: StateSet,
-        r: &Relation,
-        coarse: bool,
+        demand: Demand,
     ) -> Option<Derivation> {
-        let left = self.derive(left, p, r, coarse)?;
+        let left = self.derive(left, demand)?;
         let p = left.tables.p;
-        let right = self.derive(right, left.tables.q.image(p), r, coarse)?;
+        let right = self.derive(right, demand.from(left.tables.q.image(p)))?;
         let q = starting_in(p, &then(&left.tables.q, &right.tables.q));
-        let g = left.tables.g.join(&right.tables.g);
-        let tables = Tables { p, r: r.clone(), g, q };
+        let tables = demand.from(p).tables(left.tables.g.join(&right.tables.g), q);
         Some(Derivation { step: Step::Sequence, tables, children: vec![left, right] })
     }
 
@@ -132,76 +122,79 @@ impl Deriver<'_> {
         &mut self,
         test: &Expression,
         body: &Statement,
-        p: StateSet,
-        r: &Relation,
-        coarse: bool,
+        demand: Demand,
     ) -> Option<Derivation> {
-        if test.occurrences(&|v| self.moves(p, r, v)) > 0 {
+        if test.occurrences(&|v| self.moves(demand, v)) > 0 {
             return None;
         }
         let holds = self.space.where_true(test);
-        let body = fitted(self.derive(body, p.meet(holds), r, coarse)?, p.meet(holds));
+        let inner = demand.p.meet(holds);
+        let body = fitted(self.derive(body, demand.from(inner))?, inner);
         // A weakened body may bring pairs from states of P where the test is false; what leads
         // there must have them too (32).
-        let reach = r.reach();
-        let ends = body.tables.q.join(&starting_in(p.minus(holds), &reach));
-        let q = ends.join(&starting_in(p, &then(&reach, &ends)));
-        let tables = Tables { p, r: r.clone(), g: body.tables.g.clone(), q };
+        let reach = demand.r.reach();
+        let ends = body.tables.q.join(&starting_in(demand.p.minus(holds), &reach));
+        let q = ends.join(&starting_in(demand.p, &then(&reach, &ends)));
+        let tables = demand.tables(body.tables.g.clone(), q);
         Some(Derivation { step: Step::If, tables, children: vec![body] })
     }
 
     /// P grows until the body keeps it; the body's P is what the test leaves under
-    /// interference, so K may be much smaller than P.
+    /// interference, so K may be much smaller than P. The body's Q must descend, so it is
+    /// never coarse.
     fn while_rule(
         &mut self,
         test: &Expression,
         body: &Statement,
-        p: StateSet,
-        r: &Relation,
+        demand: Demand,
     ) -> Option<Derivation> {
         let holds = self.space.where_true(test);
-        let mut p = p;
+        let mut demand = Demand { coarse: false, ..demand };
         loop {
-            let k = self.loop_k(p, r, holds);
-            let node = fitted(self.derive(body, p.meet(k), r, false)?, p.meet(k));
+            let k = self.loop_k(demand, holds);
+            let inner = demand.p.meet(k);
+            let node = fitted(self.derive(body, demand.from(inner))?, inner);
             let ends = node.tables.q.image(self.space.all());
-            let grown = r.reach().image(p.join(ends));
-            if grown == p {
-                return self.loop_node(test, p, k, r, node);
+            let grown = demand.r.reach().image(demand.p.join(ends));
+            if grown == demand.p {
+                return self.loop_node(test, k, node, demand);
             }
-            p = grown;
+            demand = demand.from(grown);
         }
     }
 
     /// The least K, at times with more of P and with states outside P that do not count.
-    fn loop_k(&mut self, p: StateSet, r: &Relation, holds: StateSet) -> StateSet {
+    fn loop_k(&mut self, demand: Demand, holds: StateSet) -> StateSet {
+        let (p, reach) = (demand.p, demand.r.reach());
+        let least = reach.image(p.meet(holds));
         if !self.noise {
-            return r.reach().image(p.meet(holds));
+            return least;
         }
-        let extra = if self.random.chance(15) { p } else { StateSet::NONE };
-        let extra = self.random.thinned(extra, 20).join(p.meet(holds));
-        let outside = if self.random.chance(30) { self.space.all().minus(p) } else { StateSet::NONE };
-        r.reach().image(extra).join(self.random.thinned(outside, 50))
+        let more = if self.random.chance(15) { p } else { StateSet::NONE };
+        let outside =
+            if self.random.chance(30) { self.space.all().minus(p) } else { StateSet::NONE };
+        let more = reach.image(self.random.thinned(more, 20));
+        least.join(more).join(self.random.thinned(outside, 50))
     }
 
     fn loop_node(
         &mut self,
         test: &Expression,
-        p: StateSet,
         k: StateSet,
-        r: &Relation,
         body: Derivation,
+        demand: Demand,
     ) -> Option<Derivation> {
+        let Demand { p, r, .. } = demand;
         let fails = p.minus(self.space.where_true(test));
-        let moved = test.occurrences(&|v| self.moves(p, r, v));
+        let moved = test.occurrences(&|v| self.moves(demand, v));
         if moved > 1 || !r.image(fails).meet(p).lies_in(fails) {
             return None;
         }
         let w = self.ranking(&body.tables.q.join(&moves_only(p, r)))?;
         let ends = |s: usize| w.row(s).with(s).meet(fails);
         let q = starting_in(p, &Relation::of_rows((0..64).map(ends)));
-        let tables = Tables { p, r: r.clone(), g: body.tables.g.clone(), q };
-        Some(Derivation { step: Step::While { k, w }, tables, children: vec![body] })
+        let tables = demand.tables(body.tables.g.clone(), q);
+        Some(Derivation { step: Step::While { k, w: Box::new(w) }, tables, children: vec![body] })
     }
 
     /// The least transitive W over the steps, at times with more pairs; none where a state
@@ -225,45 +218,39 @@ impl Deriver<'_> {
         &mut self,
         left: &Statement,
         right: &Statement,
-        p: StateSet,
-        r: &Relation,
-        coarse: bool,
+        demand: Demand,
     ) -> Option<Derivation> {
-        let mut p = p;
+        let mut demand = demand;
         let (mut left_g, mut right_g) = (Relation::none(), Relation::none());
         loop {
-            let left = self.derive(left, p, &r.join(&right_g), coarse)?;
-            let right = self.derive(right, p, &r.join(&left_g), coarse)?;
+            let left = self.derive(left, Demand { r: &demand.r.join(&right_g), ..demand })?;
+            let right = self.derive(right, Demand { r: &demand.r.join(&left_g), ..demand })?;
             let wider_left = left_g.join(&left.tables.g);
             let wider_right = right_g.join(&right.tables.g);
-            let reach = r.join(&wider_left).join(&wider_right).reach();
-            let grown = reach.image(p);
-            if grown == p && wider_left == left_g && wider_right == right_g {
-                let sides = [settled(fitted(left, p), &left_g), settled(fitted(right, p), &right_g)];
-                return Some(parallel_node(p, r, sides, &reach));
+            let reach = demand.r.join(&wider_left).join(&wider_right).reach();
+            let grown = reach.image(demand.p);
+            if grown == demand.p && wider_left == left_g && wider_right == right_g {
+                let left = settled(fitted(left, grown), &left_g);
+                let right = settled(fitted(right, grown), &right_g);
+                return Some(parallel_node([left, right], &reach, demand));
             }
-            (p, left_g, right_g) = (grown, wider_left, wider_right);
+            demand = demand.from(grown);
+            (left_g, right_g) = (wider_left, wider_right);
         }
     }
 
-    fn moves(&self, p: StateSet, r: &Relation, variable: usize) -> bool {
-        let from = |s: usize| r.row(s).members().any(|t| self.space.differ(variable, s, t));
-        p.members().any(from)
+    fn moves(&self, demand: Demand, variable: usize) -> bool {
+        let differ = |s: usize| move |t: usize| self.space.differ(variable, s, t);
+        demand.p.members().any(|s| demand.r.row(s).members().any(differ(s)))
     }
 }
 
 /// The derivation with the least tables, K and W among them, and no weaken that is not needed.
-pub fn least(
-    space: &Space,
-    statement: &Statement,
-    p: StateSet,
-    r: &Relation,
-    coarse: bool,
-) -> Option<Derivation> {
+pub fn least(space: &Space, statement: &Statement, demand: Demand) -> Option<Derivation> {
     let mut random = Random::new(0);
     let mut deriver =
         Deriver { space, random: &mut random, weakens: 0, noise: false, effort: 100_000 };
-    let root = deriver.derive(statement, p, r, coarse)?;
+    let root = deriver.derive(statement, demand)?;
     let g = root.tables.g.clone();
     Some(settled(root, &g))
 }
@@ -272,16 +259,16 @@ fn leaf(step: Step, tables: Tables) -> Derivation {
     Derivation { step, tables, children: vec![] }
 }
 
-fn parallel_node(
-    p: StateSet,
-    r: &Relation,
-    [left, right]: [Derivation; 2],
-    reach: &Relation,
-) -> Derivation {
-    let q = starting_in(p, &left.tables.q.meet(&right.tables.q).meet(reach));
-    let g = left.tables.g.join(&right.tables.g);
-    let tables = Tables { p, r: r.clone(), g, q };
-    Derivation { step: Step::Parallel, tables, children: vec![left, right] }
+fn skip(demand: Demand) -> Derivation {
+    let q = starting_in(demand.p, &demand.r.reach());
+    leaf(Step::Skip, demand.tables(Relation::none(), q))
+}
+
+fn parallel_node(sides: [Derivation; 2], reach: &Relation, demand: Demand) -> Derivation {
+    let [left, right] = [&sides[0].tables, &sides[1].tables];
+    let q = starting_in(demand.p, &left.q.meet(&right.q).meet(reach));
+    let tables = demand.tables(left.g.join(&right.g), q);
+    Derivation { step: Step::Parallel, tables, children: sides.into() }
 }
 
 /// The node with just this P, under a weaken where it has more.

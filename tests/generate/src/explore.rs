@@ -35,7 +35,10 @@ pub enum Breach {
 pub enum Exploration {
     /// All claims hold; so many moments were looked at, and so many own steps the longest
     /// run makes.
-    Holds { moments: usize, longest: u32 },
+    Holds {
+        moments: usize,
+        longest: u32,
+    },
     Broken(Breach),
     /// Given up: too many moments.
     TooLarge,

@@ -78,7 +78,7 @@ impl Packer {
     pub fn put(&mut self, what: What, value: u64, width: usize) {
         self.fields.push(Field { what, bit: self.bit, width });
         for place in (0..width).rev() {
-            if self.bit % 8 == 0 {
+            if self.bit.is_multiple_of(8) {
                 self.bytes.push(0);
             }
             if value >> place & 1 == 1 {

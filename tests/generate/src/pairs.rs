@@ -2,7 +2,7 @@
 
 use crate::author::{Author, Direction, Scope};
 use crate::derivation::Derivation;
-use crate::derive::{starting_in, then, Deriver};
+use crate::derive::{starting_in, then, Demand, Deriver};
 use crate::pack::{self, Packed};
 use crate::random::Random;
 use reference::handler_file::MOST_STATES;
@@ -76,7 +76,7 @@ fn attempt(random: &mut Random, scale: Scale) -> Option<Pair> {
     let weakens = *random.pick(&[0, 5, 20]);
     let p = random_set(random, space.all());
     let mut deriver = Deriver { space: &space, random, weakens, noise: true, effort: 600 };
-    let mut derivation = deriver.derive(&statement, p, &rely, coarse)?;
+    let mut derivation = deriver.derive(&statement, Demand { p, r: &rely, coarse })?;
     enlarge(random, &space, &mut derivation);
     Pair::new(Handler { space, statement }, derivation)
 }
@@ -133,7 +133,8 @@ fn random_rely(
 /// outside P, which no condition at the root minds.
 fn enlarge(random: &mut Random, space: &Space, root: &mut Derivation) {
     let share = *random.pick(&[0, 0, 3, 50]);
-    let mut some = || Relation::of_rows((0..space.states()).map(|_| random.thinned(space.all(), share)));
+    let states = 0..space.states();
+    let mut some = || Relation::of_rows(states.clone().map(|_| random.thinned(space.all(), share)));
     let g = root.tables.g.join(&some());
     let (p, reach) = (root.tables.p, root.tables.r.reach());
     let inside = then(&then(&starting_in(p, &reach), &some()), &reach);

@@ -22,7 +22,11 @@ pub fn store(variable: usize, value: Expression) -> Statement {
 /// A sum with this many leaves, the first `variables` of them variable 0.
 pub fn sum(leaves: u64, variables: u64) -> Expression {
     let leaf = |index: u64| {
-        if index < variables { read(0) } else { number(1) }
+        if index < variables {
+            read(0)
+        } else {
+            number(1)
+        }
     };
     (1..leaves).fold(leaf(0), |sum, index| operate(Operation::Add, sum, leaf(index)))
 }

@@ -36,9 +36,9 @@ pub fn turn(space: &Space, statement: &Statement, state: usize) -> Turn {
         Statement::Assignment(variable, Expression::Integer(value)) => {
             store(space, state, *variable, *value)
         }
-        Statement::Assignment(variable, value) => of_expression(space, value, state, |value| {
-            Statement::Assignment(*variable, value)
-        }),
+        Statement::Assignment(variable, value) => {
+            of_expression(space, value, state, |value| Statement::Assignment(*variable, value))
+        }
         Statement::Sequence(left, right) if **left == Statement::Nil => {
             Turn::only((**right).clone(), state)
         }
@@ -100,7 +100,8 @@ fn reads(space: &Space, expression: &Expression, state: usize) -> Vec<Expression
                 Expression::Operation(*operation, Box::new(left), Box::new(right))
             };
             let on_left = reads(space, left, state).into_iter().map(|l| with(l, (**right).clone()));
-            let on_right = reads(space, right, state).into_iter().map(|r| with((**left).clone(), r));
+            let on_right =
+                reads(space, right, state).into_iter().map(|r| with((**left).clone(), r));
             on_left.chain(on_right).collect()
         }
     }

@@ -17,7 +17,7 @@ pub fn derivation(statement: &Statement, r: &Relation) -> Derivation {
         Statement::Parallel(left, right) => (Step::Parallel, vec![part(left), part(right)]),
         Statement::If(_, body) => (Step::If, vec![part(body)]),
         Statement::While(_, body) => {
-            (Step::While { k: StateSet::NONE, w: Relation::none() }, vec![part(body)])
+            (Step::While { k: StateSet::NONE, w: Box::new(Relation::none()) }, vec![part(body)])
         }
     };
     let (g, q) = (r.clone(), Relation::none());

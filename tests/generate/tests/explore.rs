@@ -124,7 +124,10 @@ fn a_countdown_ends() {
 /// A store out of range stands still, even where the other side still steps.
 #[test]
 fn a_store_out_of_range_stands_still() {
-    let handler = handler(&[2, 2], parallel(store(0, number(2)), sequence(store(1, number(1)), store(1, number(0)))));
+    let handler = handler(
+        &[2, 2],
+        parallel(store(0, number(2)), sequence(store(1, number(1)), store(1, number(0)))),
+    );
     let promise = lenient(&handler, 100);
     assert_eq!(explore(&handler, &promise, 1000), Exploration::Broken(Breach::StandsStill));
 }

@@ -75,9 +75,7 @@ impl<'a> Examiner<'a> {
         match (statement, node.rule, children.as_slice()) {
             (_, Rule::Weaken, [child]) => weaken(&own, child),
             (Statement::Nil, ..) => skip(&own),
-            (Statement::Assignment(variable, value), ..) => {
-                self.assignment(&own, *variable, value)
-            }
+            (Statement::Assignment(variable, value), ..) => self.assignment(&own, *variable, value),
             (Statement::Sequence(..), _, [left, right]) => sequence(&own, left, right),
             (Statement::Parallel(..), _, [left, right]) => parallel(&own, left, right),
             (Statement::If(test, _), _, [body]) => self.if_rule(&own, body, test),
@@ -134,9 +132,10 @@ impl<'a> Examiner<'a> {
     fn moved(&self, own: &Tables) -> impl Fn(usize) -> bool {
         let mut moved = [false; 4];
         for (variable, is_moved) in moved.iter_mut().enumerate().take(self.space.sizes().len()) {
-            *is_moved = own.p.members().any(|s| {
-                own.r.row(s).members().any(|t| self.space.differ(variable, s, t))
-            });
+            *is_moved = own
+                .p
+                .members()
+                .any(|s| own.r.row(s).members().any(|t| self.space.differ(variable, s, t)));
         }
         move |variable| moved[variable]
     }

@@ -30,7 +30,10 @@ impl Fault {
 pub enum Verdict {
     /// Accepted, with the step number.
     Accepted(u32),
-    Refused { number: u32, place: Place },
+    Refused {
+        number: u32,
+        place: Place,
+    },
 }
 
 impl From<Fault> for Verdict {

@@ -13,8 +13,7 @@ pub const MOST_EXPRESSION_NODES: u32 = 31;
 pub fn read(bytes: &[u8]) -> Result<Handler, Fault> {
     let mut reader = Reader::new(bytes, 10, 18);
     let sizes = read_sizes(&mut reader)?;
-    let mut program =
-        Program { reader, variables: sizes.len(), statements: 0, wrong_kind: None };
+    let mut program = Program { reader, variables: sizes.len(), statements: 0, wrong_kind: None };
     let statement = program.statement(1)?;
     program.reader.finish()?;
     match program.wrong_kind {

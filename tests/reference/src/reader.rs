@@ -45,7 +45,7 @@ impl<'a> Reader<'a> {
 
     /// Behind the last field only zero bits fill the byte, and no byte follows.
     pub fn finish(mut self) -> Result<(), Fault> {
-        while self.bit % 8 != 0 {
+        while !self.bit.is_multiple_of(8) {
             let place = self.bit;
             if self.field(1)? == 1 {
                 return Err(Fault::at_bit(self.bad_fill, place));

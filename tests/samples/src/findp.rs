@@ -92,17 +92,20 @@ fn thread(counter: usize, result: usize, goes_on: Expression, hit: i64) -> State
 }
 
 fn statement() -> Statement {
-    let threads = parallel(
-        thread(OC, OT, odd_goes_on(), 1),
-        thread(EC, ET, even_goes_on(), 0),
-    );
+    let threads = parallel(thread(OC, OT, odd_goes_on(), 1), thread(EC, ET, even_goes_on(), 0));
     let odd_is_less = less(read(OT), plus(read(ET), number(1)));
     let even_is_less = less(plus(read(ET), read(ET)), read(OT));
     let result = sequence(
         when(odd_is_less, store(OC, plus(read(OT), read(OT)))),
         when(even_is_less, store(OC, plus(read(ET), number(1)))),
     );
-    let steps = [store(OT, number(2)), store(ET, number(1)), store(OC, number(0)), store(EC, number(0)), threads];
+    let steps = [
+        store(OT, number(2)),
+        store(ET, number(1)),
+        store(OC, number(0)),
+        store(EC, number(0)),
+        threads,
+    ];
     steps.into_iter().rev().fold(result, |rest, step| sequence(step, rest))
 }
 
@@ -132,7 +135,7 @@ impl Proof {
     }
 
     /// All pairs that end in the set.
-    fn into_set(&self, set: StateSet) -> Relation {
+    fn ending_in(&self, set: StateSet) -> Relation {
         Relation::of_rows(vec![set; self.space.states()])
     }
 
@@ -171,8 +174,14 @@ impl Proof {
             r: even.clone(),
             g: odd.clone(),
         });
-        let even_side =
-            self.thread(Side { counter: EC, result: ET, goes_on: even_goes_on(), hit: 0, r: odd, g: even });
+        let even_side = self.thread(Side {
+            counter: EC,
+            result: ET,
+            goes_on: even_goes_on(),
+            hit: 0,
+            r: odd,
+            g: even,
+        });
         let done = |test: Expression| p.minus(self.space.where_true(&test));
         let ended = done(odd_goes_on()).meet(done(even_goes_on()));
         let threads = self.alone(Step::Parallel, p, ended, vec![odd_side, even_side]);
@@ -206,9 +215,15 @@ impl Proof {
     }
 
     /// A node outside the threads: nobody else moves anything, and every step is allowed.
-    fn alone(&self, step: Step, p: StateSet, ends: StateSet, children: Vec<Derivation>) -> Derivation {
-        let g = self.into_set(self.space.all());
-        let tables = Tables { p, r: Relation::none(), g, q: self.into_set(ends) };
+    fn alone(
+        &self,
+        step: Step,
+        p: StateSet,
+        ends: StateSet,
+        children: Vec<Derivation>,
+    ) -> Derivation {
+        let g = self.ending_in(self.space.all());
+        let tables = Tables { p, r: Relation::none(), g, q: self.ending_in(ends) };
         Derivation { step, tables, children }
     }
 
@@ -232,6 +247,6 @@ impl Proof {
         let found = node(Step::If, k, &stays, vec![node(Step::Assignment, hit, &stays, vec![])]);
         let next = node(Step::Assignment, looked_at, &w, vec![]);
         let body = node(Step::Sequence, k, &w, vec![found, next]);
-        node(Step::While { k, w: w.clone() }, p, &self.into_set(ended), vec![body])
+        node(Step::While { k, w: Box::new(w.clone()) }, p, &self.ending_in(ended), vec![body])
     }
 }

@@ -3,7 +3,7 @@
 use crate::Sample;
 use generate::author::operate;
 use generate::derivation::{Derivation, Step, Tables};
-use generate::derive::least;
+use generate::derive::{least, Demand};
 use generate::pairs::Pair;
 use generate::programs::{count_down, count_up, number, parallel, read, repeat, sequence, store};
 use reference::language::{Handler, Operation, Statement};
@@ -13,7 +13,8 @@ use reference::states::{Relation, StateSet};
 /// The pair with the least tables for this precondition and rely.
 fn derived(sizes: &[usize], statement: Statement, p: StateSet, r: &Relation) -> Pair {
     let space = Space::new(sizes);
-    let derivation = least(&space, &statement, p, r, false).expect("the sample holds");
+    let derivation =
+        least(&space, &statement, Demand { p, r, coarse: false }).expect("the sample holds");
     Pair::new(Handler { space, statement }, derivation).expect("the sample is small")
 }
 

@@ -63,7 +63,8 @@ struct Words<'a> {
 impl Words<'_> {
     fn variables(&self) -> String {
         let sizes = self.space.sizes();
-        let each = self.names.iter().zip(sizes).map(|(name, size)| format!("{name} of size {size}"));
+        let each =
+            self.names.iter().zip(sizes).map(|(name, size)| format!("{name} of size {size}"));
         let all: Vec<String> = each.collect();
         format!("Variables: {}", all.join(", "))
     }

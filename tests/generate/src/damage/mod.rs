@@ -39,8 +39,7 @@ const HANDLER_FIELDS: [What; 7] = [
     What::Operation,
 ];
 
-const PROOF_FIELDS: [What; 4] =
-    [What::Count, What::Rule, What::SetNumber, What::RelationNumber];
+const PROOF_FIELDS: [What; 4] = [What::Count, What::Rule, What::SetNumber, What::RelationNumber];
 
 /// A bit flipped, a file cut short or made longer.
 fn bytes(random: &mut Random, file: &Packed) -> Vec<u8> {
