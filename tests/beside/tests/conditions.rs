@@ -190,6 +190,7 @@ fn loops() {
     refused(while_c_is(0), idle(&[0, 1], down(), every(), &[0], down()), 53, 0);
     refused(while_c_is(1), idle(&[0, 1], down(), every(), &[0, 1], down()), 54, 0);
     refused(never(), idle(&[0, 1], down(), every(), &[], none()), 55, 0);
+    accepted(never(), idle(&[0, 1], pairs(&[(0, 0), (2, 1)]), every(), &[], none()), 8);
     refused(never(), idle(&[0], none(), pairs(&[(0, 1)]), &[], none()), 56, 0);
     refused(never(), idle(&[0, 1], none(), pairs(&[(0, 0), (1, 1)]), &[], down()), 56, 0);
     // The body assumes K, not the test: with the test's states alone it would be accepted.

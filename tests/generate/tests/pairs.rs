@@ -1,9 +1,10 @@
 //! The generator keeps its word: its pairs are accepted, varied, and packed as they read.
 
-use generate::derivation::{Derivation, Step};
+use generate::derivation::{Derivation, Step, Tables};
 use generate::pairs::{accepted, Pair, Scale};
 use generate::random::Random;
 use reference::language::Statement;
+use reference::space::Space;
 use reference::{check, handler_file, proof_file, Verdict, TABLE_WORDS};
 
 fn some_pairs(seed: u64, count: usize) -> impl Iterator<Item = Pair> {
@@ -47,7 +48,7 @@ fn pairs_are_varied() {
 
 type Shape = (&'static str, fn(&Pair) -> bool);
 
-const SHAPES: [Shape; 12] = [
+const SHAPES: [Shape; 13] = [
     ("a skip", |pair| any(&pair.derivation, &|n| matches!(n.step, Step::Skip))),
     ("an assignment", |pair| any(&pair.derivation, &|n| matches!(n.step, Step::Assignment))),
     ("a sequence", |pair| any(&pair.derivation, &|n| matches!(n.step, Step::Sequence))),
@@ -58,6 +59,9 @@ const SHAPES: [Shape; 12] = [
     ("a parallel in a loop", |pair| nested(&pair.handler.statement, is_loop, is_parallel)),
     ("K smaller than P", |pair| any(&pair.derivation, &smaller_k)),
     ("a loop under interference", |pair| any(&pair.derivation, &interfered_loop)),
+    ("a loop whose test reads a moved variable", |pair| {
+        reads_moved(&pair.derivation, &pair.handler.statement, &pair.handler.space)
+    }),
     ("64 states", |pair| pair.handler.space.states() == 64),
     ("an empty P", |pair| pair.derivation.tables.p.members().next().is_none()),
 ];
@@ -69,13 +73,29 @@ fn any(node: &Derivation, shape: &dyn Fn(&Derivation) -> bool) -> bool {
 /// A loop that starts somewhere, with a K that leaves out a part of P.
 fn smaller_k(node: &Derivation) -> bool {
     let p = node.tables.p;
-    matches!(node.step, Step::While { k, .. } if !p.lies_in(k) && p.meet(k).members().next().is_some())
+    let Step::While { k, .. } = node.step else { return false };
+    !p.lies_in(k) && p.meet(k).members().next().is_some()
 }
 
 fn interfered_loop(node: &Derivation) -> bool {
     let Step::While { k, .. } = node.step else { return false };
     let moved = |s: usize| node.tables.r.row(s).without(s).members().next().is_some();
     node.tables.p.meet(k).members().any(moved)
+}
+
+/// Whether a loop's test reads a variable that its rely moves.
+fn reads_moved(node: &Derivation, statement: &Statement, space: &Space) -> bool {
+    let Tables { p, r, .. } = &node.tables;
+    let moved = |v: usize| p.members().any(|s| r.row(s).members().any(|t| space.differ(v, s, t)));
+    let below = match node.step {
+        Step::Weaken => vec![statement],
+        _ => parts(statement),
+    };
+    let here = match (&node.step, statement) {
+        (Step::While { .. }, Statement::While(test, _)) => test.occurrences(&moved) > 0,
+        _ => false,
+    };
+    here || node.children.iter().zip(below).any(|(child, part)| reads_moved(child, part, space))
 }
 
 fn is_parallel(statement: &Statement) -> bool {
