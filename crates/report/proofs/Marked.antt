@@ -1,0 +1,74 @@
+-- Document 01, "Cases": the twelve marked cases, as one list and one theorem about the definitions. Each case is the bytes
+-- that the check program prints, or the numbers that the document states.
+use Prim.Native.Nat.{ℕ}
+use mathlib.Core.Path.{_≡_, refl}
+use mathlib.Core.List.{List, [], _∷_}
+use mathlib.Core.Option.{Option, none, some}
+use lib.IntN.{pos}
+use Rattle.bits.specs.Fields.{bitLength, bitAt, bitsAt, isThere, fieldAt, firstSet, fillBits, furtherByte, fillFrom, fillAt}
+use Rattle.states.specs.Search.{implies, all, any, must, given, named, orElse, each, holds}
+use Rattle.states.specs.Relations.{within, reach}
+use Rattle.semantics.specs.Language.{lit, var, op, int, nil, assign, seq, while}
+use Rattle.semantics.specs.States.{valueOf, machineOf}
+use Rattle.semantics.specs.Steps.{at}
+use Rattle.semantics.specs.Runs.{own, other, onStep, run}
+use Rattle.semantics.specs.StepNumber.{steps}
+use Rattle.semantics.specs.Derivations.{skip, iteration}
+use Rattle.semantics.specs.Conditions.{inSet, sameSet, sameRelation, liesIn, isTrue, isFalse, afterStore, inRange, toAfter, moves, c31, c32, c33, c34while, c35, c40, c41, c42, c43, c50, c51, c52, c53, c54, c55, c56}
+use Rattle.semantics.specs.Checking.{Broken, firstFault}
+use Rattle.semantics.proofs.Cases.{twice, either, both-ways, under}
+use Rattle.handler.specs.Header.{sizeRead, addSize, sizesRead, countRead, headerAt, sizesOf}
+use Rattle.handler.specs.Expressions.{signed, integerHead, truthHead, variableHead, operationHead, payloadHead, tagHead, exprHead, exprAt, wholeExpr}
+use Rattle.handler.specs.Statements.{targetHead, codeHead, markHead, stmtHead, stmtAt, wholeStmt}
+use Rattle.handler.specs.Reading.{HandlerRead, handler, refused, readHandler}
+use Rattle.derivation.specs.Tables.{setAt, rowAt, tablesThere, isCount, relationsRead, setsRead, tablesAt, inSetOf, inRelationOf}
+use Rattle.derivation.specs.Nodes.{onName, named as namedTable, loopHead, namesHead, ruleHead, nodeHead, nodeAt, wholeNode}
+use Rattle.derivation.specs.Reading.{readProof}
+use Rattle.rules.specs.Verdicts.{answer}
+use Rattle.report.specs.Line.{ascii, digits, decimal, placeText, wordsOf, lineOf}
+
+-- What the check program prints for two files.
+abbrev line : List ℕ → List ℕ → List ℕ
+line hb pb = lineOf (answer hb pb 1040 .verdict)
+
+-- One variable c of size 2, c ← 1; and the proof with P {0,1}, R none, G {(0,1)}, Q {(0,1),(1,1)}.
+abbrev sample-handler : List ℕ
+sample-handler = 0x22 ∷ 0x20 ∷ 0x02 ∷ []
+
+abbrev sample-proof : List ℕ
+sample-proof = 0x08 ∷ 0xF0 ∷ 0x45 ∷ 0x20 ∷ 0x02 ∷ 0x40 ∷ []
+
+-- N of a handler file, or the number and place of its fault.
+abbrev size-or-fault : HandlerRead → List ℕ
+size-or-fault (handler count n at S) = n ∷ []
+size-or-fault (refused k place) = k ∷ place ∷ []
+
+abbrev number-and-node : Option Broken → List ℕ
+number-and-node none = []
+number-and-node (some b) = b .number ∷ b .node ∷ []
+
+abbrev marked : List (List ℕ)
+marked =
+    line sample-handler sample-proof
+    ∷ line sample-handler (0x08 ∷ 0xF0 ∷ 0x45 ∷ 0x20 ∷ 0x00 ∷ 0x40 ∷ [])
+    ∷ line [] sample-proof
+    ∷ line (0x22 ∷ []) sample-proof
+    ∷ line (0x22 ∷ 0x20 ∷ 0x03 ∷ []) sample-proof
+    -- d ← c + c takes 4 steps; reads of c as 0 then 1 give d the odd value 1
+    ∷ (steps 6 twice ∷ [])
+    ∷ onStep (run (machineOf (2 ∷ 3 ∷ [])) (own 0 ∷ other 3 ∷ own 0 ∷ own 0 ∷ own 0 ∷ []) (at twice 0)) [] (λ c. valueOf (2 ∷ 3 ∷ []) (c .state) 1 ∷ [])
+    -- while c > 0 do c ← c − 1 over 4 states; a sequence of nil and nil
+    ∷ (steps 4 (while (op 4 (var 0) (lit (int (pos 0)))) (assign 0 (op 1 (var 0) (lit (int (pos 1)))))) ∷ [])
+    ∷ (steps 4 (seq nil nil) ∷ [])
+    -- sizes 8, 8 and 13, 5, with the statement nil
+    ∷ size-or-fault (readHandler (0x48 ∷ 0x40 ∷ []))
+    ∷ size-or-fault (readHandler (0x4D ∷ 0x28 ∷ []))
+    -- a while's test (c = 0) ∨ (c = 1) with c of size 2 and moved
+    ∷ number-and-node (firstFault both-ways (iteration (under 1) 0 2 (skip (under 2))) (while either nil) 0)
+    ∷ []
+
+pub twelve : marked
+    ≡ ascii "accepted 1\n" ∷ ascii "refused 43 node 0\n" ∷ ascii "refused 10 bit 0\n" ∷ ascii "refused 10 bit 8\n" ∷ ascii "refused 18 bit 23\n"
+    ∷ (4 ∷ []) ∷ (1 ∷ []) ∷ (28 ∷ []) ∷ (1 ∷ []) ∷ (64 ∷ []) ∷ (13 ∷ 8 ∷ []) ∷ (50 ∷ 0 ∷ []) ∷ []
+unfolding bitLength bitAt bitsAt isThere fieldAt firstSet fillBits furtherByte fillFrom fillAt implies all any must given named orElse each holds within reach inSet sameSet sameRelation liesIn isTrue isFalse afterStore inRange toAfter moves c31 c32 c33 c34while c35 c40 c41 c42 c43 c50 c51 c52 c53 c54 c55 c56 sizeRead addSize sizesRead countRead headerAt sizesOf signed integerHead truthHead variableHead operationHead payloadHead tagHead exprHead exprAt wholeExpr targetHead codeHead markHead stmtHead stmtAt wholeStmt readHandler setAt rowAt tablesThere isCount relationsRead setsRead tablesAt inSetOf inRelationOf onName namedTable loopHead namesHead ruleHead nodeHead nodeAt wholeNode readProof answer digits decimal placeText wordsOf lineOf
+twelve = refl
