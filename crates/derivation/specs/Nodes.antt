@@ -10,6 +10,10 @@ use Rattle.bits.specs.declared.Field.the-variants.{Value, Missing}
 use Rattle.semantics.specs.Derivations.{Names, Derivation, skip, assignment, sequence, parallel, conditional, iteration, weaken}
 use Rattle.derivation.specs.declared.NodeHead.{NodeHead}
 use Rattle.derivation.specs.declared.NodeHead.the-variants.{Node, Fault}
+use Rattle.derivation.specs.declared.Names.{Names as NamesRead}
+use Rattle.derivation.specs.declared.Names.the-variants as Read
+use Rattle.derivation.specs.declared.NodeEnd.{NodeEnd}
+use Rattle.derivation.specs.declared.NodeEnd.the-variants as End
 
 -- 23: no such set or relation, at its field.
 unfoldable pub onName : List ℕ → ℕ → ℕ → Field → (ℕ → NodeHead) → NodeHead
@@ -18,6 +22,11 @@ onName bytes limit at (Value i next) f = cond (ltb i limit) (f i) (Fault 23 at)
 
 unfoldable pub named : List ℕ → ℕ → ℕ → (ℕ → NodeHead) → NodeHead
 named bytes limit at f = onName bytes limit at (fieldAt bytes at 4) f
+
+-- What two tables read one after the other give to what is read behind them.
+unfoldable pub onPair : NamesRead → (ℕ → ℕ → ℕ → NodeHead) → NodeHead
+onPair (Read.Pair i j next) f = f i j next
+onPair (Read.Fault k place) f = Fault k place
 
 module _ (bytes : List ℕ) (sets relations : ℕ) where
   -- K and W of a while, which are 0 at any other rule.
@@ -79,3 +88,8 @@ nodeAt (suc levels) bytes sets relations before at =
 
 unfoldable pub wholeNode : List ℕ → ℕ → ℕ → ℕ → NodeRead
 wholeNode bytes sets relations at = nodeAt 25 bytes sets relations 0 at
+
+-- What the code answers of a derivation.
+unfoldable pub endOf : NodeRead → NodeEnd
+endOf (whole d before next) = End.Ends before next
+endOf (fault k place) = End.Fault k place

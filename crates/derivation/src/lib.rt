@@ -1,5 +1,8 @@
 // The proof file, read from its bits: the tables go into the caller's work words, and a node is the number of its first bit.
-ghost use mathlib.Core.Path.{_≡_};
+pub mod header;
+pub mod nodes;
+pub mod reading;
+pub mod words;
 
 // What the head of the file finds over N states: how many sets and relations, and the root node's first bit; or a fault.
 pub enum Tables {
@@ -11,6 +14,18 @@ pub enum Tables {
 // behind; or a fault.
 pub enum NodeHead {
     Node(u32, u32, u32, u32, u32, u32, u32, usize),
+    Fault(u32, usize),
+}
+
+// Two tables that a node names one after the other, with the cursor behind them; or a fault.
+enum Names {
+    Pair(u32, u32, usize),
+    Fault(u32, usize),
+}
+
+// Where the derivation at a node ends: how many nodes the file has so far, and the cursor behind it; or the first fault.
+pub enum NodeEnd {
+    Ends(u32, usize),
     Fault(u32, usize),
 }
 

@@ -1,0 +1,77 @@
+-- Each way out is one case of the definition, at the field that was read and the tests that led there.
+use Prim.Native.Nat.{_≤_}
+use mathlib.Core.Bool.{and-eq-true-iff}
+use mathlib.Core.Path.{sym, _∙_}
+use native.Mathlib.Omega.{arith}
+use borrow.Author.Needs.{needs}
+use borrow.Author.Tests.{leb-true}
+use Rattle.derivation.specs.Tables.{tablesThere, relationsRead}
+use Rattle.derivation.proofs.Counts.{count-range}
+use Rattle.derivation.proofs.header.read_relations.Statement.{statement}
+use Rattle.derivation.proofs.header.read_relations.Tie as tie
+
+returns : tie.Need-returns
+unfolding relationsRead
+returns c = rw (← c .before .before .before .read .ensures, c .before .enum-told .given .1, c .bit-length .ensures)
+
+counted : (c : tie.Then1) → (1 ≤ c .before .before .before .count .given .0 .0) × (c .before .before .before .count .given .0 .0 ≤ 16)
+counted c = count-range _ (sym (c .before .is-count .ensures) ∙ c .if1 .taken)
+
+row-at-requires : tie.Need-row-at-requires
+unfolding tablesThere
+row-at-requires c κs =
+    let tests = simp and-eq-true-iff at (sym (c .before .are-there .ensures) ∙ c .if2 .taken) in
+    omega (arith, leb-true, counted (c .before .before))
+
+returns-2 : tie.Need-returns-2
+unfolding relationsRead
+returns-2 c =
+    let judged = c .before .before .before in
+    let field = judged .before .before .before in
+    rw
+    (← field .before .before .read .ensures,
+    field .count .given .1,
+    ← judged .before .is-count .ensures,
+    judged .if1 .taken,
+    ← c .before .before .are-there .ensures,
+    c .before .if2 .taken,
+    c .row-at .ensures)
+
+returns-3 : tie.Need-returns-3
+unfolding relationsRead
+returns-3 c =
+    let judged = c .before .before .before in
+    let field = judged .before .before .before in
+    rw
+    (← field .before .before .read .ensures,
+    field .count .given .1,
+    ← judged .before .is-count .ensures,
+    judged .if1 .taken,
+    ← c .before .before .are-there .ensures,
+    c .before .if2 .left,
+    c .bit-length2 .ensures)
+
+returns-4 : tie.Need-returns-4
+unfolding relationsRead
+returns-4 c =
+    let field = c .before .before .before in
+    rw (← field .before .before .read .ensures, field .count .given .1, ← c .before .is-count .ensures, c .if1 .left)
+
+pub read-relations-spec : {M : Type 1} → statement M
+read-relations-spec =
+    tie.close
+    (tie.spec
+    (λ c κs. search needs)
+    (λ c. search needs)
+    (λ c. search needs)
+    (λ c κs. search needs)
+    returns
+    (λ c κs. search needs)
+    (λ c. omega (arith, counted c))
+    (λ c κs. omega (arith, counted c))
+    (λ c. search needs)
+    row-at-requires
+    returns-2
+    (λ c κs. search needs)
+    returns-3
+    returns-4)

@@ -1,0 +1,30 @@
+-- With so few states and tables no product is large.
+use borrow.Author.Needs.{needs}
+use Prim.Native.Nat.{_+_, _*_, _≤_}
+use mathlib.Core.Path.{refl}
+use native.Mathlib.Omega.{arith}
+use Rattle.derivation.specs.Tables.{rowAt}
+use Rattle.derivation.proofs.Counts.{row-offsets}
+use Rattle.derivation.proofs.header.row_at.Statement.{statement}
+use Rattle.derivation.proofs.header.row_at.Tie as tie
+
+small : (c : tie.Start) → (c .args .n * c .args .relation ≤ 1024) × (c .args .n * (c .args .sets + c .args .n * c .args .relation + c .args .state) ≤ 64 * 1104)
+small c =
+    let a = c .args in
+    let p = c .pre in
+    row-offsets (a .n) (a .sets) (a .relation) (a .state) (p .0) (p .1) (p .2) (p .3)
+
+returns : tie.Need-returns
+unfolding rowAt
+returns c = refl
+
+pub row-at-spec : {M : Type 1} → statement M
+row-at-spec =
+    tie.close
+    (tie.spec
+    (λ c. omega (arith, small c))
+    (λ c. omega (arith, small c))
+    (λ c. omega (arith, small c))
+    (λ c. omega (arith, small c))
+    (λ c. omega (arith, small c))
+    returns)

@@ -1,0 +1,101 @@
+-- The answer goes by where the nodes end and what stands behind them, and each way out is one of those cases.
+use Prim.Native.Nat.{ℕ}
+use mathlib.Core.List.{List}
+use mathlib.Core.Path.{_≡_, refl}
+use borrow.Author.Needs.{needs}
+use Rattle.bits.specs.Fields.{fillAt}
+use Rattle.bits.specs.declared.Fill.{Fill}
+use Rattle.bits.specs.declared.Fill.the-variants.{Ends, Wrong}
+use Rattle.semantics.specs.Derivations.{Derivation}
+use Rattle.derivation.specs.declared.NodeEnd.{NodeEnd}
+use Rattle.derivation.specs.declared.NodeEnd.the-variants as End
+use Rattle.derivation.specs.declared.ProofFile.{ProofFile}
+use Rattle.derivation.specs.declared.ProofFile.the-variants.{Proof, Fault}
+use Rattle.derivation.specs.Nodes.{NodeRead, whole, fault, endOf}
+use Rattle.derivation.specs.Reading.{onFill, onNodes, readProof, fileOf}
+use Rattle.derivation.proofs.reading.read_proof.Statement.{statement}
+use Rattle.derivation.proofs.reading.read_proof.Tie as tie
+
+abbrev fillFile : ℕ → ℕ → ℕ → Fill → ProofFile
+fillFile sets relations at Ends = Proof sets relations at
+fillFile sets relations at (Wrong place) = Fault 25 place
+
+abbrev endFile : List ℕ → ℕ → ℕ → ℕ → NodeEnd → ProofFile
+endFile bytes sets relations at (End.Fault k place) = Fault k place
+endFile bytes sets relations at (End.Ends count next) = fillFile sets relations at (fillAt bytes next)
+
+fill-file : (sets relations at : ℕ) (d : Derivation) (f : Fill) → fileOf (onFill sets relations at d f) ≡ fillFile sets relations at f
+fill-file sets relations at d Ends = refl
+fill-file sets relations at d (Wrong place) = refl
+
+end-file : (bytes : List ℕ) (sets relations at : ℕ) (r : NodeRead)
+  → fileOf (onNodes bytes sets relations at r) ≡ endFile bytes sets relations at (endOf r)
+unfolding endOf
+end-file bytes sets relations at (whole d count next) = fill-file sets relations at d (fillAt bytes next)
+end-file bytes sets relations at (fault k place) = refl
+
+returns : tie.Need-returns
+unfolding readProof
+returns c = rw (← c .before .before .before .read-tables .ensures, c .before .fault .given .1)
+
+returns-2 : tie.Need-returns-2
+unfolding readProof
+returns-2 c =
+    let walked = c .before .before .before in
+    let counts = walked .before .before in
+    rw
+    (← counts .before .before .read-tables .ensures,
+    counts .sets .given .1,
+    end-file,
+    ← walked .node-end .ensures,
+    c .before .fault2 .given .1)
+
+returns-3 : tie.Need-returns-3
+unfolding readProof
+returns-3 c =
+    let filled = c .before .before .before in
+    let ended = filled .before .before in
+    let walked = ended .before .before in
+    let counts = walked .before .before in
+    rw
+    (← counts .before .before .read-tables .ensures,
+    counts .sets .given .1,
+    end-file,
+    ← walked .node-end .ensures,
+    ended .next .given .1,
+    ← filled .read-fill .ensures,
+    c .before .place .given .1)
+
+returns-4 : tie.Need-returns-4
+unfolding readProof
+returns-4 c =
+    let filled = c .before .before in
+    let ended = filled .before .before in
+    let walked = ended .before .before in
+    let counts = walked .before .before in
+    rw
+    (← counts .before .before .read-tables .ensures,
+    counts .sets .given .1,
+    end-file,
+    ← walked .node-end .ensures,
+    ended .next .given .1,
+    ← filled .read-fill .ensures,
+    c .enum-told .given .1)
+
+pub read-proof-spec : {M : Type 1} → statement M
+read-proof-spec =
+    tie.close
+    (tie.spec
+    (λ c κs. search needs)
+    (λ c. search needs)
+    (λ c. search needs)
+    (λ c κs. search needs)
+    (λ c. search needs)
+    (λ c. search needs)
+    (λ c κs. search needs)
+    (λ c. search needs)
+    (λ c. search needs)
+    returns
+    returns-2
+    returns-3
+    returns-4)

@@ -1,0 +1,58 @@
+-- After j turns the first j words are the tables' and the others as they were; `fill-more` adds one.
+use Prim.Native.Nat.{_+_, _-_, min, _≤_, _<_}
+use mathlib.Core.List.{_++_}
+use mathlib.Core.Path.{_≡_, refl, sym, _∙_, ap}
+use native.Mathlib.Omega.{arith}
+use borrow.Author.Needs.{needs}
+use lib.ListN.{length, drop}
+use Rattle.derivation.specs.Tables.{tableWord, tabulate, written}
+use Rattle.derivation.proofs.Buffers.{length-filled, fill-more}
+use Rattle.derivation.proofs.words.fill.Statement.{statement}
+use Rattle.derivation.proofs.words.fill.Tie as tie
+
+abbrev Inv-loop : tie.InvT-loop
+Inv-loop src n sets relations work₀ count j₀ work j =
+    (j ≤ count) × (work ≡ tabulate j (tableWord src n sets relations) ++ drop j work₀)
+
+abbrev μ-loop : tie.MeasureT-loop
+μ-loop src n sets relations work₀ count j₀ work j = count - j
+
+loop-holds : tie.Need-loop-holds Inv-loop μ-loop
+unfolding tabulate
+loop-holds c = (search needs, refl)
+
+-- The buffer keeps its length.
+kept : (c : tie.At-loop Inv-loop μ-loop) → length (c .loop .work) ≡ length (c .before .before .before .before .args .work .now)
+kept c =
+    let a = c .before .before .before .before .args in
+    ap length (c .loop .inv .1)
+    ∙ length-filled (tableWord (a .src .now) (a .n) (a .sets) (a .relations)) (a .work .now) (c .loop .j) (omega arith)
+
+loop-again : tie.Need-loop-again Inv-loop μ-loop
+loop-again c =
+    let l = c .before .before .loop in
+    (search needs, rw (l .inv .1, c .table-word .ensures) (fill-more _ _ (l .j) (omega arith)))
+
+returns : tie.Need-returns Inv-loop μ-loop
+unfolding written
+returns c =
+    let l = c .before .loop in
+    let all : l .j ≡ min 1040 (length (c .before .before .before .before .before .args .work .now)) = omega arith in
+    rw (l .inv .1, all)
+
+pub fill-spec : {M : Type 1} → statement M
+fill-spec =
+    tie.close
+    (tie.spec
+    Inv-loop
+    μ-loop
+    (λ c κs. search needs)
+    loop-holds
+    (λ c κs. search needs)
+    (λ c. omega (arith, kept (c .before .before)))
+    (λ c. omega (arith, kept (c .before .before)))
+    (λ c. search needs)
+    (λ c. search needs)
+    loop-again
+    (λ c. kept (c .before))
+    returns)

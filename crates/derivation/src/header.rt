@@ -1,0 +1,69 @@
+// The head of the proof file: its two counts, and whether its sets and relations are there in full.
+use super::Tables;
+use bits::Field;
+ghost use mathlib.Core.Path.{_≡_};
+ghost use Prim.Native.Nat.{_≤_};
+ghost use Rattle.bits.specs.Fields.{fieldAt};
+ghost use Rattle.derivation.specs.Tables.{rowAt, tablesThere, isCount, relationsRead, tablesAt};
+
+// Whether a count of sets or relations is 1 to 16.
+fn is_count(k: u64) -> bool
+    ensures { λ r. ⌜ r ≡ isCount k ⌝ }
+{
+    if k < 1 {
+        return false;
+    }
+    k <= 16
+}
+
+// The first bit of a relation's row; the root node stands where the first relation too many would.
+pub(crate) fn row_at(n: usize, sets: usize, relation: usize, state: usize) -> usize
+    requires { ⌜ (n ≤ 64) × (sets ≤ 16) × (relation ≤ 16) × (state ≤ 64) ⌝ }
+    ensures { λ r. ⌜ r ≡ rowAt n sets relation state ⌝ }
+{
+    10 + n * (sets + n * relation + state)
+}
+
+// Whether every set and row is there in full. The last bit is tested by its byte: 8 * len need not fit.
+fn are_there(src: &[u8], n: u32, sets: u32, relations: u32) -> bool
+    requires { ⌜ (sets ≤ 16) × (relations ≤ 16) ⌝ }
+    ensures { λ r. ⌜ r ≡ tablesThere (now (src .entry)) n sets relations ⌝ }
+{
+    if n < 1 || n > 64 {
+        return false;
+    }
+    let end = row_at(n as usize, sets as usize, relations as usize, 0);
+    (end - 1) / 8 < src.len()
+}
+
+// The number of relations, and then the tables of a file with so many sets.
+fn read_relations(src: &[u8], n: u32, sets: u32) -> Tables
+    requires { ⌜ sets ≤ 16 ⌝ }
+    ensures { λ r. ⌜ r ≡ relationsRead (now (src .entry)) n sets (fieldAt (now (src .entry)) 5 5) ⌝ }
+{
+    let Field::Value(count, _) = bits::read(src, 5, 5) else {
+        return Tables::Fault(20, bits::bit_length(src));
+    };
+    if is_count(count) {
+        let relations = count as u32;
+        if are_there(src, n, sets, relations) {
+            let root = row_at(n as usize, sets as usize, relations as usize, 0);
+            return Tables::Counts(sets, relations, root);
+        }
+        return Tables::Fault(20, bits::bit_length(src));
+    }
+    Tables::Fault(21, 5)
+}
+
+// The head of a proof file over n states, or its first fault.
+pub fn read_tables(src: &[u8], n: u32) -> Tables
+    ensures { λ r. ⌜ r ≡ tablesAt (now (src .entry)) n ⌝ }
+{
+    let Field::Value(sets, _) = bits::read(src, 0, 5) else {
+        return Tables::Fault(20, bits::bit_length(src));
+    };
+    if is_count(sets) {
+        return read_relations(src, n, sets as u32);
+    }
+    Tables::Fault(21, 0)
+}
