@@ -7,7 +7,7 @@ use native.Mathlib.Omega.{arith}
 use borrow.Author.Needs.{needs}
 use borrow.Author.Tests.{le-leb, lt-leb, lt-ltb, leb-true, ltb-true, ltb-false}
 use lib.ListN.{length}
-use Rattle.bits.proofs.Laws.{same-test}
+use Rattle.states.proofs.Search.{bool-ext}
 use Rattle.derivation.specs.Tables.{rowAt, tablesThere}
 use Rattle.derivation.proofs.header.are_there.Statement.{statement}
 use Rattle.derivation.proofs.header.are_there.Tie as tie
@@ -34,7 +34,7 @@ returns-2 c =
     let is : c .row-at .result ≡ end = c .row-at .ensures in
     let starts : 1 ≤ c .row-at .result = sub-result c in
     simp (le-leb 1 (a .n), le-leb (a .n) 64)
-    (same-test _ _
+    (bool-ext _ _
     (λ e. le-leb end (8 * length (a .src .now)) (omega (arith, ltb-true)))
     (λ e. lt-ltb ((c .row-at .result - 1) / 8) (length (a .src .now)) (omega (arith, leb-true))))
 
