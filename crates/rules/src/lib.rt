@@ -9,6 +9,26 @@ pub struct Names {
     pub q: u32,
 }
 
+// How many variables and states the handler file has, and how many sets and relations the proof file.
+pub struct Counts {
+    pub variables: u32,
+    pub states: u32,
+    pub sets: u32,
+    pub relations: u32,
+}
+
+// What a node owes: its conditions hold, or the number of the first that is broken.
+pub enum Own {
+    Holds,
+    Breaks(u32),
+}
+
+// What walking a derivation finds: the number of the next node and its first bit, or the first fault's number and node.
+pub enum Walked {
+    Through(u32, usize),
+    Broken(u32, u32),
+}
+
 // Where a fault is: a bit of its file or a node of the derivation.
 pub enum Place {
     Bit(usize),

@@ -1,0 +1,77 @@
+-- What the walk over the nodes finds, from what the two files hold: nodes by number, conditions by number.
+use Prim.Native.Nat.{ℕ, suc, _≤_, _<_}
+use mathlib.Core.Path.{_≡_}
+use mathlib.Core.Bool.{Bool, true, false}
+use mathlib.Core.List.{List}
+use mathlib.Core.Option.{Option, none, some}
+use lib.ListN.{length, getD}
+use Rattle.semantics.specs.Language.{Stmt, nil}
+use Rattle.semantics.specs.Derivations.{Derivation, skip, Tables}
+use Rattle.semantics.specs.Checking.{Broken, firstBroken, owed, firstFault}
+use Rattle.handler.specs.Header.{headerAt}
+use Rattle.handler.specs.declared.Header.the-variants.{Sizes}
+use Rattle.handler.specs.Statements as Stmts
+use Rattle.handler.specs.declared.Part.{Part}
+use Rattle.handler.specs.declared.Part.the-variants.{Nil, Assign, Pair, Test, Nothing}
+use Rattle.derivation.specs.Tables.{tablesAt, tableWord}
+use Rattle.derivation.specs.declared.Tables.the-variants as Heads
+use Rattle.derivation.specs.Nodes.{NodeRead, whole, fault}
+use Rattle.rules.specs.declared.Counts.{Counts}
+use Rattle.rules.specs.declared.Own.{Own}
+use Rattle.rules.specs.declared.Own.the-variants.{Holds, Breaks}
+use Rattle.rules.specs.declared.Walked.{Walked}
+use Rattle.rules.specs.declared.Walked.the-variants as Way
+
+-- The statement and the derivation that were read, where they were.
+abbrev pub stmtIn : Stmts.StmtRead → Stmt
+stmtIn (Stmts.whole S before next) = S
+stmtIn (Stmts.fault k place) = nil
+
+abbrev pub isStmt : Stmts.StmtRead → Bool
+isStmt (Stmts.whole S before next) = true
+isStmt (Stmts.fault k place) = false
+
+abbrev pub nodeIn : NodeRead → Derivation
+nodeIn (whole d before next) = d
+nodeIn (fault k place) = skip (record { P = 0; R = 0; G = 0; Q = 0 })
+
+abbrev pub isNode : NodeRead → Bool
+isNode (whole d before next) = true
+isNode (fault k place) = false
+
+abbrev pub ownOf : Option ℕ → Own
+ownOf none = Holds
+ownOf (some k) = Breaks k
+
+abbrev pub wayOf : Option Broken → ℕ → ℕ → Walked
+wayOf none after next = Way.Through after next
+wayOf (some b) after next = Way.Broken (b .number) (b .node)
+
+-- What walking a derivation that was read finds over a statement, its root being a node of some number.
+abbrev pub walkOn : Tables → NodeRead → Stmt → ℕ → Walked
+walkOn t (whole d after next) S node = wayOf (firstFault t d S node) after next
+walkOn t (fault k place) S node = Way.Broken 0 node
+
+-- What the walk rests on: both heads were read, and the words hold the tables.
+pub record Ready (hb pb work : List ℕ) (c : Counts) : Type 0 where
+  pub first : ℕ
+  pub root : ℕ
+  pub header : headerAt hb ≡ Sizes (c .variables) (c .states) first
+  pub tables : tablesAt pb (c .states) ≡ Heads.Counts (c .sets) (c .relations) root
+  pub enough : 1040 ≤ length work
+  pub words : (j : ℕ) → j < 1040 → getD work j 0 ≡ tableWord pb (c .states) (c .sets) (c .relations) j
+
+-- Where the parts of the statement at a bit stand: the left part or the body, and the right part.
+abbrev pub firstAt : ℕ → Part → ℕ
+firstAt stmt Nil = stmt
+firstAt stmt (Assign v e) = stmt
+firstAt stmt (Pair code left right) = left
+firstAt stmt (Test code e body) = body
+firstAt stmt Nothing = stmt
+
+abbrev pub secondAt : ℕ → Part → ℕ
+secondAt stmt Nil = stmt
+secondAt stmt (Assign v e) = stmt
+secondAt stmt (Pair code left right) = right
+secondAt stmt (Test code e body) = stmt
+secondAt stmt Nothing = stmt

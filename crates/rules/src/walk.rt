@@ -1,0 +1,84 @@
+// The walk over the derivation's nodes in file order. Statement and node are positions in their files, read again where they
+// stand; sequence and parallel find their right parts by where the left ones end, and weaken keeps its statement.
+use crate::nodes::{own_fault};
+use crate::{Counts, Own, Walked};
+use derivation::NodeHead;
+use derivation::nodes::node_head_at;
+use handler::Part;
+use handler::reading::part_at;
+ghost use mathlib.Core.Path.{_≡_};
+ghost use mathlib.Core.Bool.{true, cond};
+ghost use Prim.Native.Nat.{_≤_};
+ghost use lib.Dec.{eqb};
+ghost use Rattle.handler.specs.Statements.{wholeStmt};
+ghost use Rattle.handler.specs.Shapes.{partAt};
+ghost use Rattle.derivation.specs.Nodes.{nodeAt};
+ghost use Rattle.rules.specs.Verdicts.{tablesOf};
+ghost use Rattle.rules.specs.Walks.{stmtIn, isStmt, isNode, walkOn, Ready, firstAt, secondAt};
+
+// The first bit of the part that a node's first child is about: the left part or the body; under a weaken, the same statement.
+fn first_part(handler: &[u8], variables: u32, rule: u32, stmt: usize) -> usize
+    ensures { λ r. ⌜ r ≡ cond (eqb rule 6) stmt (firstAt stmt (partAt (now (handler .entry)) variables stmt)) ⌝ }
+{
+    if rule == 6 {
+        return stmt;
+    }
+    match part_at(handler, variables, stmt) {
+        Part::Nil => stmt,
+        Part::Assign(_, _) => stmt,
+        Part::Pair(_, left, _) => left,
+        Part::Test(_, _, body) => body,
+        Part::Nothing => stmt,
+    }
+}
+
+// The first bit of the right part.
+fn second_part(handler: &[u8], variables: u32, stmt: usize) -> usize
+    ensures { λ r. ⌜ r ≡ secondAt stmt (partAt (now (handler .entry)) variables stmt) ⌝ }
+{
+    match part_at(handler, variables, stmt) {
+        Part::Nil => stmt,
+        Part::Assign(_, _) => stmt,
+        Part::Pair(_, _, right) => right,
+        Part::Test(_, _, _) => stmt,
+        Part::Nothing => stmt,
+    }
+}
+
+// The derivation at a node over a statement: the node's own conditions, then its children's.
+fn walk(handler: &[u8], proof: &[u8], work: &[u64], c: Counts, levels: u32, node: u32, at: usize, stmt: usize) -> Walked
+    requires { ⌜ Ready (now handler) (now proof) (now work) c ⌝ }
+    requires { ⌜ levels ≤ 25 ⌝ }
+    requires { ⌜ isNode (nodeAt levels (now proof) (c .sets) (c .relations) node at) ≡ true ⌝ }
+    requires { ⌜ isStmt (wholeStmt (now handler) (c .variables) stmt) ≡ true ⌝ }
+    ensures { λ r.
+        ⌜ r ≡ walkOn (tablesOf (now (handler .entry)) (now (proof .entry)) (c .variables) (c .states) (c .sets))
+            (nodeAt levels (now (proof .entry)) (c .sets) (c .relations) node at)
+            (stmtIn (wholeStmt (now (handler .entry)) (c .variables) stmt)) node ⌝ }
+{
+    if levels == 0 {
+        return Walked::Broken(0, node);
+    }
+    match node_head_at(proof, c.sets, c.relations, levels - 1, node, at) {
+        NodeHead::Fault(_, _) => Walked::Broken(0, node),
+        NodeHead::Node(rule, _, _, _, _, _, _, next) => {
+            if let Own::Breaks(number) = own_fault(handler, proof, work, c, at, stmt) {
+                return Walked::Broken(number, node);
+            }
+            if rule < 2 {
+                return Walked::Through(node + 1, next);
+            }
+            let first = first_part(handler, c.variables, rule, stmt);
+            match walk(handler, proof, work, c, levels - 1, node + 1, next, first) {
+                Walked::Broken(number, place) => Walked::Broken(number, place),
+                Walked::Through(so_far, end) => {
+                    if rule < 4 {
+                        let second = second_part(handler, c.variables, stmt);
+                        return walk(handler, proof, work, c, levels - 1, so_far, end, second);
+                    }
+                    Walked::Through(so_far, end)
+                }
+            }
+        }
+    }
+}
