@@ -31,7 +31,7 @@ module _ (f : ℕ → ℕ) where
 
     -- The next word.
     pub fill-more : (j : ℕ) → j < length work
-      → set (tabulate j f ++ drop j work) j (f j) ≡ tabulate (j + 1) f ++ drop (j + 1) work
+        → set (tabulate j f ++ drop j work) j (f j) ≡ tabulate (j + 1) f ++ drop (j + 1) work
     unfolding tabulate
     fill-more j more =
         rw (add-one, drop-cons work j 0, append-snoc)

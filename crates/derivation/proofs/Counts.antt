@@ -9,7 +9,7 @@ use Rattle.derivation.specs.Tables.{rowAt, isCount}
 
 -- No cursor within the tables is near the last that a usize can hold.
 pub row-offsets : (n sets r s : ℕ) → n ≤ 64 → sets ≤ 16 → r ≤ 16 → s ≤ 64
-  → (n * r ≤ 1024) × (n * (sets + n * r + s) ≤ 64 * 1104)
+    → (n * r ≤ 1024) × (n * (sets + n * r + s) ≤ 64 * 1104)
 row-offsets n sets r s hn hsets hr hs =
     let rows : n * r ≤ 64 * 16 = mul-le-mul hn hr in
     (rows, mul-le-mul {m₂ = 1104} hn (omega arith))

@@ -42,7 +42,7 @@ module _ (bytes : List ℕ) (n : ℕ) where
   relations-counted sets es (Value relations next) = count (isCount relations) refl
     where
       within : (b : Bool) → tablesThere bytes n sets relations ≡ b → isCount relations ≡ true
-        → CountedIn bytes n (cond b (Counts sets relations (rowAt n sets relations 0)) (Fault 20 (bitLength bytes)))
+          → CountedIn bytes n (cond b (Counts sets relations (rowAt n sets relations 0)) (Fault 20 (bitLength bytes)))
       within true t er =
           let tests = simp and-eq-true-iff at t in
           let s = count-range sets es in
@@ -55,10 +55,12 @@ module _ (bytes : List ℕ) (n : ℕ) where
             relations-least = r .0;
             relations-most = r .1;
             root = refl;
-            inside = omega (arith, leb-true) }
+            inside = omega (arith, leb-true);
+          }
       within false t er = tt
+
       count : (b : Bool) → isCount relations ≡ b → CountedIn bytes n (cond b
-        (cond (tablesThere bytes n sets relations) (Counts sets relations (rowAt n sets relations 0)) (Fault 20 (bitLength bytes))) (Fault 21 5))
+          (cond (tablesThere bytes n sets relations) (Counts sets relations (rowAt n sets relations 0)) (Fault 20 (bitLength bytes))) (Fault 21 5))
       count true er = within (tablesThere bytes n sets relations) refl er
       count false er = tt
 
@@ -69,6 +71,7 @@ module _ (bytes : List ℕ) (n : ℕ) where
       count : (sets : ℕ) (b : Bool) → isCount sets ≡ b → CountedIn bytes n (cond b (relationsRead bytes n sets (fieldAt bytes 5 5)) (Fault 21 0))
       count sets true e = relations-counted sets e (fieldAt bytes 5 5)
       count sets false e = tt
+
       by : (f : Field) → CountedIn bytes n (setsRead bytes n f)
       by Missing = tt
       by (Value sets next) = count sets (isCount sets) refl
@@ -89,7 +92,7 @@ module _ (bytes : List ℕ) (n : ℕ) where
   stages sets relations at d = head (tablesAt bytes n) refl
     where
       fill : (s r a count next : ℕ) (e : Derivation) (f : Fill) → tablesAt bytes n ≡ Counts s r a → wholeNode bytes s r a ≡ whole e count next → fillAt bytes next ≡ f
-        → onFill s r a e f ≡ proof sets relations at d → Stages sets relations at d
+          → onFill s r a e f ≡ proof sets relations at d → Stages sets relations at d
       fill s r a count next e Ends t w f eq =
           let same-s : s ≡ sets = cc in
           let same-r : r ≡ relations = cc in
@@ -97,10 +100,12 @@ module _ (bytes : List ℕ) (n : ℕ) where
           let same-d : e ≡ d = cc in
           record { tables = cc; count = count; next = next; nodes-read = rw (same-s, same-r, same-a, same-d) at w; ends = f }
       fill s r a count next e (Wrong place) t w f eq = absurd (let z : _≡_ {A = ℕ} 0 1 = cc in omega arith)
+
       root : (s r a : ℕ) (w : NodeRead) → tablesAt bytes n ≡ Counts s r a → wholeNode bytes s r a ≡ w
-        → onNodes bytes s r a w ≡ proof sets relations at d → Stages sets relations at d
+          → onNodes bytes s r a w ≡ proof sets relations at d → Stages sets relations at d
       root s r a (fault k place) t w eq = absurd (let z : _≡_ {A = ℕ} 0 1 = cc in omega arith)
       root s r a (whole e count next) t w eq = fill s r a count next e (fillAt bytes next) t w refl eq
+
       head : (t : Tables) → tablesAt bytes n ≡ t → onTables bytes t ≡ proof sets relations at d → Stages sets relations at d
       head (Fault k place) t eq = absurd (let z : _≡_ {A = ℕ} 0 1 = cc in omega arith)
       head (Counts s r a) t eq = root s r a (wholeNode bytes s r a) t refl eq

@@ -30,8 +30,8 @@ module _ (bytes : List ℕ) (limit at : ℕ) (f : ℕ → NodeHead) where
 
 -- Behind a name that is there the second is read where the first ends.
 pub second-name : (bytes : List ℕ) (first second at i next : ℕ) → fieldAt bytes at 4 ≡ Value i next → i < first
-  → (f : ℕ → ℕ → ℕ → NodeHead)
-  → named bytes first at (λ i. named bytes second (at + 4) (λ j. f i j (at + 8))) ≡ named bytes second next (λ j. f i j (next + 4))
+    → (f : ℕ → ℕ → ℕ → NodeHead)
+    → named bytes first at (λ i. named bytes second (at + 4) (λ j. f i j (at + 8))) ≡ named bytes second next (λ j. f i j (next + 4))
 second-name bytes first second at i next e under f =
     let moved : next ≡ at + 4 = there bytes at 4 i next e .moved in
     let end : next + 4 ≡ at + 8 = omega arith in
@@ -47,7 +47,7 @@ node-sound h rule P R G Q K W next e k place f = let z : _≡_ {A = ℕ} 0 1 = c
 -- A node is judged first by its place: some level left below it, and fewer than 127 nodes before it.
 module _ (bytes : List ℕ) (sets relations at : ℕ) where
   pub head-any : (below before : ℕ) → 0 < below → before < 127
-    → nodeHead bytes sets relations below before at ≡ ruleHead bytes sets relations false at (fieldAt bytes at 3)
+      → nodeHead bytes sets relations below before at ≡ ruleHead bytes sets relations false at (fieldAt bytes at 3)
   unfolding nodeHead
   head-any below before some few = rw (ne-eqb below 0 (omega arith), lt-leb 127 before)
 
@@ -58,28 +58,30 @@ module _ (bytes : List ℕ) (sets relations at : ℕ) where
       many : (f : Field) → Sound (ruleHead bytes sets relations true at f) → ⊥
       many (Value rule next) sound = sound 24 at refl
       many Missing sound = sound 20 (bitLength bytes) refl
+
       by : (b : Bool) → eqb below 0 ≡ b → (m : Bool) → leb 127 before ≡ m → (f : Field)
-        → Sound (ruleHead bytes sets relations (b || m) at f) → (0 < below) × (before < 127)
+          → Sound (ruleHead bytes sets relations (b || m) at f) → (0 < below) × (before < 127)
       by true e m l f sound = absurd (many f sound)
       by false e true l f sound = absurd (many f sound)
       by false e false l f sound = (pos-of-ne-zero (eqb-false below 0 e), leb-false 127 before l)
 
   -- What stands at a node does not depend on where in a derivation it is read.
   pub head-same : (below before below' before' : ℕ) → Sound (nodeHead bytes sets relations below before at)
-    → 0 < below' → before' < 127 → nodeHead bytes sets relations below' before' at ≡ nodeHead bytes sets relations below before at
+      → 0 < below' → before' < 127 → nodeHead bytes sets relations below' before' at ≡ nodeHead bytes sets relations below before at
   head-same below before below' before' sound some few =
       let placed = head-few below before sound in
       head-any below' before' some few ∙ sym (head-any below before (placed .0) (placed .1))
 
 -- What holds of every fault, and of what is read behind each name that there is, holds of what is read from a name on.
 named-all : (bytes : List ℕ) (limit at : ℕ) (f : ℕ → NodeHead) (Good : NodeHead → Type 0)
-  → ((k place : ℕ) → Good (Fault k place)) → ((i : ℕ) → i < limit → Good (f i)) → Good (named bytes limit at f)
+    → ((k place : ℕ) → Good (Fault k place)) → ((i : ℕ) → i < limit → Good (f i)) → Good (named bytes limit at f)
 unfolding named onName
 named-all bytes limit at f Good fault behind = by (fieldAt bytes at 4)
   where
     test : (i : ℕ) (b : Bool) → ltb i limit ≡ b → Good (cond b (f i) (Fault 23 at))
     test i true t = behind i (ltb-true i limit t)
     test i false t = fault 23 at
+
     by : (field : Field) → Good (onName bytes limit at field f)
     by Missing = fault 20 (bitLength bytes)
     by (Value i next) = test i (ltb i limit) refl
@@ -100,12 +102,12 @@ WithinHead sets relations (Node rule P R G Q K W next) = Within sets relations r
 
 module _ (bytes : List ℕ) (sets relations : ℕ) where
   loop-within : (rule P R G Q at : ℕ) → rule < 7 → P < sets → R < relations → G < relations → Q < relations
-    → WithinHead sets relations (loopHead bytes sets relations rule P R G Q at)
+      → WithinHead sets relations (loopHead bytes sets relations rule P R G Q at)
   unfolding loopHead
   loop-within rule P R G Q at hrule hP hR hG hQ = by (eqb rule 5) refl
     where
       by : (b : Bool) → eqb rule 5 ≡ b
-        → WithinHead sets relations (cond b (named bytes sets at (λ K. named bytes relations (at + 4) (λ W. Node rule P R G Q K W (at + 8)))) (Node rule P R G Q 0 0 at))
+          → WithinHead sets relations (cond b (named bytes sets at (λ K. named bytes relations (at + 4) (λ W. Node rule P R G Q K W (at + 8)))) (Node rule P R G Q 0 0 at))
       by true t =
           named-all bytes sets at _ (WithinHead sets relations) (λ k place. tt) (λ K hK.
           named-all bytes relations (at + 4) _ (WithinHead sets relations) (λ k place. tt) (λ W hW.
@@ -128,14 +130,15 @@ module _ (bytes : List ℕ) (sets relations : ℕ) where
   head-within below before at = by (eqb below 0 || leb 127 before) (fieldAt bytes at 3) refl
     where
       code : (rule next : ℕ) → rule < 8 → (b : Bool) → eqb rule 7 ≡ b
-        → WithinHead sets relations (cond b (Fault 22 at) (namesHead bytes sets relations rule next))
+          → WithinHead sets relations (cond b (Fault 22 at) (namesHead bytes sets relations rule next))
       code rule next under true t = tt
       code rule next under false t = names-within rule next (let other = eqb-false rule 7 t in omega arith)
+
       by : (b : Bool) (f : Field) → fieldAt bytes at 3 ≡ f → WithinHead sets relations (ruleHead bytes sets relations b at f)
       by b Missing e = tt
       by true (Value rule next) e = tt
       by false (Value rule next) e = code rule next (there bytes at 3 rule next e .small) (eqb rule 7) refl
 
   pub node-within : (below before at rule P R G Q K W next : ℕ)
-    → nodeHead bytes sets relations below before at ≡ Node rule P R G Q K W next → Within sets relations rule P R G Q K W
+      → nodeHead bytes sets relations below before at ≡ Node rule P R G Q K W next → Within sets relations rule P R G Q K W
   node-within below before at rule P R G Q K W next e = rw e at (head-within below before at)

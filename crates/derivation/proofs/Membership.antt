@@ -1,13 +1,23 @@
--- A word's bits are the file's, first bit lowest.
+-- A work word's bits are the file's, first bit lowest, so membership in the words is membership in the file.
 use Prim.Native.Nat.{ℕ, zero, suc, _+_, _-_, _*_, _/_, _%_, _^_, _≤_, _<_}
-use mathlib.Core.List.{List}
-use mathlib.Core.Path.{_≡_, refl, _∙_}
-use native.Mathlib.Nat.{pow-suc, pow-succ', add-zero, div-one, div-div-eq-div-mul}
+use mathlib.Core.Bool.{Bool, true, false, cond, _&&_}
+use mathlib.Core.List.{List, [], _∷_}
+use mathlib.Core.Logic.{⊎-elim}
+use mathlib.Core.Path.{_≡_, refl, sym, _∙_}
+use native.Mathlib.Nat.{pow-suc, pow-succ', add-zero, div-one, zero-div, div-eq-of-lt, div-div-eq-div-mul, eq-or-lt-of-le}
 use native.Mathlib.Omega.{arith}
-use lib.Pow.{pow-mono}
+use borrow.Author.Tests.{lt-ltb, le-ltb, ltb-true, ltb-false}
+use lib.Dec.{ltb, eqb}
+use lib.ListN.{length, getD, List·getD-eq-default}
+use lib.Pow.{pow-pos, pow-mono}
 use Rattle.bits.specs.Fields.{bitAt}
 use Rattle.bits.proofs.Laws.{bit-below}
-use Rattle.derivation.specs.Tables.{wordAt}
+use Rattle.states.specs.Sets.{mem}
+use Rattle.semantics.specs.Derivations.{Derivation}
+use Rattle.derivation.specs.Tables.{setAt, rowAt, inSetOf, inRelationOf, wordAt, tableWord, written}
+use Rattle.derivation.specs.Reading.{proof, readProof, wordsOf}
+use Rattle.derivation.proofs.Buffers.{written-at}
+use Rattle.derivation.proofs.Files.{Counted, counted, Stages, stages}
 
 module _ (bytes : List ℕ) where
   pub word-below : (at n : ℕ) → wordAt bytes at n < 2 ^ n
@@ -20,7 +30,7 @@ module _ (bytes : List ℕ) where
 
   -- One more bit in front, in the numbers of a count down.
   pub word-more : (at n left : ℕ) → 0 < left → left ≤ n
-    → wordAt bytes (at + (left - 1)) (n - (left - 1)) ≡ wordAt bytes (at + left) (n - left) * 2 + bitAt bytes (at + (left - 1))
+      → wordAt bytes (at + (left - 1)) (n - (left - 1)) ≡ wordAt bytes (at + left) (n - left) * 2 + bitAt bytes (at + (left - 1))
   unfolding wordAt
   word-more at n left some within =
       let longer : n - (left - 1) ≡ suc (n - left) = omega arith in
@@ -35,3 +45,79 @@ module _ (bytes : List ℕ) where
       let half : (wordAt bytes (suc at) n * 2 + bitAt bytes at) / 2 ≡ wordAt bytes (suc at) n = omega (arith, bit-below bytes at) in
       let next : at + suc s ≡ suc at + s = omega arith in
       rw (pow-succ' 2 s, ← div-div-eq-div-mul, half, next) (word-bit (suc at) n s (omega arith))
+
+  -- No state past the n that the word was read for is a member.
+  word-member : (at n s : ℕ) → n ≤ 64 → mem (wordAt bytes at n ∷ []) s ≡ (ltb s n && eqb (bitAt bytes (at + s)) 1)
+  unfolding mem
+  word-member at n s most = by (ltb s n) refl (ltb s 64) refl
+    where
+      by : (b : Bool) → ltb s n ≡ b → (c : Bool) → ltb s 64 ≡ c
+          → eqb (getD (wordAt bytes at n ∷ []) (s / 64) 0 / 2 ^ (s % 64) % 2) 1 ≡ (b && eqb (bitAt bytes (at + s)) 1)
+      by true t c u =
+          let under = ltb-true s n t in
+          let word : s / 64 ≡ 0 = omega arith in
+          let place : s % 64 ≡ s = omega arith in
+          rw (word, place, word-bit at n s under)
+      by false t true u =
+          let over = ltb-false s n t in
+          let within = ltb-true s 64 u in
+          let word : s / 64 ≡ 0 = omega arith in
+          let place : s % 64 ≡ s = omega arith in
+          rw (word, place, div-eq-of-lt {n = wordAt bytes at n} {m = 2 ^ s} (omega (arith, word-below at n, pow-mono over)))
+      by false t false u =
+          let past = ltb-false s 64 u in
+          rw (List·getD-eq-default (wordAt bytes at n ∷ []) 0 {n = s / 64} (omega arith), zero-div)
+
+  table-word-below : (n sets relations j : ℕ) → tableWord bytes n sets relations j < 2 ^ n
+  unfolding tableWord
+  table-word-below n sets relations j = by (ltb j 16) (ltb j sets) (ltb ((j - 16) / 64) relations && ltb ((j - 16) % 64) n)
+    where
+      either : (b : Bool) (at : ℕ) → cond b (wordAt bytes at n) 0 < 2 ^ n
+      either true at = word-below at n
+      either false at = pow-pos n
+
+      by : (set inside row : Bool)
+          → cond set (cond inside (wordAt bytes (setAt n j) n) 0) (cond row (wordAt bytes (rowAt n sets ((j - 16) / 64) ((j - 16) % 64)) n) 0) < 2 ^ n
+      by true inside row = either inside (setAt n j)
+      by false inside row = either row (rowAt n sets ((j - 16) / 64) ((j - 16) % 64))
+
+-- A buffer of 1,040 words or more after a proof file was loaded into it.
+module _ (bytes : List ℕ) (n sets relations at : ℕ) (d : Derivation) (read : readProof bytes n ≡ proof sets relations at d)
+    (work : List ℕ) (enough : 1040 ≤ length work) where
+  abbrev word : ℕ → ℕ
+  word j = getD (written (wordsOf bytes n (readProof bytes n)) work) j 0
+
+  few : Counted bytes n sets relations at
+  few = counted bytes n sets relations at (stages bytes n sets relations at d read .tables)
+
+  word-is : (j : ℕ) → j < 1040 → word j ≡ tableWord bytes n sets relations j
+  word-is j table = written-at (wordsOf bytes n (readProof bytes n)) work j table (omega arith) ∙ rw read
+
+  pub loaded-below : (j : ℕ) → j < 1040 → getD (written (wordsOf bytes n (readProof bytes n)) work) j 0 < 2 ^ n
+  loaded-below j table = rw (word-is j table) (table-word-below bytes n sets relations j)
+
+  -- State s is in set i as the words hold it iff it is a state and the file has it in the set.
+  pub set-member : (i s : ℕ) → i < sets
+      → mem (getD (written (wordsOf bytes n (readProof bytes n)) work) i 0 ∷ []) s ≡ (ltb s n && inSetOf bytes n i s)
+  unfolding tableWord inSetOf
+  set-member i s under =
+      let c = few in
+      let first : i < 16 = omega (arith, c .sets-most) in
+      rw (word-is i (omega arith), lt-ltb i 16, lt-ltb i sets) (word-member bytes (setAt n i) n s (c .states-most))
+
+  -- The pair (s,t) likewise, for each of the 64 rows that the words have room for.
+  pub pair-member : (r s t : ℕ) → r < relations → s < 64
+      → mem (getD (written (wordsOf bytes n (readProof bytes n)) work) (16 + 64 * r + s) 0 ∷ []) t
+      ≡ (ltb s n && ltb t n && inRelationOf bytes n sets r s t)
+  unfolding tableWord inRelationOf wordAt
+  pair-member r s t under row =
+      let c = few in
+      let past : 16 ≤ 16 + 64 * r + s = omega arith in
+      let relation : (16 + 64 * r + s - 16) / 64 ≡ r = omega arith in
+      let state : (16 + 64 * r + s - 16) % 64 ≡ s = omega arith in
+      rw (word-is (16 + 64 * r + s) (omega (arith, c .relations-most)), le-ltb (16 + 64 * r + s) 16, relation, state, lt-ltb r relations)
+      (by (ltb s n))
+    where
+      by : (b : Bool) → mem (cond b (wordAt bytes (rowAt n sets r s) n) 0 ∷ []) t ≡ (b && ltb t n && eqb (bitAt bytes (rowAt n sets r s + t)) 1)
+      by true = word-member bytes (rowAt n sets r s) n t (few .states-most)
+      by false = word-member bytes 0 0 t (omega arith) ∙ rw (le-ltb t 0 (omega arith))

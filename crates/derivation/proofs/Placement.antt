@@ -47,12 +47,13 @@ record Child (f : Derivation → Derivation) (r : NodeRead) (d : Derivation) (af
 
 child-of : (f : Derivation → Derivation) (r : NodeRead) (d : Derivation) (after next : ℕ) → onChild f r ≡ whole d after next → Child f r d after next
 child-of f (fault k place) d after next e = absurd (let z : _≡_ {A = ℕ} 0 1 = cc in omega arith)
-child-of f (whole c a n) d after next e = 
+child-of f (whole c a n) d after next e =
     let same-a : a ≡ after = cc in
     let same-n : n ≡ next = cc in
     record { child = c; read = rw (same-a, same-n); is = cc }
 
-record Children (f : Derivation → Derivation → Derivation) (l : NodeRead) (node : ℕ → ℕ → NodeRead) (d : Derivation) (after next : ℕ) : Type 0 where
+record Children (f : Derivation → Derivation → Derivation) (l : NodeRead) (node : ℕ → ℕ → NodeRead) (d : Derivation)
+    (after next : ℕ) : Type 0 where
   left : Derivation
   right : Derivation
   between : ℕ
@@ -62,7 +63,7 @@ record Children (f : Derivation → Derivation → Derivation) (l : NodeRead) (n
   is : d ≡ f left right
 
 children-of : (f : Derivation → Derivation → Derivation) (l : NodeRead) (node : ℕ → ℕ → NodeRead) (d : Derivation) (after next : ℕ)
-  → onLeft f l node ≡ whole d after next → Children f l node d after next
+    → onLeft f l node ≡ whole d after next → Children f l node d after next
 children-of f (fault k place) node d after next e = absurd (let z : _≡_ {A = ℕ} 0 1 = cc in omega arith)
 children-of f (whole l b m) node d after next e =
     let c = child-of (f l) (node b m) d after next e in
@@ -77,9 +78,10 @@ module _ (bytes : List ℕ) (sets relations : ℕ) where
     pub counted : after ≡ before + nodes d
     pub room : after ≤ 127
     pub again : (levels' before' : ℕ) → levels ≤ levels' → before' + nodes d ≤ 127
-      → nodeAt levels' bytes sets relations before' at ≡ whole d (before' + nodes d) next
+        → nodeAt levels' bytes sets relations before' at ≡ whole d (before' + nodes d) next
 
-  module _ (levels before at rule P R G Q K W first : ℕ) (read : nodeHead bytes sets relations levels before at ≡ Node rule P R G Q K W first) where
+  module _ (levels before at rule P R G Q K W first : ℕ)
+      (read : nodeHead bytes sets relations levels before at ≡ Node rule P R G Q K W first) where
     abbrev h : Names
     h = record { P = P; R = R; G = G; Q = Q }
 
@@ -88,8 +90,8 @@ module _ (bytes : List ℕ) (sets relations : ℕ) where
 
     -- The same head with its children read one level down, wherever the node is read again.
     unrolled : (levels' before' : ℕ) (r : NodeRead) → suc levels ≤ levels' → before' < 127
-      → ((below : ℕ) → levels ≤ below → onNodeHead (Node rule P R G Q K W first) before' (node below) ≡ r)
-      → node levels' before' at ≡ r
+        → ((below : ℕ) → levels ≤ below → onNodeHead (Node rule P R G Q K W first) before' (node below) ≡ r)
+        → node levels' before' at ≡ r
     unfolding nodeAt
     unrolled zero before' r deep free children = absurd (omega arith)
     unrolled (suc below) before' r deep free children =
@@ -97,7 +99,7 @@ module _ (bytes : List ℕ) (sets relations : ℕ) where
         rw (same, read) (children below (omega arith))
 
     leaf-placed : (d : Derivation) (after next : ℕ) → rule < 2 → whole (alone rule h) (suc before) first ≡ whole d after next
-      → Placed (suc levels) before at d after next
+        → Placed (suc levels) before at d after next
     leaf-placed d after next under e =
         let is : alone rule h ≡ d = cc in
         let after-is : suc before ≡ after = cc in
@@ -106,52 +108,62 @@ module _ (bytes : List ℕ) (sets relations : ℕ) where
           counted = omega arith;
           room = omega (arith, few);
           again = λ levels' before' deep free. unrolled levels' before' _ deep (omega arith) (λ below deep'.
-            let total : suc before' ≡ before' + nodes d = omega arith in
-            rw (lt-ltb rule 2) cc) }
+              let total : suc before' ≡ before' + nodes d = omega arith in
+              rw (lt-ltb rule 2) cc);
+        }
 
     two-placed : (d : Derivation) (after next : ℕ) → 2 ≤ rule → rule < 4
-      → (c : Children (overTwo rule h) (node levels (suc before) first) (node levels) d after next)
-      → Placed levels (suc before) first (c .left) (c .between) (c .middle)
-      → Placed levels (c .between) (c .middle) (c .right) after next
-      → Placed (suc levels) before at d after next
+        → (c : Children (overTwo rule h) (node levels (suc before) first) (node levels) d after next)
+        → Placed levels (suc before) first (c .left) (c .between) (c .middle)
+        → Placed levels (c .between) (c .middle) (c .right) after next
+        → Placed (suc levels) before at d after next
     two-placed d after next over under c l r =
         let size : nodes d ≡ suc (nodes (c .left) + nodes (c .right)) = rw (c .is) (nodes-two rule h (c .left) (c .right)) in
         record {
           counted = omega (arith, l .counted, r .counted);
           room = r .room;
           again = λ levels' before' deep free. unrolled levels' before' _ deep (omega arith) (λ below deep'.
-            let total : suc before' + nodes (c .left) + nodes (c .right) ≡ before' + nodes d = omega arith in
-            rw (le-ltb rule 2, lt-ltb rule 4, l .again below (suc before') deep' (omega arith),
-              r .again below (suc before' + nodes (c .left)) deep' (omega arith), total, ← c .is)) }
+              let total : suc before' + nodes (c .left) + nodes (c .right) ≡ before' + nodes d = omega arith in
+              rw (
+                le-ltb rule 2,
+                lt-ltb rule 4,
+                l .again below (suc before') deep' (omega arith),
+                r .again below (suc before' + nodes (c .left)) deep' (omega arith),
+                total,
+                ← c .is,
+              ));
+        }
 
     one-placed : (d : Derivation) (after next : ℕ) → 4 ≤ rule
-      → (c : Child (overOne rule h K W) (node levels (suc before) first) d after next)
-      → Placed levels (suc before) first (c .child) after next
-      → Placed (suc levels) before at d after next
+        → (c : Child (overOne rule h K W) (node levels (suc before) first) d after next)
+        → Placed levels (suc before) first (c .child) after next
+        → Placed (suc levels) before at d after next
     one-placed d after next over c p =
         let size : nodes d ≡ suc (nodes (c .child)) = rw (c .is) (nodes-one rule h K W (c .child)) in
         record {
           counted = omega (arith, p .counted);
           room = p .room;
           again = λ levels' before' deep free. unrolled levels' before' _ deep (omega arith) (λ below deep'.
-            let total : suc before' + nodes (c .child) ≡ before' + nodes d = omega arith in
-            let past : 2 ≤ rule = omega arith in
-            rw (le-ltb rule 2, le-ltb rule 4, p .again below (suc before') deep' (omega arith), total, ← c .is)) }
+              let total : suc before' + nodes (c .child) ≡ before' + nodes d = omega arith in
+              let past : 2 ≤ rule = omega arith in
+              rw (le-ltb rule 2, le-ltb rule 4, p .again below (suc before') deep' (omega arith), total, ← c .is));
+        }
 
   node-placed : (levels before at : ℕ)
-    → ((before at : ℕ) (d : Derivation) (after next : ℕ) → node levels before at ≡ whole d after next → Placed levels before at d after next)
-    → (head : NodeHead) → nodeHead bytes sets relations levels before at ≡ head
-    → (d : Derivation) (after next : ℕ) → onNodeHead head before (node levels) ≡ whole d after next → Placed (suc levels) before at d after next
+      → ((before at : ℕ) (d : Derivation) (after next : ℕ) → node levels before at ≡ whole d after next → Placed levels before at d after next)
+      → (head : NodeHead) → nodeHead bytes sets relations levels before at ≡ head
+      → (d : Derivation) (after next : ℕ) → onNodeHead head before (node levels) ≡ whole d after next → Placed (suc levels) before at d after next
   node-placed levels before at below (Fault k place) read d after next e = absurd (let z : _≡_ {A = ℕ} 0 1 = cc in omega arith)
   node-placed levels before at below (Node rule P R G Q K W first) read d after next e = by (ltb rule 2) refl (ltb rule 4) refl e
     where
       names : Names
       names = record { P = P; R = R; G = G; Q = Q }
+
       by : (leaf : Bool) → ltb rule 2 ≡ leaf → (two : Bool) → ltb rule 4 ≡ two
-        → cond leaf (whole (alone rule names) (suc before) first)
+          → cond leaf (whole (alone rule names) (suc before) first)
           (cond two (onLeft (overTwo rule names) (node levels (suc before) first) (node levels)) (onChild (overOne rule names K W) (node levels (suc before) first)))
           ≡ whole d after next
-        → Placed (suc levels) before at d after next
+          → Placed (suc levels) before at d after next
       by true t two u e = leaf-placed levels before at rule P R G Q K W first read d after next (ltb-true rule 2 t) e
       by false t true u e =
           let c = children-of (overTwo rule names) (node levels (suc before) first) (node levels) d after next e in
@@ -164,7 +176,7 @@ module _ (bytes : List ℕ) (sets relations : ℕ) where
           (below (suc before) first (c .child) after next (c .read))
 
   pub placed : (levels before at : ℕ) (d : Derivation) (after next : ℕ) → nodeAt levels bytes sets relations before at ≡ whole d after next
-    → Placed levels before at d after next
+      → Placed levels before at d after next
   unfolding nodeAt
   placed zero before at d after next e = absurd (let z : _≡_ {A = ℕ} 0 1 = cc in omega arith)
   placed (suc levels) before at d after next e =
@@ -175,7 +187,7 @@ module _ (bytes : List ℕ) (sets relations : ℕ) where
   Stands d at next = wholeNode bytes sets relations at ≡ whole d (nodes d) next
 
   pub fresh : (levels before at : ℕ) (d : Derivation) (after next : ℕ) → nodeAt levels bytes sets relations before at ≡ whole d after next
-    → levels ≤ 25 → Stands d at next
+      → levels ≤ 25 → Stands d at next
   unfolding wholeNode
   fresh levels before at d after next e shallow =
       let p = placed levels before at d after next e in
@@ -219,7 +231,8 @@ module _ (bytes : List ℕ) (sets relations : ℕ) where
             middle = c .middle;
             left-stands = fresh 24 1 first (c .left) (c .between) (c .middle) (c .left-read) (omega arith);
             right-stands = fresh 24 (c .between) (c .middle) (c .right) (nodes d) next (c .right-read) (omega arith);
-            is = c .is }
+            is = c .is;
+          }
 
       pub child-of-one : 4 ≤ rule → OneBelow rule named K W first d next
       unfolding wholeNode nodeAt
@@ -229,11 +242,12 @@ module _ (bytes : List ℕ) (sets relations : ℕ) where
           record {
             child = c .child;
             child-stands = fresh 24 1 first (c .child) (nodes d) next (c .read) (omega arith);
-            is = c .is }
+            is = c .is;
+          }
 
 -- The root of a proof file that is read without fault.
 pub root-stands : (bytes : List ℕ) (n sets relations at : ℕ) (d : Derivation) → readProof bytes n ≡ proof sets relations at d
-  → (next : ℕ) × Stands bytes sets relations d at next
+    → (next : ℕ) × Stands bytes sets relations d at next
 unfolding wholeNode
 root-stands bytes n sets relations at d e =
     let s = stages bytes n sets relations at d e in

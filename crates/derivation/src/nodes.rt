@@ -1,5 +1,7 @@
 // The nodes of the proof file, by their first bits: what stands at one, and where the derivation at it ends.
-use super::{Names, NodeEnd, NodeHead};
+use super::Names;
+use super::NodeEnd;
+use super::NodeHead;
 use bits::Field;
 ghost use mathlib.Core.Path.{_≡_};
 ghost use Prim.Native.Nat.{ℕ, _+_};
@@ -7,10 +9,8 @@ ghost use Rattle.derivation.specs.Nodes.{named, onPair, loopHead, namesH
 
 // The two tables named at a cursor, each below its limit. The promise is over whatever is read behind them.
 fn names_at(src: &[u8], first: u32, second: u32, at: usize) -> Names
-    ensures {
-        λ r. ⌜ ((f : ℕ → ℕ → ℕ → NodeHead) →
-            named (now (src .entry)) first at (λ i. named (now (src .entry)) second (at + 4) (λ j. f i j (at + 8))) ≡ onPair r f) ⌝
-    }
+    ensures { λ r. ⌜ ((f : ℕ → ℕ → ℕ → NodeHead) →
+        named (now (src .entry)) first at (λ i. named (now (src .entry)) second (at + 4) (λ j. f i j (at + 8))) ≡ onPair r f) ⌝ }
 {
     let Field::Value(i, next) = bits::read(src, at, 4) else {
         return Names::Fault(20, bits::bit_length(src));
@@ -28,7 +28,17 @@ fn names_at(src: &[u8], first: u32, second: u32, at: usize) -> Names
 }
 
 // K and W of a while, which are 0 at any other rule.
-fn loop_head(src: &[u8], sets: u32, relations: u32, rule: u32, p: u32, r: u32, g: u32, q: u32, at: usize) -> NodeHead
+fn loop_head(
+    src: &[u8],
+    sets: u32,
+    relations: u32,
+    rule: u32,
+    p: u32,
+    r: u32,
+    g: u32,
+    q: u32,
+    at: usize,
+) -> NodeHead
     ensures { λ head. ⌜ head ≡ loopHead (now (src .entry)) sets relations rule p r g q at ⌝ }
 {
     if rule != 5 {
@@ -54,7 +64,14 @@ fn names_head(src: &[u8], sets: u32, relations: u32, rule: u32, at: usize) -> No
 }
 
 // What stands at a node with `before` nodes before it, where `below` levels are left below it.
-pub fn node_head_at(src: &[u8], sets: u32, relations: u32, below: u32, before: u32, at: usize) -> NodeHead
+pub fn node_head_at(
+    src: &[u8],
+    sets: u32,
+    relations: u32,
+    below: u32,
+    before: u32,
+    at: usize,
+) -> NodeHead
     ensures { λ r. ⌜ r ≡ nodeHead (now (src .entry)) sets relations below before at ⌝ }
 {
     let Field::Value(rule, next) = bits::read(src, at, 3) else {

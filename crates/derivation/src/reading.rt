@@ -1,5 +1,10 @@
 // The whole proof file, front to back, and its tables in the caller's work words.
-use super::{NodeEnd, ProofFile, Tables, header, nodes, words};
+use super::NodeEnd;
+use super::ProofFile;
+use super::Tables;
+use super::header;
+use super::nodes;
+use super::words;
 use bits::Fill;
 ghost use mathlib.Core.Path.{_≡_};
 ghost use Rattle.derivation.specs.Tables.{written};

@@ -30,8 +30,9 @@ fn table_word(src: &[u8], n: usize, sets: usize, relations: usize, j: usize) -> 
         }
         return 0;
     }
-    let relation = (j - 16) / 64;
-    let state = (j - 16) % 64;
+    let row = j - 16;
+    let relation = row / 64;
+    let state = row % 64;
     if relation >= relations || state >= n {
         return 0;
     }

@@ -1,11 +1,13 @@
 -- Each way out is one case of the definition, at the field that was read and the tests that led there.
 use Prim.Native.Nat.{_≤_}
-use mathlib.Core.Bool.{and-eq-true-iff}
-use mathlib.Core.Path.{sym, _∙_}
+use mathlib.Core.Bool.{cond, and-eq-true-iff}
+use mathlib.Core.Path.{_≡_, sym, _∙_}
 use native.Mathlib.Omega.{arith}
 use borrow.Author.Needs.{needs}
 use borrow.Author.Tests.{leb-true}
-use Rattle.derivation.specs.Tables.{tablesThere, relationsRead}
+use Rattle.bits.specs.Fields.{bitLength, fieldAt}
+use Rattle.derivation.specs.declared.Tables.the-variants.{Counts, Fault}
+use Rattle.derivation.specs.Tables.{rowAt, tablesThere, relationsRead}
 use Rattle.derivation.proofs.Counts.{count-range}
 use Rattle.derivation.proofs.header.read_relations.Statement.{statement}
 use Rattle.derivation.proofs.header.read_relations.Tie as tie
@@ -23,33 +25,29 @@ row-at-requires c κs =
     let tests = simp and-eq-true-iff at (sym (c .before .are-there .ensures) ∙ c .if2 .taken) in
     omega (arith, leb-true, counted (c .before .before))
 
-returns-2 : tie.Need-returns-2
+-- A count that is 1 to 16 leaves it to whether the tables are there.
+judged : (c : tie.After-are-there) →
+    let a = c .before .before .before .before .before .before .before .before .args in
+    let relations = c .before .before .before .before .count .given .0 .0 in
+    relationsRead (a .src .now) (a .n) (a .sets) (fieldAt (a .src .now) 5 5)
+    ≡ cond (c .are-there .result) (Counts (a .sets) relations (rowAt (a .n) (a .sets) relations 0)) (Fault 20 (bitLength (a .src .now)))
 unfolding relationsRead
-returns-2 c =
-    let judged = c .before .before .before in
-    let field = judged .before .before .before in
-    rw
-    (← field .before .before .read .ensures,
-    field .count .given .1,
-    ← judged .before .is-count .ensures,
-    judged .if1 .taken,
-    ← c .before .before .are-there .ensures,
-    c .before .if2 .taken,
-    c .row-at .ensures)
+judged c =
+    let test = c .before in
+    let field = test .before .before .before in
+    rw (
+      ← field .before .before .read .ensures,
+      field .count .given .1,
+      ← test .before .is-count .ensures,
+      test .if1 .taken,
+      ← c .are-there .ensures,
+    )
+
+returns-2 : tie.Need-returns-2
+returns-2 c = rw (c .row-at .ensures) (sym (rw (c .before .if2 .taken) at (judged (c .before .before))))
 
 returns-3 : tie.Need-returns-3
-unfolding relationsRead
-returns-3 c =
-    let judged = c .before .before .before in
-    let field = judged .before .before .before in
-    rw
-    (← field .before .before .read .ensures,
-    field .count .given .1,
-    ← judged .before .is-count .ensures,
-    judged .if1 .taken,
-    ← c .before .before .are-there .ensures,
-    c .before .if2 .left,
-    c .bit-length2 .ensures)
+returns-3 c = rw (c .bit-length2 .ensures) (sym (rw (c .before .if2 .left) at (judged (c .before .before))))
 
 returns-4 : tie.Need-returns-4
 unfolding relationsRead

@@ -42,8 +42,8 @@ module _ (node : ℕ → ℕ → NodeRead) where
   child-end f (fault k place) = refl
 
   first-end : (two : Bool) (g : Derivation → Derivation → Derivation) (f : Derivation → Derivation) (first : NodeRead)
-    → endOf (cond two (onLeft g first node) (onChild f first))
-    ≡ onEnd (endOf first) (λ so-far end. cond two (endOf (node so-far end)) (Ends so-far end))
+      → endOf (cond two (onLeft g first node) (onChild f first))
+      ≡ onEnd (endOf first) (λ so-far end. cond two (endOf (node so-far end)) (Ends so-far end))
   unfolding endOf
   first-end true g f (whole d before next) = child-end (g d) (node before next)
   first-end false g f (whole d before next) = refl
@@ -57,17 +57,18 @@ module _ (node : ℕ → ℕ → NodeRead) where
     where
       h : Names
       h = record { P = P; R = R; G = G; Q = Q }
+
       by : (leaf : Bool)
-        → endOf (cond leaf (whole (alone rule h) (suc before) next)
-        (cond (ltb rule 4) (onLeft (overTwo rule h) (node (suc before) next) node) (onChild (overOne rule h K W) (node (suc before) next))))
-        ≡ cond leaf (Ends (suc before) next)
-        (onEnd (endOf (node (suc before) next)) (λ so-far end. cond (ltb rule 4) (endOf (node so-far end)) (Ends so-far end)))
+          → endOf (cond leaf (whole (alone rule h) (suc before) next)
+          (cond (ltb rule 4) (onLeft (overTwo rule h) (node (suc before) next) node) (onChild (overOne rule h K W) (node (suc before) next))))
+          ≡ cond leaf (Ends (suc before) next)
+          (onEnd (endOf (node (suc before) next)) (λ so-far end. cond (ltb rule 4) (endOf (node so-far end)) (Ends so-far end)))
       by true = refl
       by false = first-end (ltb rule 4) (overTwo rule h) (overOne rule h K W) (node (suc before) next)
 
 step : (levels : ℕ) (bytes : List ℕ) (sets relations before at : ℕ) → (levels ≡ 0 → ⊥)
-  → endOf (nodeAt levels bytes sets relations before at)
-  ≡ headEnd (nodeHead bytes sets relations (levels - 1) before at) before (λ b n. endOf (nodeAt (levels - 1) bytes sets relations b n))
+    → endOf (nodeAt levels bytes sets relations before at)
+    ≡ headEnd (nodeHead bytes sets relations (levels - 1) before at) before (λ b n. endOf (nodeAt (levels - 1) bytes sets relations b n))
 unfolding nodeAt
 step zero bytes sets relations before at some = absurd (some refl)
 step (suc levels) bytes sets relations before at some =

@@ -1,5 +1,5 @@
 -- A while reads two more names; what is read behind them is the node itself.
-use mathlib.Core.Path.{sym}
+use mathlib.Core.Path.{_≡_, sym}
 use borrow.Author.Needs.{needs}
 use borrow.Author.Tests.{eq-eqb, ne-eqb}
 use Rattle.derivation.specs.declared.NodeHead.the-variants.{Node}
@@ -11,21 +11,21 @@ returns : tie.Need-returns
 unfolding loopHead
 returns c = rw (ne-eqb _ 5 (c .if1 .taken))
 
+-- The pair, read with the node behind it.
+pair : (c : tie.After-names-at) →
+    let a = c .before .before .before .args in
+    loopHead (a .src .now) (a .sets) (a .relations) (a .rule) (a .p) (a .r) (a .g) (a .q) (a .at)
+    ≡ onPair (c .names-at .result) (Node (a .rule) (a .p) (a .r) (a .g) (a .q))
+unfolding loopHead
+pair c = rw (eq-eqb _ 5 (c .before .if1 .left)) (c .names-at .ensures _)
+
 returns-2 : tie.Need-returns-2
-unfolding loopHead onPair
-returns-2 c =
-    let read = c .before .before .before in
-    let a = read .before .before .before .args in
-    rw (eq-eqb _ 5 (read .before .if1 .left))
-    (sym (rw (c .before .fault .given .1) at (read .names-at .ensures (Node (a .rule) (a .p) (a .r) (a .g) (a .q)))))
+unfolding onPair
+returns-2 c = sym (rw (c .before .fault .given .1) at (pair (c .before .before .before)))
 
 returns-3 : tie.Need-returns-3
-unfolding loopHead onPair
-returns-3 c =
-    let read = c .before .before .before in
-    let a = read .before .before .before .args in
-    rw (eq-eqb _ 5 (read .before .if1 .left))
-    (sym (rw (c .before .k .given .1) at (read .names-at .ensures (Node (a .rule) (a .p) (a .r) (a .g) (a .q)))))
+unfolding onPair
+returns-3 c = sym (rw (c .before .k .given .1) at (pair (c .before .before .before)))
 
 pub loop-head-spec : {M : Type 1} → statement M
 loop-head-spec =

@@ -15,7 +15,7 @@ behind bytes sets relations rule P R at =
     named bytes relations at (λ G. named bytes relations (at + 4) (λ Q. loopHead bytes sets relations rule P R G Q (at + 8)))
 
 in-pairs : (bytes : List ℕ) (sets relations rule at : ℕ) → namesHead bytes sets relations rule at
-  ≡ named bytes sets at (λ P. named bytes relations (at + 4) (λ R. behind bytes sets relations rule P R (at + 8)))
+    ≡ named bytes sets at (λ P. named bytes relations (at + 4) (λ R. behind bytes sets relations rule P R (at + 8)))
 unfolding namesHead
 in-pairs bytes sets relations rule at =
     let third : at + 12 ≡ at + 8 + 4 = omega arith in

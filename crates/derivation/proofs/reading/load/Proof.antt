@@ -24,10 +24,11 @@ returns : tie.Need-returns
 returns c =
     let file = c .before .before .before .before .before in
     let a = file .before .before .before .before .before .args in
-    let answer = sym (file .before .before .read-proof .ensures) ∙ file .fault .given .1 in
-    (sym answer,
-    c .before .before .clear .ensures
-    ∙ written-same _ _ _ (λ j. sym (no-words (a .src .now) (a .n) (readProof (a .src .now) (a .n)) _ _ answer j)))
+    let answer = sym (file .before .before .read-proof .ensures) ∙ file .fault .given .1 in (
+      sym answer,
+      c .before .before .clear .ensures
+          ∙ written-same _ _ _ (λ j. sym (no-words (a .src .now) (a .n) (readProof (a .src .now) (a .n)) _ _ answer j)),
+    )
 
 returns-2 : tie.Need-returns-2
 returns-2 c =

@@ -43,11 +43,12 @@ returns-4 : tie.Need-returns-4
 unfolding tableWord
 returns-4 c =
     let row = c .before .before in
-    rw
-    (le-ltb _ 16 (row .before .before .if1 .left),
-    lt-ltb _ _ (row .before .if3 .left),
-    lt-ltb _ _ (leb-false _ _ (row .if4 .left)),
-    ← c .before .row-at .ensures)
+    rw (
+      le-ltb _ 16 (row .before .before .if1 .left),
+      lt-ltb _ _ (row .before .if3 .left),
+      lt-ltb _ _ (leb-false _ _ (row .if4 .left)),
+      ← c .before .row-at .ensures,
+    )
     (c .word-at2 .ensures)
 
 pub table-word-spec : {M : Type 1} → statement M

@@ -1,0 +1,86 @@
+-- Worked examples on small files: document 01's proof.bin over N = 2, and each fault from 20 to 25 with its place.
+use Prim.Native.Nat.{ℕ}
+use mathlib.Core.List.{List, [], _∷_, _++_}
+use mathlib.Core.Path.{_≡_, refl}
+use Rattle.bits.specs.Fields.{bitLength, bitAt, bitsAt, isThere, fieldAt, firstSet, fillBits, furtherByte, fillFrom, fillAt}
+use Rattle.semantics.specs.Derivations.{assignment, iteration, weaken, skip}
+use Rattle.derivation.specs.declared.NodeHead.the-variants.{Node, Fault}
+use Rattle.derivation.specs.Tables.{setAt, rowAt, tablesThere, isCount, relationsRead, setsRead, tablesAt, wordAt, tableWord, tabulate, written}
+use Rattle.derivation.specs.Nodes.{onName, named, loopHead, namesHead, ruleHead, nodeHead, nodeAt, wholeNode}
+use Rattle.derivation.specs.Reading.{ProofRead, proof, refused, readProof, wordsOf}
+
+-- One set {0,1}; relations none, {(0,1)}, {(0,1),(1,1)}; an assignment node with P 0, R 0, G 1, Q 2.
+abbrev sample : List ℕ
+sample = 0x08 ∷ 0xF0 ∷ 0x45 ∷ 0x20 ∷ 0x02 ∷ 0x40 ∷ []
+
+-- The same tables under other nodes.
+abbrev over : List ℕ → List ℕ
+over nodes = 0x08 ∷ 0xF0 ∷ 0x45 ∷ nodes
+
+-- One set and one relation over one state, and 24 weakens one below the other; eight are 19 bytes.
+abbrev eight : List ℕ
+eight =
+    0x00 ∷ 0x01 ∷ 0x80 ∷ 0x00 ∷ 0x30 ∷ 0x00 ∷ 0x06 ∷ 0x00 ∷ 0x00 ∷ 0xC0 ∷ 0x00 ∷ 0x18 ∷ 0x00 ∷ 0x03 ∷ 0x00 ∷ 0x00 ∷ 0x60 ∷ 0x00 ∷ 0x0C ∷ []
+
+abbrev deep : List ℕ
+deep = 0x08 ∷ 0x6C ∷ eight ++ eight ++ eight
+
+-- Opens every definition of reading, for the cases to compute.
+reading : List ℕ → ℕ → ProofRead
+unfolding readProof tablesAt setsRead relationsRead isCount tablesThere rowAt wholeNode nodeAt nodeHead ruleHead namesHead loopHead
+    named onName fieldAt isThere bitsAt bitAt bitLength fillAt fillFrom furtherByte fillBits firstSet
+reading = readProof
+
+pub sample-read : readProof sample 2 ≡ proof 1 3 24 (assignment (record { P = 0; R = 0; G = 1; Q = 2 }))
+unfolding reading
+sample-read = refl
+
+-- Its set is word 0, row 0 of relation 1 is word 80, the rows of relation 2 are words 144 and 145.
+pub sample-words :
+    (tableWord sample 2 1 3 0 ≡ 3) × (tableWord sample 2 1 3 1 ≡ 0) × (tableWord sample 2 1 3 16 ≡ 0) × (tableWord sample 2 1 3 17 ≡ 0)
+    × (tableWord sample 2 1 3 80 ≡ 2) × (tableWord sample 2 1 3 81 ≡ 0) × (tableWord sample 2 1 3 82 ≡ 0)
+    × (tableWord sample 2 1 3 144 ≡ 2) × (tableWord sample 2 1 3 145 ≡ 2) × (tableWord sample 2 1 3 146 ≡ 0) × (tableWord sample 2 1 3 208 ≡ 0)
+unfolding tableWord setAt rowAt wordAt bitAt
+sample-words = (refl, refl, refl, refl, refl, refl, refl, refl, refl, refl, refl)
+
+-- A shorter buffer is written as far as it goes.
+pub short-buffer : written (tableWord sample 2 1 3) (7 ∷ 7 ∷ []) ≡ 3 ∷ 0 ∷ []
+unfolding written tabulate tableWord setAt wordAt bitAt
+short-buffer = refl
+
+-- 20: each field in turn, and a number of states that no field can have.
+pub past-the-end :
+    (readProof [] 2 ≡ refused 20 0) × (readProof (0x08 ∷ []) 2 ≡ refused 20 8) × (readProof (0x08 ∷ 0xF0 ∷ []) 2 ≡ refused 20 16)
+    × (readProof (over []) 2 ≡ refused 20 24) × (readProof (over (0x20 ∷ [])) 2 ≡ refused 20 32)
+    × (readProof sample 0 ≡ refused 20 48) × (readProof sample 65 ≡ refused 20 48)
+unfolding reading
+past-the-end = (refl, refl, refl, refl, refl, refl, refl)
+
+-- 21: no sets, 17 sets with no second field, no relations, 17 relations.
+pub counts :
+    (readProof (0x00 ∷ 0xF0 ∷ []) 2 ≡ refused 21 0) × (readProof (0x88 ∷ []) 2 ≡ refused 21 0)
+    × (readProof (0x08 ∷ 0x00 ∷ []) 2 ≡ refused 21 5) × (readProof (0x0C ∷ 0x40 ∷ []) 2 ≡ refused 21 5)
+unfolding reading
+counts = (refl, refl, refl, refl)
+
+-- 22: rule code 7. 23: set 1 of one, relation 3 of three; a while's K and W after its other names.
+pub codes-and-names :
+    (readProof (over (0xE0 ∷ 0x02 ∷ 0x40 ∷ [])) 2 ≡ refused 22 24) × (readProof (over (0x22 ∷ 0x02 ∷ 0x40 ∷ [])) 2 ≡ refused 23 27)
+    × (readProof (over (0x20 ∷ 0x62 ∷ 0x40 ∷ [])) 2 ≡ refused 23 31)
+    × (readProof (over (0xA0 ∷ 0x02 ∷ 0x42 ∷ 0x40 ∷ [])) 2 ≡ refused 23 43) × (readProof (over (0xA0 ∷ 0x02 ∷ 0x40 ∷ 0x60 ∷ [])) 2 ≡ refused 23 47)
+unfolding reading
+codes-and-names = (refl, refl, refl, refl, refl)
+
+-- 24: the node at level 25, and the 128th node; a field that is not there goes before it, an unused code after it.
+pub too-many :
+    (readProof deep 1 ≡ refused 24 468) × (nodeHead sample 1 3 24 127 24 ≡ Fault 24 24) × (nodeHead sample 1 3 1 126 24 ≡ Node 1 0 0 1 2 0 0 43)
+    × (nodeHead sample 1 3 0 0 24 ≡ Fault 24 24) × (nodeHead sample 1 3 0 0 48 ≡ Fault 20 48) × (nodeHead (0xE0 ∷ []) 1 3 24 127 0 ≡ Fault 24 0)
+unfolding reading
+too-many = (refl, refl, refl, refl, refl, refl)
+
+-- 25: the first fill bit, the last, and a further byte.
+pub misfilled :
+    (readProof (over (0x20 ∷ 0x02 ∷ 0x51 ∷ [])) 2 ≡ refused 25 43) × (readProof (over (0x20 ∷ 0x02 ∷ 0x41 ∷ [])) 2 ≡ refused 25 47)
+    × (readProof (sample ++ 0x00 ∷ []) 2 ≡ refused 25 48)
+unfolding reading
+misfilled = (refl, refl, refl)
