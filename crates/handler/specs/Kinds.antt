@@ -32,27 +32,16 @@ abbrev pub orPlace : Option ℕ → Option ℕ → Option ℕ
 orPlace none next = next
 orPlace (some place) next = some place
 
-abbrev pub resultOf : Row → Kind
-resultOf (Kinds a b c) = c
-resultOf Unused = Integer
-
--- The kind of an expression's result, by its first node alone.
-abbrev pub resultKind : Expr → Kind
-resultKind (lit v) = kindOf v
-resultKind (var v) = Integer
-resultKind (op o l r) = resultOf (rowOf o)
-
-abbrev pub rowMisfit : Row → (Kind → Option ℕ) → (Kind → Option ℕ) → Option ℕ
-rowMisfit (Kinds a b c) left right = orPlace (left a) (right b)
-rowMisfit Unused left right = none
+-- A node's own place comes first, then those of its operands, which its row gives their kinds.
+abbrev pub rowMisfit : Row → Kind → ℕ → (Kind → Option ℕ) → (Kind → Option ℕ) → Option ℕ
+rowMisfit (Kinds a b c) k at left right = cond (sameKind c k) (orPlace (left a) (right b)) (some at)
+rowMisfit Unused k at left right = some at
 
 -- The first node of an expression at a place that is not of the kind wanted of it.
 abbrev pub misfit : Kind → ℕ → Expr → Option ℕ
 misfit k at (lit v) = cond (sameKind (kindOf v) k) none (some at)
 misfit k at (var v) = cond (sameKind Integer k) none (some at)
-misfit k at (op o l r) =
-    cond (sameKind (resultOf (rowOf o)) k)
-    (rowMisfit (rowOf o) (λ a. misfit a (at + 5) l) (λ b. misfit b (at + 5 + width l) r)) (some at)
+misfit k at (op o l r) = rowMisfit (rowOf o) k at (λ a. misfit a (at + 5) l) (λ b. misfit b (at + 5 + width l) r)
 
 -- The same of a statement: an assigned expression is an integer, a test a truth value.
 abbrev pub stmtMisfit : ℕ → Stmt → Option ℕ

@@ -4,3 +4,5 @@ pub mod Expressions
 pub mod Statements
 pub mod Kinds
 pub mod Reading
+pub mod Shapes
+pub mod Values

@@ -1,5 +1,9 @@
 // The handler file, read from its bits: nothing is kept in memory, a statement or an expression is the number of its first bit.
-ghost use mathlib.Core.Path.{_≡_};
+pub mod expressions;
+pub mod head;
+pub mod reading;
+pub mod statements;
+pub mod values;
 
 // What the head of the file finds: how many variables, N and the statement's first bit; or the fault and its place.
 pub enum Header {
@@ -24,4 +28,59 @@ pub enum StmtHead {
     Pair(u32, usize),
     Test(u32, usize),
     Fault(u32, usize),
+}
+
+// Whether the kinds fit, or the first bit of the first node whose result kind is not the wanted one.
+pub enum Misfit {
+    Fits,
+    At(usize),
+}
+
+// What a whole expression is made of: its misfit, its E, how many of its variable occurrences are of given variables, its
+// nodes so far and the cursor behind; or a fault.
+pub enum ExprShape {
+    Whole(Misfit, u32, u32, u32, usize),
+    Fault(u32, usize),
+}
+
+// What a whole statement is made of: its step number, at most 2 ^ 32, its misfit, the statements so far and the cursor
+// behind; or a fault.
+pub enum StmtShape {
+    Whole(u64, Misfit, u32, usize),
+    Fault(u32, usize),
+}
+
+// A handler file: its number of variables, N, the statement's first bit and the step number, at most 2 ^ 32; or its fault.
+pub enum HandlerFile {
+    Handler(u32, u32, usize, u64),
+    Fault(u32, usize),
+}
+
+// What stands at a statement's first bit, with the first bits of its parts: an assignment's variable and expression; the
+// code of a sequence or parallel, left and right; the code of an if or while, test and body; or no whole statement.
+pub enum Part {
+    Nil,
+    Assign(u32, usize),
+    Pair(u32, usize, usize),
+    Test(u32, usize, usize),
+    Nothing,
+}
+
+// What an expression is worth at a state: an integer, a truth value, or nothing where the kinds do not fit.
+pub enum Worth {
+    Integer(i64),
+    Truth(bool),
+    Nothing,
+}
+
+// What walking an expression at a state finds: its worth, the number of its nodes so far and the cursor behind it; or a fault.
+pub enum WorthRead {
+    Whole(Worth, u32, usize),
+    Fault(u32, usize),
+}
+
+// The state after a store, or that the value is no integer or out of the variable's range.
+pub enum After {
+    State(u32),
+    OutOfRange,
 }

@@ -1,0 +1,82 @@
+-- Worked examples by computation: document 01's files, and each of 10 to 18 with its place.
+use Prim.Native.Nat.{ℕ, _^_}
+use mathlib.Core.List.{List, [], _∷_, _++_}
+use mathlib.Core.Path.{_≡_, refl}
+use lib.IntN.{pos}
+use Rattle.bits.specs.Fields.{bitLength, bitAt, bitsAt, isThere, fieldAt, firstSet, fillBits, furtherByte, fillFrom, fillAt}
+use Rattle.semantics.specs.Language.{lit, int, nil, assign}
+use Rattle.handler.specs.declared.HandlerFile.the-variants.{Handler, Fault}
+use Rattle.handler.specs.declared.Part.the-variants.{Assign, Pair}
+use Rattle.handler.specs.Header.{sizeRead, addSize, sizesRead, countRead, headerAt}
+use Rattle.handler.specs.Expressions.{signed, integerHead, truthHead, variableHead, operationHead, payloadHead, tagHead, exprHead, exprAt, wholeExpr}
+use Rattle.handler.specs.Statements.{targetHead, codeHead, markHead, stmtHead, stmtAt, wholeStmt}
+use Rattle.handler.specs.Reading.{handler, refused, readHandler}
+use Rattle.handler.specs.Shapes.{fileOf, partAt}
+
+-- Opens all that reading a file computes with.
+opened : Unit {0}
+unfolding partAt fileOf readHandler headerAt countRead sizesRead addSize sizeRead wholeStmt stmtAt stmtHead markHead codeHead targetHead wholeExpr exprAt exprHead tagHead payloadHead integerHead truthHead variableHead operationHead signed fieldAt isThere bitsAt bitAt bitLength fillAt fillFrom furtherByte fillBits firstSet
+opened = tt
+
+-- One variable of size 2; 16 sequences, each the left side of the one before, leave the 17th level at bit 56.
+abbrev deep : List ℕ
+deep = 0x22 ∷ 0x49 ∷ 0x24 ∷ 0x92 ∷ 0x49 ∷ 0x24 ∷ 0x92 ∷ []
+
+-- 31 operations, each the left operand of the one before, leave the 32nd node at bit 168.
+abbrev wide : List ℕ
+wide =
+    0x22 ∷ 0x26 ∷ 0x31 ∷ 0x8C ∷ 0x63 ∷ 0x18 ∷ 0xC6 ∷ 0x31 ∷ 0x8C ∷ 0x63 ∷ 0x18 ∷ 0xC6 ∷ 0x31 ∷ 0x8C ∷ 0x63 ∷ 0x18 ∷ 0xC6 ∷ 0x31 ∷ 0x8C
+    ∷ 0x63 ∷ 0x18 ∷ 0 ∷ []
+
+-- 31 sequences and 32 nils are 63 statements; under an if they are 64, the last of them at bit 200.
+abbrev many : List ℕ
+many =
+    0x22 ∷ 0x49 ∷ 0x24 ∷ 0x02 ∷ 0x01 ∷ 0x20 ∷ 0x10 ∷ 0x09 ∷ 0x20 ∷ 0x10 ∷ 0x09 ∷ 0x00 ∷ 0x80 ∷ 0x49 ∷ 0x20 ∷ 0x10 ∷ 0x09 ∷ 0x00 ∷ 0x80
+    ∷ 0x49 ∷ 0x00 ∷ 0x80 ∷ 0x48 ∷ 0x04 ∷ 0x00 ∷ []
+
+abbrev too-many : List ℕ
+too-many =
+    0x22 ∷ 0x8D ∷ 0x24 ∷ 0x90 ∷ 0x08 ∷ 0x04 ∷ 0x80 ∷ 0x40 ∷ 0x24 ∷ 0x80 ∷ 0x40 ∷ 0x24 ∷ 0x02 ∷ 0x01 ∷ 0x24 ∷ 0x80 ∷ 0x40 ∷ 0x24 ∷ 0x02
+    ∷ 0x01 ∷ 0x24 ∷ 0x02 ∷ 0x01 ∷ 0x20 ∷ 0x10 ∷ 0x00 ∷ []
+
+-- Sizes 8 and 8, and 15 nested loops over nil with a true test: more than 2 ^ 91 steps.
+abbrev loops : List ℕ
+loops = 0x48 ∷ 0x45 ∷ 0x75 ∷ 0xD7 ∷ 0x5D ∷ 0x75 ∷ 0xD7 ∷ 0x5D ∷ 0x75 ∷ 0xD7 ∷ 0x5D ∷ 0x75 ∷ 0xD6 ∷ 0x00 ∷ []
+
+pub handlers :
+    (readHandler (0x22 ∷ 0x20 ∷ 0x02 ∷ []) ≡ handler 1 2 8 (assign 0 (lit (int (pos 1)))))
+    × (readHandler (0x30 ∷ 0x00 ∷ []) ≡ handler 1 16 8 nil) × (readHandler (0x48 ∷ 0x40 ∷ []) ≡ handler 2 64 13 nil)
+    × (fileOf (readHandler (0x22 ∷ 0x20 ∷ 0x02 ∷ [])) ≡ Handler 1 2 8 1) × (fileOf (readHandler many) ≡ Handler 1 2 8 31)
+    × (fileOf (readHandler loops) ≡ Handler 2 64 13 (2 ^ 32))
+unfolding opened
+handlers = (refl, refl, refl, refl, refl, refl)
+
+-- 10: the end, the size that is not there, the code that is not there on the 17th level. 11. 12, before 13. 13.
+pub heads :
+    (readHandler [] ≡ refused 10 0) × (readHandler (0x22 ∷ []) ≡ refused 10 8) × (readHandler deep ≡ refused 10 56)
+    × (readHandler (0x00 ∷ []) ≡ refused 11 0) × (readHandler (0xA0 ∷ []) ≡ refused 11 0) × (readHandler (0x21 ∷ []) ≡ refused 12 3)
+    × (readHandler (0x31 ∷ []) ≡ refused 12 3) × (readHandler (0x4D ∷ 0x88 ∷ []) ≡ refused 12 8) × (readHandler (0x4D ∷ 0x28 ∷ []) ≡ refused 13 8)
+unfolding opened
+heads = (refl, refl, refl, refl, refl, refl, refl, refl, refl)
+
+-- 14: code 6, operation 7. 15: a target, a variable. 17, before the code is judged: the level, the node, the statement.
+pub nodes :
+    (readHandler (0x22 ∷ 0xC0 ∷ []) ≡ refused 14 8) × (readHandler (0x22 ∷ 0x27 ∷ 0xC0 ∷ []) ≡ refused 14 15)
+    × (readHandler (0x22 ∷ 0x28 ∷ []) ≡ refused 15 11) × (readHandler (0x22 ∷ 0x24 ∷ 0x80 ∷ []) ≡ refused 15 15)
+    × (readHandler (deep ++ 0x00 ∷ []) ≡ refused 17 56) × (readHandler (deep ++ 0xE0 ∷ []) ≡ refused 17 56) × (readHandler wide ≡ refused 17 168)
+    × (readHandler too-many ≡ refused 17 200)
+unfolding opened
+nodes = (refl, refl, refl, refl, refl, refl, refl, refl)
+
+-- 16: an assigned truth value, an operand of +. 18: the last fill bit, a further byte, before 16.
+pub ends :
+    (readHandler (0x22 ∷ 0x23 ∷ []) ≡ refused 16 13) × (readHandler (0x22 ∷ 0x26 ∷ 0x1C ∷ 0x00 ∷ []) ≡ refused 16 18)
+    × (readHandler (0x22 ∷ 0x20 ∷ 0x03 ∷ []) ≡ refused 18 23) × (readHandler (0x22 ∷ 0x20 ∷ 0x02 ∷ 0x00 ∷ []) ≡ refused 18 24)
+    × (readHandler (0x22 ∷ 0x23 ∷ 0x80 ∷ []) ≡ refused 18 16)
+unfolding opened
+ends = (refl, refl, refl, refl, refl)
+
+-- What stands at a place.
+pub placed : (partAt (0x22 ∷ 0x20 ∷ 0x02 ∷ []) 1 8 ≡ Assign 0 13) × (partAt many 1 8 ≡ Pair 2 11 104)
+unfolding opened
+placed = (refl, refl)

@@ -1,0 +1,30 @@
+-- Sums and differences of integers stay within the sum of their magnitudes and one, and so fit; each by the signs.
+use Prim.Native.Nat.{ℕ, zero, suc, _+_, _-_, _≤_, _<_}
+use native.Mathlib.Omega.{arith}
+use mathlib.Core.Bool.{Bool, true, false, cond}
+use mathlib.Core.Path.{_≡_, refl}
+use lib.Dec.{ltb}
+use lib.IntN.{ℤ, pos, negsuc, subℕ, negℤ, _+ℤ_, _-ℤ_}
+use lib.Signed.{mag}
+
+mag-sub : (a b k : ℕ) → a ≤ k → b ≤ suc k → mag (subℕ a b) ≤ k
+mag-sub a b k ha hb = by (ltb a b)
+  where
+    by : (t : Bool) → mag (cond t (negsuc (b - suc a)) (pos (a - b))) ≤ k
+    by true = omega arith
+    by false = omega arith
+
+pub mag-add : (x y : ℤ) → mag (x +ℤ y) ≤ mag x + mag y + 1
+mag-add (pos a) (pos b) = omega arith
+mag-add (pos a) (negsuc b) = mag-sub a (suc b) (a + b + 1) (omega arith) (omega arith)
+mag-add (negsuc a) (pos b) = mag-sub b (suc a) (a + b + 1) (omega arith) (omega arith)
+mag-add (negsuc a) (negsuc b) = omega arith
+
+mag-neg-add : (x : ℤ) (b : ℕ) → mag (x +ℤ pos (suc b)) ≤ mag x + b + 1
+mag-neg-add (pos a) b = omega arith
+mag-neg-add (negsuc a) b = mag-sub (suc b) (suc a) (a + b + 1) (omega arith) (omega arith)
+
+pub mag-minus : (x y : ℤ) → mag (x -ℤ y) ≤ mag x + mag y + 1
+mag-minus x (pos zero) = omega (arith, mag-add x (pos zero))
+mag-minus x (pos (suc b)) = omega (arith, mag-add x (negsuc b))
+mag-minus x (negsuc b) = mag-neg-add x b

@@ -1,0 +1,141 @@
+-- Laws of reading statements: one level, what a head says of its place, and what is known of a statement that was read.
+use Prim.Native.Nat.{ℕ, zero, suc, _+_, _-_, _≤_, _<_}
+use mathlib.Core.Bool.{Bool, true, false, cond, _||_}
+use mathlib.Core.List.{List}
+use mathlib.Core.Path.{_≡_, refl}
+use native.Mathlib.Omega.{arith}
+use borrow.Author.Tests.{leb-false, ltb-true, ltb-false, eqb-false, eqb-true}
+use lib.Dec.{leb, ltb, eqb}
+use Rattle.bits.specs.Fields.{fieldAt}
+use Rattle.bits.specs.declared.Field.{Field}
+use Rattle.bits.specs.declared.Field.the-variants.{Value, Missing}
+use Rattle.bits.proofs.Laws.{there}
+use Rattle.semantics.specs.Language.{Expr, Stmt, nil, assign, seq, par, if, while}
+use Rattle.handler.specs.declared.StmtHead.{StmtHead}
+use Rattle.handler.specs.declared.StmtHead.the-variants.{Nil, Assign, Pair, Test, Fault}
+use Rattle.handler.specs.Expressions.{ExprRead, good, bad, wholeExpr}
+use Rattle.handler.specs.Statements.{targetHead, codeHead, markHead, stmtHead, StmtRead, whole, fault, paired, tested, onAssigned, onBody, onTest, onRight, onLeft, onStmtHead, stmtAt}
+use Rattle.handler.specs.Kinds.{width, stmtWidth}
+use Rattle.handler.proofs.Folds.{expr-read}
+
+-- One level of reading, in the code's numbers.
+pub stmt-step : (bytes : List ℕ) (count levels before at : ℕ) (head : StmtHead) → 0 < levels
+  → stmtHead bytes count (levels - 1) before at ≡ head
+  → stmtAt levels bytes count before at ≡ onStmtHead head (wholeExpr bytes count) before (stmtAt (levels - 1) bytes count)
+unfolding stmtAt
+stmt-step bytes count zero before at head more e = absurd (omega arith)
+stmt-step bytes count (suc levels) before at head more e =
+    let less : suc levels - 1 ≡ levels = omega arith in
+    let here : stmtHead bytes count levels before at ≡ head = rw less at e in
+    rw (here, less)
+
+-- What is known where a statement's head is no fault: there was room for the statement, and where the head ends.
+unfoldable pub Marked : ℕ → ℕ → ℕ → StmtHead → Type 0
+Marked below before at (Nil next) = (0 < below) × (before < 63) × (next ≡ at + 3)
+Marked below before at (Assign v next) = (0 < below) × (before < 63) × (next ≡ at + 5)
+Marked below before at (Pair code next) = (0 < below) × (before < 63) × (next ≡ at + 3) × (2 ≤ code) × (code < 4)
+Marked below before at (Test code next) = (0 < below) × (before < 63) × (next ≡ at + 3) × (4 ≤ code) × (code < 6)
+Marked below before at (Fault k place) = Unit {0}
+
+module _ (bytes : List ℕ) (count below before : ℕ) where
+  module _ (deep : 0 < below) (room : before < 63) (at next : ℕ) (moved : next ≡ at + 3) where
+    on-target : (f : Field) → fieldAt bytes next 2 ≡ f → Marked below before at (targetHead bytes count next f)
+    unfolding Marked targetHead
+    on-target Missing e = tt
+    on-target (Value v after) e = by (ltb v count) refl
+      where
+        by : (b : Bool) → ltb v count ≡ b → Marked below before at (cond b (Assign v after) (Fault 15 next))
+        by true t = omega (arith, there bytes next 2 v after e)
+        by false t = tt
+
+    on-code : (code : ℕ) → Marked below before at (codeHead bytes count at code next)
+    unfolding Marked codeHead
+    on-code code = by (eqb code 0) (eqb code 1) (ltb code 4) (ltb code 6) refl refl refl refl
+      where
+        by : (a b c d : Bool) → eqb code 0 ≡ a → eqb code 1 ≡ b → ltb code 4 ≡ c → ltb code 6 ≡ d
+          → Marked below before at (cond a (Nil next) (cond b (targetHead bytes count next (fieldAt bytes next 2)) (cond c (Pair code next) (cond d (Test code next) (Fault 14 at)))))
+        by true b c d t u p q = omega arith
+        by false true c d t u p q = on-target _ refl
+        by false false true d t u p q =
+            let some = eqb-false code 0 t in
+            let more = eqb-false code 1 u in
+            omega (arith, ltb-true)
+        by false false false true t u p q = omega (arith, ltb-true, ltb-false)
+        by false false false false t u p q = tt
+
+  pub marked : (at : ℕ) (head : StmtHead) → stmtHead bytes count below before at ≡ head → Marked below before at head
+  unfolding Marked stmtHead markHead
+  marked at head e = rw e at (by (fieldAt bytes at 3) refl)
+    where
+      full : (a b : Bool) → eqb below 0 ≡ a → leb 63 before ≡ b → (code next : ℕ) → next ≡ at + 3
+        → Marked below before at (cond (a || b) (Fault 17 at) (codeHead bytes count at code next))
+      full true b p q code next moved = tt
+      full false true p q code next moved = tt
+      full false false p q code next moved = let some = eqb-false below 0 p in on-code (omega arith) (leb-false 63 before q) at next moved code
+      by : (f : Field) → fieldAt bytes at 3 ≡ f → Marked below before at (markHead bytes count (eqb below 0 || leb 63 before) at f)
+      by Missing e = tt
+      by (Value code next) e = full (eqb below 0) (leb 63 before) refl refl code next (there bytes at 3 code next e .moved)
+
+-- Where a whole expression ends.
+pub whole-ends : (bytes : List ℕ) (count at : ℕ) (e : Expr) (nodes next : ℕ) → wholeExpr bytes count at ≡ good e nodes next → next ≡ at + width e
+unfolding wholeExpr
+whole-ends bytes count at e nodes next p = expr-read 32 bytes count 0 at e nodes next p .ends
+
+-- What is known of a statement that was read: where it ends, and that it counts among at most 63.
+pub record ReadStmt (before at : ℕ) (S : Stmt) (after next : ℕ) : Type 0 where
+  pub ends : next ≡ at + stmtWidth S
+  pub counted : before < after
+  pub room : after ≤ 63
+
+abbrev AllRead : ℕ → ℕ → StmtRead → Type 0
+AllRead before at (whole S after next) = ReadStmt before at S after next
+AllRead before at (fault k place) = Unit {0}
+
+paired-width : (b : Bool) (l r : Stmt) → stmtWidth (cond b (seq l r) (par l r)) ≡ 3 + stmtWidth l + stmtWidth r
+paired-width true l r = refl
+paired-width false l r = refl
+
+tested-width : (b : Bool) (e : Expr) (s : Stmt) → stmtWidth (cond b (if e s) (while e s)) ≡ 3 + width e + stmtWidth s
+tested-width true e s = refl
+tested-width false e s = refl
+
+all-read : (levels : ℕ) (bytes : List ℕ) (count before at : ℕ) → AllRead before at (stmtAt levels bytes count before at)
+unfolding stmtAt Marked
+all-read zero bytes count before at = tt
+all-read (suc levels) bytes count before at =
+    by (stmtHead bytes count levels before at) (marked bytes count levels before at _ refl) (all-read levels bytes count)
+  where
+    right : (code next : ℕ) → next ≡ at + 3 → (l : Stmt) (so-far behind : ℕ) → ReadStmt (suc before) next l so-far behind → (x : StmtRead)
+      → AllRead so-far behind x → AllRead before at (onRight code l x)
+    right code next placed l so-far behind first (fault k place) known = tt
+    right code next placed l so-far behind first (whole r after end) known =
+        omega (arith, first, known, paired-width (eqb code 2) l r)
+    left : (code next : ℕ) → next ≡ at + 3 → (x : StmtRead) → AllRead (suc before) next x → (stmt : ℕ → ℕ → StmtRead)
+      → ((n i : ℕ) → AllRead n i (stmt n i)) → AllRead before at (onLeft code x stmt)
+    left code next placed (fault k place) known stmt later = tt
+    left code next placed (whole l so-far behind) known stmt later =
+        right code next placed l so-far behind known (stmt so-far behind) (later so-far behind)
+    body : (code next behind : ℕ) → next ≡ at + 3 → (e : Expr) → behind ≡ next + width e → (x : StmtRead) → AllRead (suc before) behind x
+      → AllRead before at (onBody code e x)
+    body code next behind placed e ends (fault k place) known = tt
+    body code next behind placed e ends (whole b after end) known = omega (arith, known, tested-width (eqb code 4) e b)
+    test : (code next : ℕ) → next ≡ at + 3 → (x : ExprRead) → wholeExpr bytes count next ≡ x → (stmt : ℕ → ℕ → StmtRead)
+      → ((n i : ℕ) → AllRead n i (stmt n i)) → AllRead before at (onTest code (suc before) x stmt)
+    test code next placed (bad k place) read stmt later = tt
+    test code next placed (good e nodes behind) read stmt later =
+        body code next behind placed e (whole-ends bytes count next e nodes behind read) (stmt (suc before) behind) (later (suc before) behind)
+    assigned : (v next : ℕ) → before < 63 → next ≡ at + 5 → (x : ExprRead) → wholeExpr bytes count next ≡ x
+      → AllRead before at (onAssigned v (suc before) x)
+    assigned v next room placed (bad k place) read = tt
+    assigned v next room placed (good e nodes behind) read = omega (arith, whole-ends bytes count next e nodes behind read)
+    by : (h : StmtHead) → Marked levels before at h → ((n i : ℕ) → AllRead n i (stmtAt levels bytes count n i))
+      → AllRead before at (onStmtHead h (wholeExpr bytes count) before (stmtAt levels bytes count))
+    by (Nil next) p later = omega (arith, p)
+    by (Assign v next) p later = assigned v next (p .1) (p .2) (wholeExpr bytes count next) refl
+    by (Pair code next) p later = left code next (p .2) (stmtAt levels bytes count (suc before) next) (later (suc before) next) (stmtAt levels bytes count) later
+    by (Test code next) p later = test code next (p .2) (wholeExpr bytes count next) refl (stmtAt levels bytes count) later
+    by (Fault k place) p later = tt
+
+pub stmt-read : (levels : ℕ) (bytes : List ℕ) (count before at : ℕ) (S : Stmt) (after next : ℕ)
+  → stmtAt levels bytes count before at ≡ whole S after next → ReadStmt before at S after next
+stmt-read levels bytes count before at S after next p = rw p at (all-read levels bytes count before at)

@@ -1,0 +1,27 @@
+-- The shape says which case of `assignedOf` holds; an E of 32 bits and one more pass no limit.
+use Prim.Native.Nat.{_+_, _^_, min}
+use mathlib.Core.Path.{_≡_}
+use native.Mathlib.Omega.{arith}
+use borrow.Author.Needs.{needs}
+use Rattle.handler.proofs.statements.assigned_of.Statement.{statement}
+use Rattle.handler.proofs.statements.assigned_of.Tie as tie
+
+returns : tie.Need-returns
+returns c =
+    let e = c .before .assigned .given .0 .1 .0 in
+    let within : min (e + 1) (2 ^ 32) ≡ e + 1 = omega arith in
+    rw (c .before .assigned .given .1, within)
+
+returns-2 : tie.Need-returns-2
+returns-2 c = rw (c .before .assigned2 .given .1)
+
+pub assigned-of-spec : {M : Type 1} → statement M
+assigned-of-spec =
+    tie.close
+    (tie.spec
+    (λ c. search needs)
+    (λ c. search needs)
+    (λ c. search needs)
+    (λ c. search needs)
+    returns
+    returns-2)

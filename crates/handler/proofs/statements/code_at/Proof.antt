@@ -1,0 +1,49 @@
+-- The tests on the code say which case of `codeHead` holds.
+use borrow.Author.Needs.{needs}
+use borrow.Author.Tests.{eq-eqb, ne-eqb, lt-ltb, le-ltb}
+use Rattle.handler.specs.Statements.{codeHead}
+use Rattle.handler.proofs.statements.code_at.Statement.{statement}
+use Rattle.handler.proofs.statements.code_at.Tie as tie
+
+returns : tie.Need-returns
+unfolding codeHead
+returns c = rw (eq-eqb _ 0 (c .if1 .taken))
+
+returns-2 : tie.Need-returns-2
+unfolding codeHead
+returns-2 c = rw (ne-eqb _ 0 (c .before .before .if1 .left), eq-eqb _ 1 (c .before .if2 .taken)) (c .target-at .ensures)
+
+returns-3 : tie.Need-returns-3
+unfolding codeHead
+returns-3 c = rw (ne-eqb _ 0 (c .before .before .if1 .left), ne-eqb _ 1 (c .before .if2 .left), lt-ltb _ 4 (c .if3 .taken))
+
+returns-4 : tie.Need-returns-4
+unfolding codeHead
+returns-4 c =
+    rw
+    (ne-eqb _ 0 (c .before .before .before .if1 .left),
+    ne-eqb _ 1 (c .before .before .if2 .left),
+    le-ltb _ 4 (c .before .if3 .left),
+    lt-ltb _ 6 (c .if4 .taken))
+
+returns-5 : tie.Need-returns-5
+unfolding codeHead
+returns-5 c =
+    rw
+    (ne-eqb _ 0 (c .before .before .before .if1 .left),
+    ne-eqb _ 1 (c .before .before .if2 .left),
+    le-ltb _ 4 (c .before .if3 .left),
+    le-ltb _ 6 (c .if4 .left))
+
+pub code-at-spec : {M : Type 1} → statement M
+code-at-spec =
+    tie.close
+    (tie.spec
+    returns
+    (λ c κs. search needs)
+    returns-2
+    (λ c. search needs)
+    returns-3
+    (λ c. search needs)
+    returns-4
+    returns-5)

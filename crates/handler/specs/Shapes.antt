@@ -1,0 +1,103 @@
+-- What walks over the bits answer, from what reading says: the definitions of document 01 over trees, with no tree in the
+-- answer.
+use Prim.Native.Nat.{ℕ, _+_, _-_, _*_, _/_, _%_, _^_, min}
+use mathlib.Core.Bool.{Bool, cond}
+use mathlib.Core.List.{List}
+use mathlib.Core.Option.{Option, none, some}
+use lib.Dec.{eqb}
+use Rattle.bits.specs.Fields.{fillAt}
+use Rattle.bits.specs.declared.Fill.{Fill}
+use Rattle.bits.specs.declared.Fill.the-variants.{Ends, Wrong}
+use Rattle.semantics.specs.declared.Kind.{Kind}
+use Rattle.semantics.specs.Language.{Stmt, nil, assign, seq, par, if, while}
+use Rattle.semantics.specs.StepNumber.{E, steps}
+use Rattle.semantics.specs.Conditions.{occurrences}
+use Rattle.handler.specs.declared.Misfit.{Misfit}
+use Rattle.handler.specs.declared.Misfit.the-variants.{Fits, At}
+use Rattle.handler.specs.declared.ExprShape.{ExprShape}
+use Rattle.handler.specs.declared.ExprShape.the-variants as expr
+use Rattle.handler.specs.declared.StmtShape.{StmtShape}
+use Rattle.handler.specs.declared.StmtShape.the-variants as stmt
+use Rattle.handler.specs.declared.HandlerFile.{HandlerFile}
+use Rattle.handler.specs.declared.HandlerFile.the-variants as file
+use Rattle.handler.specs.declared.Part.{Part}
+use Rattle.handler.specs.declared.Part.the-variants.{Nil, Assign, Pair, Test, Nothing}
+use Rattle.handler.specs.Expressions.{ExprRead, good, bad}
+use Rattle.handler.specs.Statements.{StmtRead, whole, fault, wholeStmt}
+use Rattle.handler.specs.Kinds.{width, stmtWidth, misfit, stmtMisfit}
+use Rattle.handler.specs.Reading.{HandlerRead, handler, refused}
+
+abbrev pub asMisfit : Option ℕ → Misfit
+asMisfit none = Fits
+asMisfit (some place) = At place
+
+-- The first misfit of two parts, in file order.
+abbrev pub earlierOf : Misfit → Misfit → Misfit
+earlierOf Fits second = second
+earlierOf (At place) second = At place
+
+-- Whether variable v is in a mask: its bit v.
+abbrev pub inMask : ℕ → ℕ → Bool
+inMask mask v = eqb (mask / 2 ^ v % 2) 1
+
+-- Of an expression at a place, of which a kind is wanted: its misfit, its E, and how many occurrences are of masked variables.
+unfoldable pub exprShape : Kind → ℕ → ℕ → ExprRead → ExprShape
+exprShape wanted moved at (good e nodes next) =
+    expr.Whole (asMisfit (misfit wanted at e)) (E e) (occurrences (inMask moved) e) nodes next
+exprShape wanted moved at (bad k place) = expr.Fault k place
+
+-- Of a statement at a place, over N states: its step number as far as 2 ^ 32, which is past the limit, and its misfit.
+unfoldable pub stmtShape : ℕ → ℕ → StmtRead → StmtShape
+stmtShape N at (whole S before next) = stmt.Whole (min (steps N S) (2 ^ 32)) (asMisfit (stmtMisfit at S)) before next
+stmtShape N at (fault k place) = stmt.Fault k place
+
+-- How the shapes of parts make that of a statement: an assignment, a sequence or parallel, an if (4) or while (5).
+abbrev pub assignedOf : ℕ → ExprShape → StmtShape
+assignedOf before (expr.Whole m e occurs nodes next) = stmt.Whole (min (e + 1) (2 ^ 32)) m before next
+assignedOf before (expr.Fault k place) = stmt.Fault k place
+
+abbrev pub pairOf : StmtShape → StmtShape → StmtShape
+pairOf (stmt.Whole s m so-far behind) (stmt.Whole t m′ before next) =
+    stmt.Whole (min (s + t + 1) (2 ^ 32)) (earlierOf m m′) before next
+pairOf (stmt.Whole s m so-far behind) (stmt.Fault k place) = stmt.Fault k place
+pairOf (stmt.Fault k place) right = stmt.Fault k place
+
+abbrev pub testSteps : ℕ → ℕ → ℕ → ℕ → ℕ
+testSteps N code e b = cond (eqb code 4) (e + 1 + b) (N * (e + 2) + (N - 1) * (b + 1))
+
+abbrev pub testedOf : ℕ → ℕ → ExprShape → StmtShape → StmtShape
+testedOf N code (expr.Whole m e occurs nodes behind) (stmt.Whole b m′ before next) =
+    stmt.Whole (min (testSteps N code e b) (2 ^ 32)) (earlierOf m m′) before next
+testedOf N code (expr.Whole m e occurs nodes behind) (stmt.Fault k place) = stmt.Fault k place
+testedOf N code (expr.Fault k place) body = stmt.Fault k place
+
+-- Of a handler file.
+unfoldable pub fileOf : HandlerRead → HandlerFile
+fileOf (handler count n at S) = file.Handler count n at (min (steps n S) (2 ^ 32))
+fileOf (refused k place) = file.Fault k place
+
+-- How the file's answer is made of its statement's: 18, then 16.
+abbrev pub filledOf : ℕ → ℕ → ℕ → ℕ → Misfit → Fill → HandlerFile
+filledOf count n at steps m (Wrong place) = file.Fault 18 place
+filledOf count n at steps Fits Ends = file.Handler count n at steps
+filledOf count n at steps (At place) Ends = file.Fault 16 place
+
+abbrev pub judgedOf : List ℕ → ℕ → ℕ → ℕ → StmtShape → HandlerFile
+judgedOf bytes count n at (stmt.Whole steps m before next) = filledOf count n at steps m (fillAt bytes next)
+judgedOf bytes count n at (stmt.Fault k place) = file.Fault k place
+
+-- What stands at a statement's place, by its parts' places: a part's is the whole's plus the widths before it.
+abbrev pub partOf : ℕ → Stmt → Part
+partOf at nil = Nil
+partOf at (assign v e) = Assign v (at + 5)
+partOf at (seq l r) = Pair 2 (at + 3) (at + 3 + stmtWidth l)
+partOf at (par l r) = Pair 3 (at + 3) (at + 3 + stmtWidth l)
+partOf at (if e b) = Test 4 (at + 3) (at + 3 + width e)
+partOf at (while e b) = Test 5 (at + 3) (at + 3 + width e)
+
+abbrev pub partRead : ℕ → StmtRead → Part
+partRead at (whole S before next) = partOf at S
+partRead at (fault k place) = Nothing
+
+unfoldable pub partAt : List ℕ → ℕ → ℕ → Part
+partAt bytes count at = partRead at (wholeStmt bytes count at)
