@@ -1,6 +1,9 @@
 // The conditions of each rule on the tables in the work words, the walk over the nodes, and the check of two files.
 ghost use mathlib.Core.Path.{_≡_};
 
+pub mod conditions;
+pub mod tables;
+
 // The tables that a node names, by number: P a set, R, G and Q relations.
 pub struct Names {
     pub p: u32,

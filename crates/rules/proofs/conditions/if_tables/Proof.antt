@@ -1,0 +1,22 @@
+-- Each comparison is the one that the condition names.
+use mathlib.Core.Path.{_∙_, sym, ap, ap₂}
+use mathlib.Core.Bool.{_&&_}
+use borrow.Author.Needs.{needs}
+use Rattle.states.proofs.Search.{holds-must}
+use Rattle.states.specs.Sets.{has}
+use Rattle.semantics.specs.Conditions.{c34if}
+use Rattle.rules.proofs.Words.{same-cong}
+use Rattle.rules.proofs.conditions.if_tables.Statement.{statement}
+use Rattle.rules.proofs.conditions.if_tables.Tie as tie
+
+returns : tie.Need-returns
+unfolding c34if
+returns c =
+    let a = c .before .before .before .before .before .before .before .before .args in
+    let sets = c .before .before .before .same-set .ensures
+    ∙ same-cong _ _ _ _ _ (c .before .before .before .before .before .before .set-at .ensures) (λ s. c .before .before .before .before .meet .ensures s ∙ ap (λ b. b && has (a .truth) s) (c .before .before .before .before .before .set-at2 .ensures s)) in
+    ap₂ _&&_ (ap₂ _&&_ (ap₂ _&&_ sets (c .before .before .same-relation .ensures)) (c .before .same-relation2 .ensures)) (c .same-relation3 .ensures)
+    ∙ sym (holds-must _)
+
+pub if-tables-spec : {M : Type 1} → statement M
+if-tables-spec = tie.close (tie.spec (λ c κs. search needs) (λ c κs. search needs) (λ c κs. search needs) (λ c κs. search needs) (λ c κs. search needs) (λ c κs. search needs) (λ c κs. search needs) returns)
