@@ -1,4 +1,6 @@
--- The laws that the conditions' proofs share.
+-- The laws that the conditions' proofs share, and the theorem of the bytes.
 pub mod Searches
 pub mod Words
 pub mod Demand
+pub mod Faults
+pub mod Loaded

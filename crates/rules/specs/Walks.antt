@@ -1,10 +1,10 @@
 -- What the walk over the nodes finds, from what the two files hold: nodes by number, conditions by number.
-use Prim.Native.Nat.{ℕ, suc, _≤_, _<_}
+use Prim.Native.Nat.{ℕ, _≤_}
 use mathlib.Core.Path.{_≡_}
 use mathlib.Core.Bool.{Bool, true, false}
 use mathlib.Core.List.{List}
 use mathlib.Core.Option.{Option, none, some}
-use lib.ListN.{length, getD}
+use lib.ListN.{length}
 use Rattle.semantics.specs.Language.{Stmt, nil}
 use Rattle.semantics.specs.Derivations.{Derivation, skip, Tables}
 use Rattle.semantics.specs.Checking.{Broken, firstBroken, owed, firstFault}
@@ -13,8 +13,8 @@ use Rattle.handler.specs.declared.Header.the-variants.{Sizes}
 use Rattle.handler.specs.Statements as Stmts
 use Rattle.handler.specs.declared.Part.{Part}
 use Rattle.handler.specs.declared.Part.the-variants.{Nil, Assign, Pair, Test, Nothing}
-use Rattle.derivation.specs.Tables.{tablesAt, tableWord}
-use Rattle.derivation.specs.declared.Tables.the-variants as Heads
+use Rattle.derivation.specs.Tables.{written}
+use Rattle.derivation.specs.Reading.{proof, readProof, wordsOf}
 use Rattle.derivation.specs.Nodes.{NodeRead, whole, fault}
 use Rattle.rules.specs.declared.Counts.{Counts}
 use Rattle.rules.specs.declared.Own.{Own}
@@ -52,14 +52,16 @@ abbrev pub walkOn : Tables → NodeRead → Stmt → ℕ → Walked
 walkOn t (whole d after next) S node = wayOf (firstFault t d S node) after next
 walkOn t (fault k place) S node = Way.Broken 0 node
 
--- What the walk rests on: both heads were read, and the words hold the tables.
+-- What the walk rests on: both files were read, and the words hold the proof file's tables.
 pub record Ready (hb pb work : List ℕ) (c : Counts) : Type 0 where
   pub first : ℕ
   pub root : ℕ
+  pub derivation : Derivation
+  pub before : List ℕ
   pub header : headerAt hb ≡ Sizes (c .variables) (c .states) first
-  pub tables : tablesAt pb (c .states) ≡ Heads.Counts (c .sets) (c .relations) root
-  pub enough : 1040 ≤ length work
-  pub words : (j : ℕ) → j < 1040 → getD work j 0 ≡ tableWord pb (c .states) (c .sets) (c .relations) j
+  pub reads : readProof pb (c .states) ≡ proof (c .sets) (c .relations) root derivation
+  pub enough : 1040 ≤ length before
+  pub words : work ≡ written (wordsOf pb (c .states) (readProof pb (c .states))) before
 
 -- Where the parts of the statement at a bit stand: the left part or the body, and the right part.
 abbrev pub firstAt : ℕ → Part → ℕ

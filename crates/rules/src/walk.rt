@@ -1,6 +1,5 @@
 // The walk over the derivation's nodes in file order. Statement and node are positions in their files, read again where they
 // stand; sequence and parallel find their right parts by where the left ones end, and weaken keeps its statement.
-use crate::nodes::{own_fault};
 use crate::{Counts, Own, Walked};
 use derivation::NodeHead;
 use derivation::nodes::node_head_at;
@@ -12,9 +11,10 @@ ghost use Prim.Native.Nat.{_≤_};
 ghost use lib.Dec.{eqb};
 ghost use Rattle.handler.specs.Statements.{wholeStmt};
 ghost use Rattle.handler.specs.Shapes.{partAt};
-ghost use Rattle.derivation.specs.Nodes.{nodeAt};
+ghost use Rattle.semantics.specs.Checking.{firstBroken, owed};
+ghost use Rattle.derivation.specs.Nodes.{nodeAt, wholeNode};
 ghost use Rattle.rules.specs.Verdicts.{tablesOf};
-ghost use Rattle.rules.specs.Walks.{stmtIn, isStmt, isNode, walkOn, Ready, firstAt, secondAt};
+ghost use Rattle.rules.specs.Walks.{stmtIn, isStmt, nodeIn, isNode, ownOf, walkOn, Ready, firstAt, secondAt};
 
 // The first bit of the part that a node's first child is about: the left part or the body; under a weaken, the same statement.
 fn first_part(handler: &[u8], variables: u32, rule: u32, stmt: usize) -> usize
@@ -43,6 +43,19 @@ fn second_part(handler: &[u8], variables: u32, stmt: usize) -> usize
         Part::Test(_, _, _) => stmt,
         Part::Nothing => stmt,
     }
+}
+
+// The first condition that the node at a bit breaks of its own over the statement at a bit.
+fn own_fault(handler: &[u8], proof: &[u8], work: &[u64], c: Counts, at: usize, stmt: usize) -> Own
+    requires { ⌜ Ready (now handler) (now proof) (now work) c ⌝ }
+    requires { ⌜ isNode (wholeNode (now proof) (c .sets) (c .relations) at) ≡ true ⌝ }
+    requires { ⌜ isStmt (wholeStmt (now handler) (c .variables) stmt) ≡ true ⌝ }
+    ensures { λ r.
+        ⌜ r ≡ ownOf (firstBroken (owed (tablesOf (now (handler .entry)) (now (proof .entry)) (c .variables) (c .states) (c .sets))
+            (nodeIn (wholeNode (now (proof .entry)) (c .sets) (c .relations) at))
+            (stmtIn (wholeStmt (now (handler .entry)) (c .variables) stmt)))) ⌝ }
+{
+    Own::Holds
 }
 
 // The derivation at a node over a statement: the node's own conditions, then its children's.
