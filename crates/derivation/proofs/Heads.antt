@@ -5,12 +5,13 @@ use mathlib.Core.List.{List}
 use mathlib.Core.Path.{_≡_, refl, sym, _∙_}
 use native.Mathlib.Nat.{pos-of-ne-zero}
 use native.Mathlib.Omega.{arith}
-use borrow.Author.Tests.{lt-ltb, le-ltb, lt-leb, leb-false, ne-eqb, eqb-true, eqb-false, ltb-true}
+use borrow.Author.Tests.{lt-ltb, le-ltb, lt-leb, leb-false, ne-eqb, eqb-false, ltb-true}
 use lib.Dec.{leb, ltb, eqb}
 use Rattle.bits.specs.Fields.{bitLength, fieldAt}
 use Rattle.bits.specs.declared.Field.{Field}
 use Rattle.bits.specs.declared.Field.the-variants.{Value, Missing}
 use Rattle.bits.proofs.Laws.{There, there}
+use Rattle.semantics.specs.Derivations.{Names}
 use Rattle.derivation.specs.declared.NodeHead.{NodeHead}
 use Rattle.derivation.specs.declared.NodeHead.the-variants.{Node, Fault}
 use Rattle.derivation.specs.Nodes.{onName, named, loopHead, namesHead, ruleHead, nodeHead}
@@ -36,6 +37,10 @@ second-name bytes first second at i next e under f =
     let moved : next ≡ at + 4 = there bytes at 4 i next e .moved in
     let end : next + 4 ≡ at + 8 = omega arith in
     rw (end, moved) (named-there bytes first at _ i next e under)
+
+-- The four tables that every node names.
+abbrev pub names : ℕ → ℕ → ℕ → ℕ → Names
+names P R G Q = record { P = P; R = R; G = G; Q = Q }
 
 -- A node that is read without fault.
 abbrev pub Sound : NodeHead → Type 0

@@ -14,7 +14,7 @@ use Rattle.derivation.specs.declared.NodeHead.the-variants.{Node, Fault}
 use Rattle.derivation.specs.Nodes.{NodeRead, whole, fault, alone, overTwo, overOne, onChild, onLeft, onNodeHead, nodeHead, nodeAt, wholeNode}
 use Rattle.derivation.specs.Reading.{proof, readProof}
 use Rattle.derivation.proofs.Files.{Stages, stages}
-use Rattle.derivation.proofs.Heads.{Sound, head-few, head-same, node-sound}
+use Rattle.derivation.proofs.Heads.{names, Sound, head-few, head-same, node-sound}
 
 -- How many nodes each kind of node has.
 nodes-alone : (rule : ℕ) (h : Names) → nodes (alone rule h) ≡ 1
@@ -83,7 +83,7 @@ module _ (bytes : List ℕ) (sets relations : ℕ) where
   module _ (levels before at rule P R G Q K W first : ℕ)
       (read : nodeHead bytes sets relations levels before at ≡ Node rule P R G Q K W first) where
     abbrev h : Names
-    h = record { P = P; R = R; G = G; Q = Q }
+    h = names P R G Q
 
     few : (0 < levels) × (before < 127)
     few = head-few bytes sets relations at levels before (node-sound _ rule P R G Q K W first read)
@@ -95,7 +95,8 @@ module _ (bytes : List ℕ) (sets relations : ℕ) where
     unfolding nodeAt
     unrolled zero before' r deep free children = absurd (omega arith)
     unrolled (suc below) before' r deep free children =
-        let same = head-same bytes sets relations at levels before below before' (node-sound _ rule P R G Q K W first read) (omega (arith, few)) free in
+        let sound = node-sound _ rule P R G Q K W first read in
+        let same = head-same bytes sets relations at levels before below before' sound (omega (arith, few)) free in
         rw (same, read) (children below (omega arith))
 
     leaf-placed : (d : Derivation) (after next : ℕ) → rule < 2 → whole (alone rule h) (suc before) first ≡ whole d after next
@@ -156,22 +157,23 @@ module _ (bytes : List ℕ) (sets relations : ℕ) where
   node-placed levels before at below (Fault k place) read d after next e = absurd (let z : _≡_ {A = ℕ} 0 1 = cc in omega arith)
   node-placed levels before at below (Node rule P R G Q K W first) read d after next e = by (ltb rule 2) refl (ltb rule 4) refl e
     where
-      names : Names
-      names = record { P = P; R = R; G = G; Q = Q }
+      h : Names
+      h = names P R G Q
 
       by : (leaf : Bool) → ltb rule 2 ≡ leaf → (two : Bool) → ltb rule 4 ≡ two
-          → cond leaf (whole (alone rule names) (suc before) first)
-          (cond two (onLeft (overTwo rule names) (node levels (suc before) first) (node levels)) (onChild (overOne rule names K W) (node levels (suc before) first)))
+          → cond leaf (whole (alone rule h) (suc before) first)
+          (cond two (onLeft (overTwo rule h) (node levels (suc before) first) (node levels))
+          (onChild (overOne rule h K W) (node levels (suc before) first)))
           ≡ whole d after next
           → Placed (suc levels) before at d after next
       by true t two u e = leaf-placed levels before at rule P R G Q K W first read d after next (ltb-true rule 2 t) e
       by false t true u e =
-          let c = children-of (overTwo rule names) (node levels (suc before) first) (node levels) d after next e in
+          let c = children-of (overTwo rule h) (node levels (suc before) first) (node levels) d after next e in
           two-placed levels before at rule P R G Q K W first read d after next (ltb-false rule 2 t) (ltb-true rule 4 u) c
           (below (suc before) first (c .left) (c .between) (c .middle) (c .left-read))
           (below (c .between) (c .middle) (c .right) after next (c .right-read))
       by false t false u e =
-          let c = child-of (overOne rule names K W) (node levels (suc before) first) d after next e in
+          let c = child-of (overOne rule h K W) (node levels (suc before) first) d after next e in
           one-placed levels before at rule P R G Q K W first read d after next (ltb-false rule 4 u) c
           (below (suc before) first (c .child) after next (c .read))
 
@@ -214,17 +216,14 @@ module _ (bytes : List ℕ) (sets relations : ℕ) where
     head-sound k place e = let faulty = rw e at stands in let z : _≡_ {A = ℕ} 0 1 = cc in omega arith
 
     module _ (rule P R G Q K W first : ℕ) (read : nodeHead bytes sets relations 24 0 at ≡ Node rule P R G Q K W first) where
-      abbrev named : Names
-      named = record { P = P; R = R; G = G; Q = Q }
-
-      pub leaf-alone : rule < 2 → (d ≡ alone rule named) × (next ≡ first)
+      pub leaf-alone : rule < 2 → (d ≡ alone rule (names P R G Q)) × (next ≡ first)
       unfolding wholeNode nodeAt
       leaf-alone under = let e = rw (read, lt-ltb rule 2) at stands in (cc, cc)
 
-      pub children-of-two : 2 ≤ rule → rule < 4 → TwoBelow rule named first d next
+      pub children-of-two : 2 ≤ rule → rule < 4 → TwoBelow rule (names P R G Q) first d next
       unfolding wholeNode nodeAt
       children-of-two over under =
-          let c = children-of (overTwo rule named) (node 24 1 first) (node 24) d (nodes d) next (rw (read, le-ltb rule 2, lt-ltb rule 4) at stands) in
+          let c = children-of (overTwo rule (names P R G Q)) (node 24 1 first) (node 24) d (nodes d) next (rw (read, le-ltb rule 2, lt-ltb rule 4) at stands) in
           record {
             left = c .left;
             right = c .right;
@@ -234,11 +233,11 @@ module _ (bytes : List ℕ) (sets relations : ℕ) where
             is = c .is;
           }
 
-      pub child-of-one : 4 ≤ rule → OneBelow rule named K W first d next
+      pub child-of-one : 4 ≤ rule → OneBelow rule (names P R G Q) K W first d next
       unfolding wholeNode nodeAt
       child-of-one over =
           let past : 2 ≤ rule = omega arith in
-          let c = child-of (overOne rule named K W) (node 24 1 first) d (nodes d) next (rw (read, le-ltb rule 2, le-ltb rule 4) at stands) in
+          let c = child-of (overOne rule (names P R G Q) K W) (node 24 1 first) d (nodes d) next (rw (read, le-ltb rule 2, le-ltb rule 4) at stands) in
           record {
             child = c .child;
             child-stands = fresh 24 1 first (c .child) (nodes d) next (c .read) (omega arith);

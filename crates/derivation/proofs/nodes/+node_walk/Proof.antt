@@ -16,7 +16,7 @@ use Rattle.derivation.specs.declared.NodeEnd.{NodeEnd}
 use Rattle.derivation.specs.declared.NodeEnd.the-variants.{Ends, Fault}
 use Rattle.semantics.specs.Derivations.{Names, Derivation}
 use Rattle.derivation.specs.Nodes.{NodeRead, whole, fault, alone, overTwo, overOne, onChild, onLeft, onNodeHead, nodeHead, nodeAt, endOf}
-use Rattle.derivation.proofs.Heads.{head-few, node-sound}
+use Rattle.derivation.proofs.Heads.{names, head-few, node-sound}
 use Rattle.derivation.proofs.nodes.node_walk.Reads as node-walk
 use Rattle.derivation.proofs.nodes.node_walk.Kinds as node-walk-kinds
 use Rattle.derivation.proofs.nodes.+node_walk.Lts-node_walk as lts
@@ -56,7 +56,7 @@ module _ (node : ℕ → ℕ → NodeRead) where
   head-end (Head.Node rule P R G Q K W next) before = rw add-one (by (ltb rule 2))
     where
       h : Names
-      h = record { P = P; R = R; G = G; Q = Q }
+      h = names P R G Q
 
       by : (leaf : Bool)
           → endOf (cond leaf (whole (alone rule h) (suc before) next)
