@@ -1,13 +1,14 @@
 -- What the walk over the nodes finds, from what the two files hold: nodes by number, conditions by number.
 use Prim.Native.Nat.{ℕ, _≤_}
 use mathlib.Core.Path.{_≡_}
-use mathlib.Core.Bool.{Bool, true, false}
-use mathlib.Core.List.{List}
+use mathlib.Core.Bool.{Bool, true, false, cond}
+use mathlib.Core.List.{List, [], _∷_}
 use mathlib.Core.Option.{Option, none, some}
 use lib.ListN.{length}
 use Rattle.semantics.specs.Language.{Stmt, nil}
 use Rattle.semantics.specs.Derivations.{Derivation, skip, Tables}
-use Rattle.semantics.specs.Checking.{Broken, firstBroken, owed, firstFault}
+use Rattle.states.specs.Search.{holds}
+use Rattle.semantics.specs.Checking.{Condition, Broken, firstFault}
 use Rattle.handler.specs.Header.{headerAt}
 use Rattle.handler.specs.declared.Header.the-variants.{Sizes}
 use Rattle.handler.specs.Statements as Stmts
@@ -42,6 +43,11 @@ isNode (fault k place) = false
 abbrev pub ownOf : Option ℕ → Own
 ownOf none = Holds
 ownOf (some k) = Breaks k
+
+-- What a list of conditions makes of what comes behind them: the first that is broken, else that.
+abbrev pub guarded : List Condition → Own → Own
+guarded [] rest = rest
+guarded (c ∷ cs) rest = cond (holds (c .breach)) (guarded cs rest) (Breaks (c .number))
 
 abbrev pub wayOf : Option Broken → ℕ → ℕ → Walked
 wayOf none after next = Way.Through after next
