@@ -4,3 +4,8 @@ pub mod Words
 pub mod Demand
 pub mod Faults
 pub mod Loaded
+pub mod Bare
+pub mod TestsPlaces
+pub mod TestsRows
+pub mod TestsStores
+pub mod TestsMoved

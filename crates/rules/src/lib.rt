@@ -3,6 +3,7 @@ ghost use mathlib.Core.Path.{_≡_};
 
 pub mod conditions;
 pub mod tables;
+pub mod tests;
 pub mod walk;
 
 // The tables that a node names, by number: P a set, R, G and Q relations.

@@ -9,8 +9,8 @@ use mir.Facts.{toZ-ofZ}
 use borrow.Author.Needs.{needs}
 use borrow.Fn.Kinds.{In}
 use borrow.Fn.PlainCycle.{Measures, is, falls, and}
-use Rattle.handler.proofs.Folds.{Headed}
-use Rattle.handler.proofs.Worths.{walked-out, head-known, walked-integer, walked-truth, walked-variable, walked-fault, walked-left, walked-right, operands-small, walked-both}
+use Rattle.handler.proofs.Folds.{Headed, headed-as}
+use Rattle.handler.proofs.Worths.{walked-out, walked-integer, walked-truth, walked-variable, walked-fault, walked-left, walked-right, operands-small, walked-both}
 use Rattle.handler.proofs.values.value_walk.Reads as value-walk
 use Rattle.handler.proofs.values.value_walk.Kinds as value-walk-kinds
 use Rattle.handler.proofs.values.+value_walk.Lts-value_walk as lts
@@ -45,14 +45,14 @@ enum-known-head t c = search needs
 
 add-t30 : (t : ℕ) → lts.Need-add-t30 (callees t) (now-at t) value-walk.Post
 unfolding Headed
-add-t30 t c = omega (arith, head-known _ _ _ _ _ (sym (c .before .before .before .expr-head-at .ensures) ∙ c .before .head .given .1))
+add-t30 t c = omega (arith, headed-as _ _ _ _ _ (sym (c .before .before .before .expr-head-at .ensures) ∙ c .before .head .given .1))
 
 enum-known-head-2 : (t : ℕ) → lts.Need-enum-known-head-2 (callees t) (now-at t) value-walk.Post
 enum-known-head-2 t c = search needs
 
 add-t32 : (t : ℕ) → lts.Need-add-t32 (callees t) (now-at t) value-walk.Post
 unfolding Headed
-add-t32 t c = omega (arith, head-known _ _ _ _ _ (sym (c .before .before .before .expr-head-at .ensures) ∙ c .before .head2 .given .1))
+add-t32 t c = omega (arith, headed-as _ _ _ _ _ (sym (c .before .before .before .expr-head-at .ensures) ∙ c .before .head2 .given .1))
 
 enum-known-head-3 : (t : ℕ) → lts.Need-enum-known-head-3 (callees t) (now-at t) value-walk.Post
 enum-known-head-3 t c = search needs
@@ -65,7 +65,7 @@ cast-t33 t c = record { sfits = search needs }
 
 add-t35 : (t : ℕ) → lts.Need-add-t35 (callees t) (now-at t) value-walk.Post
 unfolding Headed
-add-t35 t c = omega (arith, head-known _ _ _ _ _ (sym (c .before .before .before .before .expr-head-at .ensures) ∙ c .before .before .head3 .given .1))
+add-t35 t c = omega (arith, headed-as _ _ _ _ _ (sym (c .before .before .before .before .expr-head-at .ensures) ∙ c .before .before .head3 .given .1))
 
 enum-known-head-4 : (t : ℕ) → lts.Need-enum-known-head-4 (callees t) (now-at t) value-walk.Post
 enum-known-head-4 t c = search needs
@@ -75,7 +75,7 @@ sub-value-walk t c = search needs
 
 add-value-walk : (t : ℕ) → lts.Need-add-value-walk (callees t) (now-at t) value-walk.Post
 unfolding Headed
-add-value-walk t c = omega (arith, head-known _ _ _ _ _ (sym (c .before .before .before .expr-head-at .ensures) ∙ c .before .head4 .given .1))
+add-value-walk t c = omega (arith, headed-as _ _ _ _ _ (sym (c .before .before .before .expr-head-at .ensures) ∙ c .before .head4 .given .1))
 
 value-walk-requires : (t : ℕ) → lts.Need-value-walk-requires (callees t) (now-at t) value-walk.Post
 value-walk-requires t c κs = search needs
