@@ -3,16 +3,15 @@ use Prim.Native.Nat.{ℕ, _%_, _^_, _≤_, _<_}
 use native.Mathlib.Nat.{zero-div}
 use native.Mathlib.Decide.{decLt}
 use native.Mathlib.Omega.{arith}
-use mathlib.Core.Path.{_≡_, refl, sym, ap, ap₂, _∙_, fun-ext}
+use mathlib.Core.Path.{_≡_, refl, sym, ap, _∙_, fun-ext}
 use mathlib.Core.Bool.{Bool, true, false, not, _&&_, _||_, and-false}
 use mathlib.Core.List.{List}
 use lib.Dec.{leb, ltb, eqb}
-use lib.IntN.{pos}
 use borrow.Author.Tests.{lt-ltb, le-ltb}
-use Rattle.states.specs.Search.{implies, all, any, must, holds}
+use Rattle.states.specs.Search.{implies, all, any, holds}
 use Rattle.states.proofs.Search.{all-cong, all-not, any-cong, any-none, holds-must}
 use Rattle.semantics.specs.Language.{Expr, eqZ}
-use Rattle.semantics.specs.States.{Machine, valueOf, machineOf}
+use Rattle.semantics.specs.States.{Machine, valueOf}
 use Rattle.semantics.specs.Derivations.{Spec}
 use Rattle.semantics.specs.Conditions.{occurrences, moves, c41, c50}
 use Rattle.semantics.specs.declared.Kind.{Kind}

@@ -37,8 +37,7 @@ module _ (m : Machine) (n : ℕ) where
       ∙ sym (holds-named s′ (must (g s′)))
 
 module _ (bytes : List ℕ) (count n first : ℕ) (head : headerAt bytes ≡ Sizes count n first) (v at : ℕ) (rows : List ℕ)
-  (filled : (n s t : ℕ) → rel n rows s t ≡ (ltb s n && ltb t n && afterHere bytes v at s t)) where
-
+    (filled : (n s t : ℕ) → rel n rows s t ≡ (ltb s n && ltb t n && afterHere bytes v at s t)) where
   states : machineHere bytes .states ≡ n
   states = states-here bytes count n first head
 
@@ -70,12 +69,12 @@ module _ (bytes : List ℕ) (count n first : ℕ) (head : headerAt bytes ≡ Siz
         inSet-cong n (machineHere bytes) states (c .P) _ _ (λ s l ps.
         ap (λ b. holds (must b)) (ap (any n) (row-here s l) ∙ any-end (machineHere bytes) n _ (below-here s l)))
 
-    pub store-posts-42 : holds (inSet (bare n) (c .P) (λ s. inSet (bare n) (rel n rows s) (λ t. must (c .Q s t))))
+    pub store-in-post-42 : holds (inSet (bare n) (c .P) (λ s. inSet (bare n) (rel n rows s) (λ t. must (c .Q s t))))
         ≡ holds (c42 (machineHere bytes) c v (exprHere bytes at))
     unfolding c42
-    store-posts-42 = after-ends (c .P) (c .Q)
+    store-in-post-42 = after-ends (c .P) (c .Q)
 
-    pub store-keeps-43 : holds (inSet (bare n) (c .P) (λ s. inSet (bare n) (rel n rows s) (λ t. must (eqb t s || c .G s t))))
+    pub store-in-guarantee-43 : holds (inSet (bare n) (c .P) (λ s. inSet (bare n) (rel n rows s) (λ t. must (eqb t s || c .G s t))))
         ≡ holds (c43 (machineHere bytes) c v (exprHere bytes at))
     unfolding c43
-    store-keeps-43 = after-ends (c .P) (λ s t. eqb t s || c .G s t)
+    store-in-guarantee-43 = after-ends (c .P) (λ s t. eqb t s || c .G s t)

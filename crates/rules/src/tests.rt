@@ -1,16 +1,23 @@
 // The conditions of document 01 that look at expressions. What an expression says of the states comes as sets and rows, which
 // are computed once for a node: the states where a test is true, those where it is false, and where a store leads.
 use crate::Names;
-use crate::tables::{leads_into, row_at, rows_of, set_at};
+use crate::tables::leads_into;
+use crate::tables::row_at;
+use crate::tables::rows_of;
+use crate::tables::set_at;
 use handler::After;
 use handler::ExprShape;
 use handler::Header;
 use handler::expressions::expr_shape;
 use handler::head::read_header;
-use handler::values::{agreeing, successor};
+use handler::values::agreeing;
+use handler::values::successor;
 use semantics::Kind;
 use states::StateSet;
-use states::relations::{compose, included_from, row, union_of};
+use states::relations::compose;
+use states::relations::included_from;
+use states::relations::row;
+use states::relations::union_of;
 ghost use mathlib.Core.Path.{_≡_};
 ghost use mathlib.Core.Bool.{_&&_, _||_};
 ghost use Prim.Native.Nat.{ℕ, _<_};
@@ -56,14 +63,22 @@ pub fn enters_k(n: u32, work: &[u64], own: Names, k: u32, truth: StateSet) -> bo
     ensures { λ out.
         ⌜ out ≡ holds (c52 (bare n) (wordSpec n (now (work .entry)) own) (has truth) (wordSet n (now (work .entry)) k)) ⌝ }
 {
-    set_at(n, work, own.p).meet(truth).included(set_at(n, work, k))
+    set_at(n, work, own.p)
+        .meet(truth)
+        .included(set_at(n, work, k))
 }
 
 // 54: s in P, test false, (s,t) in R: test false at t.
 pub fn stays_false(n: u32, work: &[u64], own: Names, falsity: StateSet) -> bool
     ensures { λ out. ⌜ out ≡ holds (c54 (bare n) (wordSpec n (now (work .entry)) own) (has falsity)) ⌝ }
 {
-    leads_into(n, work, set_at(n, work, own.p).meet(falsity), own.r, falsity)
+    leads_into(
+        n,
+        work,
+        set_at(n, work, own.p).meet(falsity),
+        own.r,
+        falsity,
+    )
 }
 
 // 56: s in P, t = s or (s,t) in W, t in P, test false at t: (s,t) in Q.
@@ -103,7 +118,7 @@ pub fn in_range(n: u32, work: &[u64], own: Names, after: &[u64]) -> bool
 }
 
 // 42, by the same rows: s in P, s′ its end: (s,s′) in Q.
-pub fn store_posts(n: u32, work: &[u64], own: Names, after: &[u64]) -> bool
+pub fn store_in_post(n: u32, work: &[u64], own: Names, after: &[u64]) -> bool
     ensures { λ out.
         ⌜ out ≡ holds (inSet (bare n) (wordSet n (now (work .entry)) (own .p)) (λ s. inSet (bare n) (rel n (now (after .entry)) s)
         (λ t. must (wordRelation n (now (work .entry)) (own .q) s t)))) ⌝ }
@@ -112,7 +127,7 @@ pub fn store_posts(n: u32, work: &[u64], own: Names, after: &[u64]) -> bool
 }
 
 // 43, by the same rows: s in P, s′ its end: s′ = s or (s,s′) in G.
-pub fn store_keeps(n: u32, work: &[u64], own: Names, after: &[u64]) -> bool
+pub fn store_in_guarantee(n: u32, work: &[u64], own: Names, after: &[u64]) -> bool
     ensures { λ out.
         ⌜ out ≡ holds (inSet (bare n) (wordSet n (now (work .entry)) (own .p)) (λ s. inSet (bare n) (rel n (now (after .entry)) s)
         (λ t. must (eqb t s || wordRelation n (now (work .entry)) (own .g) s t)))) ⌝ }
@@ -149,11 +164,13 @@ fn moves_at(src: &[u8], n: u32, work: &[u64], own: Names, v: u32, s: u32) -> boo
 {
     if set_at(n, work, own.p).holds_state(s) {
         if row_at(n, work, own.r, s).included(agreeing(src, v, s)) {
-            return false;
+            false
+        } else {
+            true
         }
-        return true;
+    } else {
+        false
     }
-    false
 }
 
 // Whether R leads from any state of P to one that differs in variable v.
@@ -198,7 +215,8 @@ fn occurrences_of(src: &[u8], mask: u32, at: usize) -> u32
     let Header::Sizes(count, _, _) = read_header(src) else {
         return 0;
     };
-    let ExprShape::Whole(_, _, occurs, _, _) = expr_shape(src, count, Kind::Integer, mask, at) else {
+    let ExprShape::Whole(_, _, occurs, _, _) = expr_shape(src, count, Kind::Integer, mask, at)
+    else {
         return 0;
     };
     occurs

@@ -1,6 +1,5 @@
 -- P met with the truth is within K, over the 64 states of a word as over the n.
 use mathlib.Core.Path.{_∙_, ap}
-use mathlib.Core.Bool.{_&&_}
 use borrow.Author.Needs.{needs}
 use Rattle.states.specs.Search.{holds}
 use Rattle.states.specs.Sets.{has}

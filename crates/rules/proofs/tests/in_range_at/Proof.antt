@@ -1,6 +1,5 @@
 -- A row that is not empty has one of the n states, and is asked for only where s is in the set.
-use mathlib.Core.Path.{_≡_, _∙_, sym, ap}
-use mathlib.Core.Bool.{Bool, not}
+use mathlib.Core.Path.{_≡_, _∙_, sym}
 use borrow.Author.Needs.{needs}
 use borrow.Author.Tests.{not-true, not-false}
 use Rattle.states.specs.Search.{any}
@@ -14,7 +13,7 @@ use Rattle.rules.proofs.tests.in_range_at.Statement.{statement}
 use Rattle.rules.proofs.tests.in_range_at.Tie as tie
 
 has-end : (c : tie.After-is-empty) → let a = c .before .before .before .before .before .args in
-  any 64 (λ t. has (c .before .row .result) t) ≡ any (a .n) (rel (a .n) (a .after .now) (a .s))
+    any 64 (λ t. has (c .before .row .result) t) ≡ any (a .n) (rel (a .n) (a .after .now) (a .s))
 has-end c =
     let a = c .before .before .before .before .before .args in
     any-cong 64 _ _ (λ t l. c .before .row .ensures t) ∙ any-small (a .n) _ (rel-small (a .n) (a .after .now) (a .s))

@@ -33,10 +33,12 @@ with-variable-requires c κs =
     omega (arith, read .few)
 
 loop-again : tie.Need-loop-again Inv-loop μ-loop
-loop-again c =
-    (omega arith, λ u. c .with-variable .ensures u
-    ∙ ap₂ _||_ (c .before .before .before .loop .inv .1 u) (ap (λ b. b && eqb (c .before .before .before .loop .v) u) (c .before .moves-variable .ensures))
-    ∙ sym (any-more _ _))
+loop-again c = (
+  omega arith,
+  λ u. c .with-variable .ensures u
+      ∙ ap₂ _||_ (c .before .before .before .loop .inv .1 u) (ap (λ b. b && eqb (c .before .before .before .loop .v) u) (c .before .moves-variable .ensures))
+      ∙ sym (any-more _ _),
+)
 
 returns-2 : tie.Need-returns-2 Inv-loop μ-loop
 returns-2 c v =

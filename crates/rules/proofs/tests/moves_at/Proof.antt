@@ -14,7 +14,7 @@ use Rattle.rules.proofs.tests.moves_at.Tie as tie
 
 -- The negation of what is compared.
 differs : (c : tie.After-included) → let a = c .before .before .before .before .before .before .before .before .args in
-  not (c .included .result) ≡ any (a .n) (λ t. wordRelation (a .n) (a .work .now) (a .own .r) (a .s) t && not (agreeAt (a .src .now) (a .v) (a .s) t))
+    not (c .included .result) ≡ any (a .n) (λ t. wordRelation (a .n) (a .work .now) (a .own .r) (a .s) t && not (agreeAt (a .src .now) (a .v) (a .s) t))
 differs c =
     let a = c .before .before .before .before .before .before .before .before .args in
     ap not (simp (c .before .before .row-at .ensures, c .before .agreeing .ensures) at (c .included .ensures)
