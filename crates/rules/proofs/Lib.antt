@@ -9,3 +9,5 @@ pub mod TestsPlaces
 pub mod TestsRows
 pub mod TestsStores
 pub mod TestsMoved
+pub mod Guards
+pub mod Owed

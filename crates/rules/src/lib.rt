@@ -2,6 +2,7 @@
 ghost use mathlib.Core.Path.{_≡_};
 
 pub mod conditions;
+pub mod nodes;
 pub mod tables;
 pub mod tests;
 pub mod walk;
