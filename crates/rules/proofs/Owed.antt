@@ -288,9 +288,9 @@ module _ (hb pb work : List ℕ) (c : Counts) (ready : Ready hb pb work c) (at s
   -- Two children: the right one stands where the left one ends.
   module _ (left right : Named.Names) (left-is : left ≡ namesAt (nodeHead pb (c .sets) (c .relations) 24 0 (site .first)))
       (right-is : right ≡ namesAt (nodeHead pb (c .sets) (c .relations) 24 0 (nextAt (endOf (wholeNode pb (c .sets) (c .relations) (site .first))))))
-      (over : 2 ≤ site .rule) (under : site .rule < 4) where
+      (no-skip : site .rule ≡ 0 → ⊥) (no-assignment : site .rule ≡ 1 → ⊥) (under : site .rule < 4) where
     two : Placement.TwoBelow pb (c .sets) (c .relations) (site .rule) h (site .first) d (site .next)
-    two = Placement.children-of-two pb (c .sets) (c .relations) d at (site .next) (site .d-stands) (site .rule) (site .P) (site .R) (site .G) (site .Q) (site .K) (site .W) (site .first) (site .read) over under
+    two = Placement.children-of-two pb (c .sets) (c .relations) d at (site .next) (site .d-stands) (site .rule) (site .P) (site .R) (site .G) (site .Q) (site .K) (site .W) (site .first) (site .read) (omega arith) under
 
     ends : nextAt (endOf (wholeNode pb (c .sets) (c .relations) (site .first))) ≡ two .middle
     unfolding endOf

@@ -1,6 +1,5 @@
 -- What the code reads at the node and at its statement makes a site, and each rule's law says what is owed there.
 use mathlib.Core.Path.{_∙_, sym, ap}
-use native.Mathlib.Omega.{arith}
 use borrow.Author.Needs.{needs}
 use Rattle.derivation.specs.Nodes.{nodeHead}
 use Rattle.derivation.proofs.Placement.{head-sound}
@@ -59,7 +58,7 @@ returns-4 c =
     c .sequence-fault .ensures ∙ sequence-owes _ _ _ _ (b .before .before .before .before .before .before .before .before .before .before .before .pre .0) _ _ _ _ _ (site b) 
     _ _ (c .before .before .before .before .before .before .before .names-of2 .ensures ∙ ap namesAt (c .before .before .before .before .before .before .before .before .node-head-at2 .ensures))
     (c .before .before .names-of3 .ensures ∙ ap namesAt (c .before .before .before .node-head-at3 .ensures ∙ ap (nodeHead _ _ _ 24 0) (c .before .before .before .before .next-of .ensures ∙ ap nextAt (c .before .before .before .before .before .node-end .ensures))))
-    (omega arith) (omega arith) (c .before .if4 .taken)
+    (c .before .before .before .before .before .before .before .before .before .before .if1 .left) (c .before .before .before .before .before .before .before .before .before .if2 .left) (c .before .before .before .before .before .before .if3 .taken) (c .before .if4 .taken)
 
 returns-5 : tie.Need-returns-5
 returns-5 c =
@@ -67,7 +66,7 @@ returns-5 c =
     c .parallel-fault .ensures ∙ parallel-owes _ _ _ _ (b .before .before .before .before .before .before .before .before .before .before .before .pre .0) _ _ _ _ _ (site b) 
     _ _ (c .before .before .before .before .before .before .before .names-of2 .ensures ∙ ap namesAt (c .before .before .before .before .before .before .before .before .node-head-at2 .ensures))
     (c .before .before .names-of3 .ensures ∙ ap namesAt (c .before .before .before .node-head-at3 .ensures ∙ ap (nodeHead _ _ _ 24 0) (c .before .before .before .before .next-of .ensures ∙ ap nextAt (c .before .before .before .before .before .node-end .ensures))))
-    (omega arith) (omega arith) (c .before .if4 .left)
+    (c .before .before .before .before .before .before .before .before .before .before .if1 .left) (c .before .before .before .before .before .before .before .before .before .if2 .left) (c .before .before .before .before .before .before .if3 .taken) (c .before .if4 .left)
 
 returns-6 : tie.Need-returns-6
 returns-6 c =
