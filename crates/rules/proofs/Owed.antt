@@ -9,11 +9,9 @@ use lib.Dec.{ltb, eqb}
 use borrow.Author.Tests.{ltb-true, ltb-false, eqb-true, eq-eqb, ne-eqb}
 use Rattle.states.specs.Search.{must, holds}
 use Rattle.semantics.specs.Language.{Expr, Stmt, nil, assign, seq, par, if, while}
-use Rattle.semantics.specs.States.{Machine, machineOf, product}
-use Rattle.semantics.specs.Derivations.{Names, Derivation, skip, assignment, sequence, parallel, conditional, iteration, weaken, namesOf, nodes, Tables, Spec, setOf, relationOf, specOf}
-use Rattle.semantics.specs.Conditions.{codeOf, targetOf, exprOf, inSet, sameSet, sameRelation, liesIn, c31, c32, c33, c34sequence, c34parallel, c35, c60, c61, c65, c66, c70, c71, c72, c73}
+use Rattle.semantics.specs.Derivations.{Names, Derivation, skip, assignment, sequence, parallel, conditional, iteration, weaken, namesOf, Tables, Spec, setOf, relationOf, specOf}
+use Rattle.semantics.specs.Conditions.{codeOf, targetOf, exprOf}
 use Rattle.semantics.specs.Checking.{skipOwes, assignmentOwes, sequenceOwes, parallelOwes, ifOwes, whileOwes, weakenOwes, firstBroken, owed}
-use Rattle.handler.specs.Header.{sizesOf}
 use Rattle.handler.specs.Statements as Stmts
 use Rattle.handler.specs.Shapes.{partOf, partAt}
 use Rattle.handler.proofs.Heads.{Sized, head-read}
@@ -21,7 +19,7 @@ use Rattle.handler.proofs.Parts as Parts
 use Rattle.derivation.specs.declared.NodeHead.{NodeHead}
 use Rattle.derivation.specs.declared.NodeHead.the-variants.{Node, Fault}
 use Rattle.derivation.specs.Nodes.{NodeRead, whole, fault, alone, overTwo, overOne, nodeHead, wholeNode, endOf}
-use Rattle.derivation.proofs.Heads.{Within, node-within}
+use Rattle.derivation.proofs.Heads.{node-within}
 use Rattle.derivation.proofs.Placement as Placement
 use Rattle.rules.specs.declared.Counts.{Counts}
 use Rattle.rules.specs.declared.Names as Named
@@ -32,26 +30,9 @@ use Rattle.rules.specs.Places.{machineHere, exprHere}
 use Rattle.rules.specs.Verdicts.{tablesOf}
 use Rattle.rules.specs.Walks.{stmtIn, isStmt, nodeIn, isNode, ownOf, guarded, Ready}
 use Rattle.rules.specs.Owing.{codeAt, targetAt, exprAt, namesAt, nextAt}
+use Rattle.rules.proofs.Bare.{bare-skip, bare-sequence, bare-parallel, bare-weaken}
 use Rattle.rules.proofs.Guards.{first-guarded, on-fit}
 use Rattle.rules.proofs.Loaded.{names, Known, set-loaded, relation-loaded, spec-loaded}
-
--- The rules whose conditions look at tables alone see only how many states there are.
-module _ (m : Machine) (n : ℕ) (N-is : m .states ≡ n) where
-  skip-sized : (fits : Bool) (c : Spec) → skipOwes (bare n) fits c ≡ skipOwes m fits c
-  unfolding c31 c32 c33 c35 inSet
-  skip-sized fits c = rw (← N-is)
-
-  sequence-sized : (fits : Bool) (c l r : Spec) → sequenceOwes (bare n) fits c l r ≡ sequenceOwes m fits c l r
-  unfolding c31 c32 c33 c34sequence c60 c61 inSet sameSet sameRelation
-  sequence-sized fits c l r = rw (← N-is)
-
-  parallel-sized : (fits : Bool) (c l r : Spec) → parallelOwes (bare n) fits c l r ≡ parallelOwes m fits c l r
-  unfolding c31 c32 c33 c34parallel c65 c66 inSet liesIn sameSet sameRelation
-  parallel-sized fits c l r = rw (← N-is)
-
-  weaken-sized : (c d : Spec) → weakenOwes (bare n) c d ≡ weakenOwes m c d
-  unfolding c31 c32 c33 c70 c71 c72 c73 inSet liesIn
-  weaken-sized c d = rw (← N-is)
 
 -- The names of a node of each number of children.
 names-alone : (rule : ℕ) (h : Names) → namesOf (alone rule h) ≡ h
@@ -269,7 +250,7 @@ module _ (hb pb work : List ℕ) (c : Counts) (ready : Ready hb pb work c) (at s
   skip-owes e =
       let leaf = Placement.leaf-alone pb (c .sets) (c .relations) d at (site .next) (site .d-stands) (site .rule) (site .P) (site .R) (site .G) (site .Q) (site .K) (site .W) (site .first) (site .read) (omega arith) .0 in
       ap (λ L. guarded L Holds)
-      (skip-sized (T .machine) (c .states) N-is (eqb code 0) (wordSpec (c .states) work own)
+      (bare-skip (T .machine) (c .states) N-is (eqb code 0) (wordSpec (c .states) work own)
       ∙ (λ i. skipOwes (T .machine) (eqb (code-of-S i) 0) (own-words i))
       ∙ as-skip T S d h (leaf ∙ rw (eq-eqb (site .rule) 0 e)))
       ∙ sym (first-guarded (owed T d S))
@@ -308,7 +289,7 @@ module _ (hb pb work : List ℕ) (c : Counts) (ready : Ready hb pb work c) (at s
         → guarded (sequenceOwes (bare (c .states)) (eqb code 2) (wordSpec (c .states) work own) (wordSpec (c .states) work left) (wordSpec (c .states) work right)) Holds ≡ owes
     sequence-owes e =
         ap (λ L. guarded L Holds)
-        (sequence-sized (T .machine) (c .states) N-is (eqb code 2) (wordSpec (c .states) work own) (wordSpec (c .states) work left) (wordSpec (c .states) work right)
+        (bare-sequence (T .machine) (c .states) N-is (eqb code 2) (wordSpec (c .states) work own) (wordSpec (c .states) work left) (wordSpec (c .states) work right)
         ∙ (λ i. sequenceOwes (T .machine) (eqb (code-of-S i) 2) (own-words i) (left-words i) (right-words i))
         ∙ as-sequence T S d h (two .left) (two .right) (two .is ∙ rw (eq-eqb (site .rule) 2 e)))
         ∙ sym (first-guarded (owed T d S))
@@ -317,7 +298,7 @@ module _ (hb pb work : List ℕ) (c : Counts) (ready : Ready hb pb work c) (at s
         → guarded (parallelOwes (bare (c .states)) (eqb code 3) (wordSpec (c .states) work own) (wordSpec (c .states) work left) (wordSpec (c .states) work right)) Holds ≡ owes
     parallel-owes e =
         ap (λ L. guarded L Holds)
-        (parallel-sized (T .machine) (c .states) N-is (eqb code 3) (wordSpec (c .states) work own) (wordSpec (c .states) work left) (wordSpec (c .states) work right)
+        (bare-parallel (T .machine) (c .states) N-is (eqb code 3) (wordSpec (c .states) work own) (wordSpec (c .states) work left) (wordSpec (c .states) work right)
         ∙ (λ i. parallelOwes (T .machine) (eqb (code-of-S i) 3) (own-words i) (left-words i) (right-words i))
         ∙ as-parallel T S d h (two .left) (two .right) (two .is ∙ rw (ne-eqb (site .rule) 2 e)))
         ∙ sym (first-guarded (owed T d S))
@@ -363,7 +344,7 @@ module _ (hb pb work : List ℕ) (c : Counts) (ready : Ready hb pb work c) (at s
         → guarded (weakenOwes (bare (c .states)) (wordSpec (c .states) work own) (wordSpec (c .states) work child)) Holds ≡ owes
     weaken-owes other e =
         ap (λ L. guarded L Holds)
-        (weaken-sized (T .machine) (c .states) N-is (wordSpec (c .states) work own) (wordSpec (c .states) work child)
+        (bare-weaken (T .machine) (c .states) N-is (wordSpec (c .states) work own) (wordSpec (c .states) work child)
         ∙ (λ i. weakenOwes (T .machine) (own-words i) (child-words i))
         ∙ as-weaken T S d h (below .child) (below .is ∙ rw (ne-eqb (site .rule) 4 other, ne-eqb (site .rule) 5 e)))
         ∙ sym (first-guarded (owed T d S))
