@@ -4,3 +4,4 @@ pub mod Words
 pub mod Demand
 pub mod Faults
 pub mod Loaded
+pub mod Walking
