@@ -83,17 +83,17 @@ own-none none e = refl
 own-none (some k) e = absurd (let z : _≡_ {A = ℕ} 0 1 = cc in omega arith)
 
 module _ (hb pb : List ℕ) (c : Counts) where
-  abbrev t : Tables
-  t = tablesOf hb pb (c .variables) (c .states) (c .sets)
+  abbrev T : Tables
+  T = tablesOf hb pb (c .variables) (c .states) (c .sets)
 
-  abbrev node : ℕ → ℕ → ℕ → NodeRead
-  node levels n at = nodeAt levels pb (c .sets) (c .relations) n at
+  abbrev N : ℕ → ℕ → ℕ → NodeRead
+  N levels n at = nodeAt levels pb (c .sets) (c .relations) n at
 
-  abbrev stmt : ℕ → Stmt
-  stmt s = stmtIn (Stmts.wholeStmt hb (c .variables) s)
+  abbrev S : ℕ → Stmt
+  S s = stmtIn (Stmts.wholeStmt hb (c .variables) s)
 
   -- A node that was read has levels left, and a head; it is the node that is read there from a fresh start.
-  module _ (n at levels s : ℕ) (d : Derivation) (after end : ℕ) (read : node levels n at ≡ whole d after end) (low : levels ≤ 25) where
+  module _ (n at levels s : ℕ) (d : Derivation) (after end : ℕ) (read : N levels n at ≡ whole d after end) (low : levels ≤ 25) where
     pub more-levels : levels ≡ 0 → ⊥
     unfolding nodeAt
     more-levels z = let x = rw z at read in let y : _≡_ {A = ℕ} 0 1 = cc in omega arith
@@ -115,116 +115,148 @@ module _ (hb pb : List ℕ) (c : Counts) where
     no-fault k place h = let x = rw h at same-level in let y : _≡_ {A = ℕ} 0 1 = cc in omega arith
 
     -- The node's own first breach is what the walk finds.
-    module _ (own : Own) (owes : own ≡ ownOf (firstBroken (owed t (nodeIn (wholeNode pb (c .sets) (c .relations) at)) (stmt s)))) where
-      owes-d : own ≡ ownOf (firstBroken (owed t d (stmt s)))
+    module _ (own : Own) (owes : own ≡ ownOf (firstBroken (owed T (nodeIn (wholeNode pb (c .sets) (c .relations) at)) (S s)))) where
+      owes-d : own ≡ ownOf (firstBroken (owed T d (S s)))
       owes-d = rw again at owes
 
-      pub breach : (k : ℕ) → own ≡ Breaks k → Broken k n ≡ walkOn t (node levels n at) (stmt s) n
-      breach k b = rw (read, own-first t d (stmt s) n k (own-some _ k (sym owes-d ∙ b)))
+      pub breach : (k : ℕ) → own ≡ Breaks k → Broken k n ≡ walkOn T (N levels n at) (S s) n
+      breach k b = rw (read, own-first T d (S s) n k (own-some _ k (sym owes-d ∙ b)))
 
-      -- What is known past the node's own conditions.
-      module _ (holds : own ≡ Holds) (rule P R G Q K W next : ℕ)
-          (head : nodeHead pb (c .sets) (c .relations) (levels - 1) n at ≡ Node rule P R G Q K W next) (standing : isStmt (Stmts.wholeStmt hb (c .variables) s) ≡ true) where
-        clear : firstBroken (owed t d (stmt s)) ≡ none
-        clear = own-none _ (sym owes-d ∙ holds)
+-- What is known at a node past its own conditions.
+pub record Seen (hb pb : List ℕ) (c : Counts) (n at levels s rule next : ℕ) : Type 0 where
+  pub d : Derivation
+  pub after : ℕ
+  pub end : ℕ
+  pub read : nodeAt levels pb (c .sets) (c .relations) n at ≡ whole d after end
+  pub low : levels ≤ 25
+  pub own : Own
+  pub owes : own ≡ ownOf (firstBroken (owed (tablesOf hb pb (c .variables) (c .states) (c .sets))
+      (nodeIn (wholeNode pb (c .sets) (c .relations) at)) (stmtIn (Stmts.wholeStmt hb (c .variables) s))))
+  pub holds : own ≡ Holds
+  pub P : ℕ
+  pub R : ℕ
+  pub G : ℕ
+  pub Q : ℕ
+  pub K : ℕ
+  pub W : ℕ
+  pub head : nodeHead pb (c .sets) (c .relations) (levels - 1) n at ≡ Node rule P R G Q K W next
+  pub standing : isStmt (Stmts.wholeStmt hb (c .variables) s) ≡ true
 
-        up : node levels n at ≡ nodeAt (suc (levels - 1)) pb (c .sets) (c .relations) n at
-        up = read ∙ sym same-level
+module _ {hb pb : List ℕ} {c : Counts} {n at levels s rule next : ℕ} (x : Seen hb pb c n at levels s rule next) where
+  open Seen x using (d, after, end, read, low, own, owes, holds, P, R, G, Q, K, W, head, standing)
 
-        pub low-rule : rule < 7
-        low-rule = node-within pb (c .sets) (c .relations) (levels - 1) n at rule P R G Q K W next head .rule-below
+  abbrev t : Tables
+  t = tablesOf hb pb (c .variables) (c .states) (c .sets)
 
-        pub leaf : rule < 2 → Through (n + 1) next ≡ walkOn t (node levels n at) (stmt s) n
-        leaf low =
-            let alone-is = sym same-level ∙ read-alone t pb (c .sets) (c .relations) (stmt s) (levels - 1) n at rule P R G Q K W next head low in
-            let d-is : d ≡ alone rule (record { P = P; R = R; G = G; Q = Q }) = cc in
-            rw (up, add-one, walk-alone t pb (c .sets) (c .relations) (stmt s) (levels - 1) n at rule P R G Q K W next head low (rw d-is at clear))
+  abbrev node : ℕ → ℕ → ℕ → NodeRead
+  node levels n at = nodeAt levels pb (c .sets) (c .relations) n at
 
-        -- The statement that the first child is about.
-        pub first-stands : 2 ≤ rule → Placed hb (c .variables) (cond (eqb rule 6) s (firstAt s (partAt hb (c .variables) s))) (under rule (stmt s))
-        first-stands over = by (eqb rule 6) refl
-          where
-            whole-stmt : Stands hb (c .variables) s (stmt s)
-            whole-stmt = stands hb (c .variables) s standing
+  abbrev stmt : ℕ → Stmt
+  stmt s = stmtIn (Stmts.wholeStmt hb (c .variables) s)
 
-            fits : (rule ≡ 6 → ⊥) → codeOf (stmt s) ≡ rule
-            fits other = two-or-one (ltb rule 4) refl
-              where
-                two-or-one : (b : Bool) → ltb rule 4 ≡ b → codeOf (stmt s) ≡ rule
-                two-or-one true e =
-                    let kids = read-two t pb (c .sets) (c .relations) (stmt s) (levels - 1) n at rule P R G Q K W next head over (ltb-true rule 4 e) d after end same-level in
-                    fits-two t (stmt s) rule _ (kids .left) (kids .right) over (ltb-true rule 4 e) (rw (kids .is) at clear)
-                two-or-one false e =
-                    let past = ltb-false rule 4 e in
-                    let kid = read-one t pb (c .sets) (c .relations) (stmt s) (levels - 1) n at rule P R G Q K W next head past d after end same-level in
-                    fits-one t (stmt s) rule _ K W (kid .child) past (let l = low-rule in omega arith) (rw (kid .is) at clear)
+  level : nodeAt (suc (levels - 1)) pb (c .sets) (c .relations) n at ≡ whole d after end
+  level = same-level hb pb c n at levels s d after end read low
 
-            by : (b : Bool) → eqb rule 6 ≡ b → Placed hb (c .variables) (cond b s (firstAt s (partAt hb (c .variables) s))) (cond b (stmt s) (firstOf (stmt s)))
-            by true e = placed hb (c .variables) s (stmt s) whole-stmt
-            by false e = first-placed hb (c .variables) s (stmt s) whole-stmt (let f = fits (eqb-false rule 6 e) in omega arith)
+  clear : firstBroken (owed t d (stmt s)) ≡ none
+  clear = own-none _ (sym (owes-d hb pb c n at levels s d after end read low own owes) ∙ holds)
 
-        -- Which of the two a node with children is.
-        two-kids : 2 ≤ rule → rule < 4 → Children (overTwo rule (record { P = P; R = R; G = G; Q = Q })) (node (levels - 1) (suc n) next) (node (levels - 1)) d after end
-        two-kids over low = read-two t pb (c .sets) (c .relations) (stmt s) (levels - 1) n at rule P R G Q K W next head over low d after end same-level
+  up : node levels n at ≡ nodeAt (suc (levels - 1)) pb (c .sets) (c .relations) n at
+  up = read ∙ sym level
 
-        one-kid : 4 ≤ rule → Child (overOne rule (record { P = P; R = R; G = G; Q = Q }) K W) (node (levels - 1) (suc n) next) d after end
-        one-kid over = read-one t pb (c .sets) (c .relations) (stmt s) (levels - 1) n at rule P R G Q K W next head over d after end same-level
+  pub low-rule : rule < 7
+  low-rule = node-within pb (c .sets) (c .relations) (levels - 1) n at rule P R G Q K W next head .rule-below
 
-        pub first-node : 2 ≤ rule → isNode (node (levels - 1) (n + 1) next) ≡ true
-        first-node over = rw add-one (by (ltb rule 4) refl)
-          where
-            by : (b : Bool) → ltb rule 4 ≡ b → isNode (node (levels - 1) (suc n) next) ≡ true
-            by true e = rw (two-kids over (ltb-true rule 4 e) .left-read)
-            by false e = rw (one-kid (ltb-false rule 4 e) .read)
+  pub leaf : rule < 2 → Through (n + 1) next ≡ walkOn t (node levels n at) (stmt s) n
+  leaf low =
+      let alone-is = sym level ∙ read-alone t pb (c .sets) (c .relations) (stmt s) (levels - 1) n at rule P R G Q K W next head low in
+      let d-is : d ≡ alone rule (record { P = P; R = R; G = G; Q = Q }) = cc in
+      rw (up, add-one, walk-alone t pb (c .sets) (c .relations) (stmt s) (levels - 1) n at rule P R G Q K W next head low (rw d-is at clear))
 
-        -- What is found at the first child, of the statement that stands there.
-        module _ (over : 2 ≤ rule) (first : ℕ) (first-is : stmt first ≡ under rule (stmt s)) (r : Walked)
-            (walked : r ≡ walkOn t (node (levels - 1) (n + 1) next) (stmt first) (n + 1)) where
-          walked-under : r ≡ walkOn t (node (levels - 1) (suc n) next) (under rule (stmt s)) (suc n)
-          walked-under = rw (add-one, first-is) at walked
+  -- The statement that the first child is about.
+  pub first-stands : 2 ≤ rule → Placed hb (c .variables) (cond (eqb rule 6) s (firstAt s (partAt hb (c .variables) s))) (under rule (stmt s))
+  first-stands over = by (eqb rule 6) refl
+    where
+      whole-stmt : Stands hb (c .variables) s (stmt s)
+      whole-stmt = stands hb (c .variables) s standing
 
-          first-of : rule < 4 → under rule (stmt s) ≡ firstOf (stmt s)
-          first-of low = rw (ne-eqb rule 6 (λ e. omega arith))
+      fits : (rule ≡ 6 → ⊥) → codeOf (stmt s) ≡ rule
+      fits other = two-or-one (ltb rule 4) refl
+        where
+          two-or-one : (b : Bool) → ltb rule 4 ≡ b → codeOf (stmt s) ≡ rule
+          two-or-one true e =
+              let kids = read-two t pb (c .sets) (c .relations) (stmt s) (levels - 1) n at rule P R G Q K W next head over (ltb-true rule 4 e) d after end level in
+              fits-two t (stmt s) rule _ (kids .left) (kids .right) over (ltb-true rule 4 e) (rw (kids .is) at clear)
+          two-or-one false e =
+              let past = ltb-false rule 4 e in
+              let kid = read-one t pb (c .sets) (c .relations) (stmt s) (levels - 1) n at rule P R G Q K W next head past d after end level in
+              fits-one t (stmt s) rule _ K W (kid .child) past (let l = low-rule in omega arith) (rw (kid .is) at clear)
 
-          from-two : rule < 4 → walkOn t (node levels n at) (stmt s) n ≡ thenWalk r (λ a e. walkOn t (node (levels - 1) a e) (secondOf (stmt s)) a)
-          from-two low =
-              let r-is : r ≡ walkOn t (node (levels - 1) (suc n) next) (firstOf (stmt s)) (suc n) = rw (first-of low) at walked-under in
-              rw (up, r-is) (walk-two t pb (c .sets) (c .relations) (stmt s) (levels - 1) n at rule P R G Q K W next head over low d after end same-level clear)
+      by : (b : Bool) → eqb rule 6 ≡ b → Placed hb (c .variables) (cond b s (firstAt s (partAt hb (c .variables) s))) (cond b (stmt s) (firstOf (stmt s)))
+      by true e = placed hb (c .variables) s (stmt s) whole-stmt
+      by false e = first-placed hb (c .variables) s (stmt s) whole-stmt (let f = fits (eqb-false rule 6 e) in omega arith)
 
-          from-one : 4 ≤ rule → walkOn t (node levels n at) (stmt s) n ≡ r
-          from-one past = rw up (walk-one t pb (c .sets) (c .relations) (stmt s) (levels - 1) n at rule P R G Q K W next head past low-rule d after end same-level clear ∙ sym walked-under)
+  -- Which of the two a node with children is.
+  two-kids : 2 ≤ rule → rule < 4 → Children (overTwo rule (record { P = P; R = R; G = G; Q = Q })) (node (levels - 1) (suc n) next) (node (levels - 1)) d after end
+  two-kids over low = read-two t pb (c .sets) (c .relations) (stmt s) (levels - 1) n at rule P R G Q K W next head over low d after end level
 
-          pub stops : (k place : ℕ) → r ≡ Broken k place → Broken k place ≡ walkOn t (node levels n at) (stmt s) n
-          stops k place is = by (ltb rule 4) refl
-            where
-              by : (b : Bool) → ltb rule 4 ≡ b → Broken k place ≡ walkOn t (node levels n at) (stmt s) n
-              by true e = sym (rw is at (from-two (ltb-true rule 4 e)))
-              by false e = sym (from-one (ltb-false rule 4 e) ∙ is)
+  one-kid : 4 ≤ rule → Child (overOne rule (record { P = P; R = R; G = G; Q = Q }) K W) (node (levels - 1) (suc n) next) d after end
+  one-kid over = read-one t pb (c .sets) (c .relations) (stmt s) (levels - 1) n at rule P R G Q K W next head over d after end level
 
-          pub ends : (a e : ℕ) → r ≡ Through a e → 4 ≤ rule → Through a e ≡ walkOn t (node levels n at) (stmt s) n
-          ends a e is past = sym (from-one past ∙ is)
+  pub first-node : 2 ≤ rule → isNode (node (levels - 1) (n + 1) next) ≡ true
+  first-node over = rw add-one (by (ltb rule 4) refl)
+    where
+      by : (b : Bool) → ltb rule 4 ≡ b → isNode (node (levels - 1) (suc n) next) ≡ true
+      by true e = rw (two-kids over (ltb-true rule 4 e) .left-read)
+      by false e = rw (one-kid (ltb-false rule 4 e) .read)
 
-          -- The second child, where the first one ended.
-          pub second-node : (a e : ℕ) → r ≡ Through a e → rule < 4 → isNode (node (levels - 1) a e) ≡ true
-          second-node a e is low =
-              let kids = two-kids over low in
-              let way = rw (kids .left-read) at (sym walked-under ∙ is) in
-              by (firstFault t (kids .left) (under rule (stmt s)) (suc n)) kids way
-            where
-              by : (o : Option Checking.Broken) (kids : Children (overTwo rule (record { P = P; R = R; G = G; Q = Q })) (node (levels - 1) (suc n) next) (node (levels - 1)) d after end)
-                  → wayOf o (kids .between) (kids .middle) ≡ Through a e → isNode (node (levels - 1) a e) ≡ true
-              by none kids way =
-                  let a-is : kids .between ≡ a = cc in
-                  let e-is : kids .middle ≡ e = cc in
-                  rw (← a-is, ← e-is, kids .right-read)
-              by (some b) kids way = absurd (let y : _≡_ {A = ℕ} 0 1 = cc in omega arith)
+  -- What is found at the first child, of the statement that stands there.
+  module _ (over : 2 ≤ rule) (first : ℕ) (first-is : stmt first ≡ under rule (stmt s)) (r : Walked)
+      (walked : r ≡ walkOn t (node (levels - 1) (n + 1) next) (stmt first) (n + 1)) where
+    walked-under : r ≡ walkOn t (node (levels - 1) (suc n) next) (under rule (stmt s)) (suc n)
+    walked-under = rw (add-one, first-is) at walked
 
-          pub second-stands : rule < 4 → Placed hb (c .variables) (secondAt s (partAt hb (c .variables) s)) (secondOf (stmt s))
-          second-stands low =
-              let kids = two-kids over low in
-              let fits = fits-two t (stmt s) rule _ (kids .left) (kids .right) over low (rw (kids .is) at clear) in
-              second-placed hb (c .variables) s (stmt s) (stands hb (c .variables) s standing) (omega arith) (omega arith)
+    first-of : rule < 4 → under rule (stmt s) ≡ firstOf (stmt s)
+    first-of low = rw (ne-eqb rule 6 (λ e. omega arith))
 
-          pub goes-on : (a e : ℕ) → r ≡ Through a e → rule < 4 → (second : ℕ) → stmt second ≡ secondOf (stmt s) → (q : Walked)
-              → q ≡ walkOn t (node (levels - 1) a e) (stmt second) a → q ≡ walkOn t (node levels n at) (stmt s) n
-          goes-on a e is low second second-is q q-is = rw second-is at q-is ∙ sym (rw is at (from-two low))
+    from-two : rule < 4 → walkOn t (node levels n at) (stmt s) n ≡ thenWalk r (λ a e. walkOn t (node (levels - 1) a e) (secondOf (stmt s)) a)
+    from-two low =
+        let r-is : r ≡ walkOn t (node (levels - 1) (suc n) next) (firstOf (stmt s)) (suc n) = rw (first-of low) at walked-under in
+        rw (up, r-is) (walk-two t pb (c .sets) (c .relations) (stmt s) (levels - 1) n at rule P R G Q K W next head over low d after end level clear)
+
+    from-one : 4 ≤ rule → walkOn t (node levels n at) (stmt s) n ≡ r
+    from-one past = rw up (walk-one t pb (c .sets) (c .relations) (stmt s) (levels - 1) n at rule P R G Q K W next head past low-rule d after end level clear ∙ sym walked-under)
+
+    pub stops : (k place : ℕ) → r ≡ Broken k place → Broken k place ≡ walkOn t (node levels n at) (stmt s) n
+    stops k place is = by (ltb rule 4) refl
+      where
+        by : (b : Bool) → ltb rule 4 ≡ b → Broken k place ≡ walkOn t (node levels n at) (stmt s) n
+        by true e = sym (rw is at (from-two (ltb-true rule 4 e)))
+        by false e = sym (from-one (ltb-false rule 4 e) ∙ is)
+
+    pub ends : (a e : ℕ) → r ≡ Through a e → 4 ≤ rule → Through a e ≡ walkOn t (node levels n at) (stmt s) n
+    ends a e is past = sym (from-one past ∙ is)
+
+    -- The second child, where the first one ended.
+    pub second-node : (a e : ℕ) → r ≡ Through a e → rule < 4 → isNode (node (levels - 1) a e) ≡ true
+    second-node a e is low =
+        let kids = two-kids over low in
+        let way = rw (kids .left-read) at (sym walked-under ∙ is) in
+        by (firstFault t (kids .left) (under rule (stmt s)) (suc n)) kids way
+      where
+        by : (o : Option Checking.Broken) (kids : Children (overTwo rule (record { P = P; R = R; G = G; Q = Q })) (node (levels - 1) (suc n) next) (node (levels - 1)) d after end)
+            → wayOf o (kids .between) (kids .middle) ≡ Through a e → isNode (node (levels - 1) a e) ≡ true
+        by none kids way =
+            let a-is : kids .between ≡ a = cc in
+            let e-is : kids .middle ≡ e = cc in
+            rw (← a-is, ← e-is, kids .right-read)
+        by (some b) kids way = absurd (let y : _≡_ {A = ℕ} 0 1 = cc in omega arith)
+
+    pub second-stands : rule < 4 → Placed hb (c .variables) (secondAt s (partAt hb (c .variables) s)) (secondOf (stmt s))
+    second-stands low =
+        let kids = two-kids over low in
+        let fits = fits-two t (stmt s) rule _ (kids .left) (kids .right) over low (rw (kids .is) at clear) in
+        second-placed hb (c .variables) s (stmt s) (stands hb (c .variables) s standing) (omega arith) (omega arith)
+
+    pub goes-on : (a e : ℕ) → r ≡ Through a e → rule < 4 → (second : ℕ) → stmt second ≡ secondOf (stmt s) → (q : Walked)
+        → q ≡ walkOn t (node (levels - 1) a e) (stmt second) a → q ≡ walkOn t (node levels n at) (stmt s) n
+    goes-on a e is low second second-is q q-is = rw second-is at q-is ∙ sym (rw is at (from-two low))

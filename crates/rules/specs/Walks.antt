@@ -16,7 +16,7 @@ use Rattle.handler.specs.declared.Part.{Part}
 use Rattle.handler.specs.declared.Part.the-variants.{Nil, Assign, Pair, Test, Nothing}
 use Rattle.derivation.specs.Tables.{written}
 use Rattle.derivation.specs.Reading.{proof, readProof, wordsOf}
-use Rattle.derivation.specs.Nodes.{NodeRead, whole, fault}
+use Rattle.derivation.specs.Nodes.{NodeRead, whole, fault, nodeAt}
 use Rattle.rules.specs.declared.Counts.{Counts}
 use Rattle.rules.specs.declared.Own.{Own}
 use Rattle.rules.specs.declared.Own.the-variants.{Holds, Breaks}
@@ -68,6 +68,13 @@ pub record Ready (hb pb work : List ℕ) (c : Counts) : Type 0 where
   pub reads : readProof pb (c .states) ≡ proof (c .sets) (c .relations) root derivation
   pub enough : 1040 ≤ length before
   pub words : work ≡ written (wordsOf pb (c .states) (readProof pb (c .states))) before
+
+-- A node and a statement that the walk may start from.
+pub record Walkable (hb pb work : List ℕ) (c : Counts) (levels node at stmt : ℕ) : Type 0 where
+  pub ready : Ready hb pb work c
+  pub shallow : levels ≤ 25
+  pub derivation : isNode (nodeAt levels pb (c .sets) (c .relations) node at) ≡ true
+  pub statement : isStmt (Stmts.wholeStmt hb (c .variables) stmt) ≡ true
 
 -- Where the parts of the statement at a bit stand: the left part or the body, and the right part.
 abbrev pub firstAt : ℕ → Part → ℕ
