@@ -84,9 +84,11 @@ sound s count = by (headerAt s) refl
         rw same (record {
           placed = λ v h e. let f = found s (3 + 5 * v) 5 (omega arith) (omega arith) (omega arith) (omega arith) in let z : _≡_ {A = ℕ} 0 1 = cc in omega arith;
           later = λ k. omega (arith, later-sizes (sizesOf s c) k (omega arith));
-          size = λ v. omega (arith, one-size (sizesOf s c) v (omega arith)) })
+          size = λ v. omega (arith, one-size (sizesOf s c) v (omega arith));
+        })
     by (Fault k place) e same =
         rw same (record {
           placed = λ v h e. absurd (omega arith);
           later = λ k. omega (arith, later-sizes [] k (omega arith));
-          size = λ v. omega arith })
+          size = λ v. omega arith;
+        })

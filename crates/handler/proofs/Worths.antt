@@ -63,39 +63,39 @@ head-known bytes count nodes at h e = rw e at (headed bytes count nodes at)
 
 module _ (bytes : List ℕ) (count s levels nodes at : ℕ) (more : 0 < levels) where
   here : (h : ExprHead) → exprHead bytes count nodes at ≡ h
-    → worthRead (machineOf (sizesOf bytes count)) s (exprAt levels bytes count nodes at)
-    ≡ worthRead (machineOf (sizesOf bytes count)) s (onExprHead h nodes (exprAt (levels - 1) bytes count))
+      → worthRead (machineOf (sizesOf bytes count)) s (exprAt levels bytes count nodes at)
+      ≡ worthRead (machineOf (sizesOf bytes count)) s (onExprHead h nodes (exprAt (levels - 1) bytes count))
   here h e = ap (worthRead (machineOf (sizesOf bytes count)) s) (expr-step bytes count levels nodes at h more e)
 
   pub walked-integer : (z : ℤ) (next : ℕ) → exprHead bytes count nodes at ≡ head.Integer z next
-    → Walked bytes count s levels nodes at (Whole (Integer z) (nodes + 1) next)
+      → Walked bytes count s levels nodes at (Whole (Integer z) (nodes + 1) next)
   unfolding Headed
   walked-integer z next e = (rw add-one (sym (here _ e)), omega (arith, head-known bytes count nodes at _ e))
 
   pub walked-truth : (b : _) (next : ℕ) → exprHead bytes count nodes at ≡ head.Truth b next
-    → Walked bytes count s levels nodes at (Whole (Truth b) (nodes + 1) next)
+      → Walked bytes count s levels nodes at (Whole (Truth b) (nodes + 1) next)
   unfolding Headed
   walked-truth b next e = (rw add-one (sym (here _ e)), omega (arith, head-known bytes count nodes at _ e))
 
   pub walked-variable : (v next : ℕ) → exprHead bytes count nodes at ≡ head.Variable v next → count ≡ countOf (headerAt bytes)
-    → Walked bytes count s levels nodes at (Whole (Integer (pos (valueOf (sizesOf bytes count) s v))) (nodes + 1) next)
+      → Walked bytes count s levels nodes at (Whole (Integer (pos (valueOf (sizesOf bytes count) s v))) (nodes + 1) next)
   unfolding Headed
   walked-variable v next e same =
       let size = sound bytes count same .size v in
       (rw add-one (sym (here _ e)), omega (arith, head-known bytes count nodes at _ e, mod-lt (s / weight (sizesOf bytes count) v) (size .0)))
 
   pub walked-fault : (k place : ℕ) → exprHead bytes count nodes at ≡ head.Fault k place
-    → Walked bytes count s levels nodes at (Fault k place)
+      → Walked bytes count s levels nodes at (Fault k place)
   walked-fault k place e = (sym (here _ e), tt)
 
   -- An operation, whose left operand stands at `next`.
   module _ (o next : ℕ) (e : exprHead bytes count nodes at ≡ head.Operation o next) (first : WorthRead)
-    (left : Walked bytes count s (levels - 1) (nodes + 1) next first) where
+      (left : Walked bytes count s (levels - 1) (nodes + 1) next first) where
     m : Machine
     m = machineOf (sizesOf bytes count)
 
     there : worthRead m s (exprAt levels bytes count nodes at)
-      ≡ worthRead m s (operands o (exprAt (levels - 1) bytes count (nodes + 1) next) (exprAt (levels - 1) bytes count))
+        ≡ worthRead m s (operands o (exprAt (levels - 1) bytes count (nodes + 1) next) (exprAt (levels - 1) bytes count))
     unfolding m
     there = rw add-one (here _ e)
 
@@ -107,7 +107,7 @@ module _ (bytes : List ℕ) (count s levels nodes at : ℕ) (more : 0 < levels) 
 
     -- The right operand stands behind the left.
     module _ (a : Worth) (seen middle : ℕ) (whole : first ≡ Whole a seen middle) (second : WorthRead)
-      (right : Walked bytes count s (levels - 1) seen middle second) where
+        (right : Walked bytes count s (levels - 1) seen middle second) where
       found-left : Found m s (exprAt (levels - 1) bytes count (nodes + 1) next) a seen middle
       unfolding m
       found-left = found-whole m s _ a seen middle (sym (left .0) ∙ whole)
@@ -127,7 +127,7 @@ module _ (bytes : List ℕ) (count s levels nodes at : ℕ) (more : 0 < levels) 
             omega arith
 
         pub walked-both : (r : Worth) → (r ≡ worthOf (both (apply o) (valIn a) (valIn b))) × (magnitude r ≤ magnitude a + magnitude b + 1)
-          → Walked bytes count s levels nodes at (Whole r all behind)
+            → Walked bytes count s levels nodes at (Whole r all behind)
         unfolding m
         walked-both r exact =
             let small-left : Small (nodes + 1) (Whole a seen middle) = rw whole at (left .1) in

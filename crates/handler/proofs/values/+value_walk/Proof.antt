@@ -27,9 +27,16 @@ abbrev now-at : ℕ → In 1 value-walk-kinds.ps
 now-at t = and 1 value-walk-kinds.ps (is 1 value-walk-kinds.ps μ-value-walk t) value-walk.Pre
 
 abbrev callees : ℕ → lts.Claims
-callees t = (expr-head-at-reads.Asked, expr-head-at-reads.Learnt, value-of-reads.Asked, value-of-reads.Learnt,
-    and 1 value-walk-kinds.ps (falls 1 value-walk-kinds.ps _<_ μ-value-walk t) value-walk.Pre, value-walk.Post,
-    apply-op-reads.Asked, apply-op-reads.Learnt)
+callees t = (
+  expr-head-at-reads.Asked,
+  expr-head-at-reads.Learnt,
+  value-of-reads.Asked,
+  value-of-reads.Learnt,
+  and 1 value-walk-kinds.ps (falls 1 value-walk-kinds.ps _<_ μ-value-walk t) value-walk.Pre,
+  value-walk.Post,
+  apply-op-reads.Asked,
+  apply-op-reads.Learnt,
+)
 
 more : {n : ℕ} → (n ≡ 0 → ⊥) → 0 < n
 more f = pos-of-ne-zero f

@@ -15,7 +15,6 @@ use Rattle.handler.specs.Values.{worthOf}
 use Rattle.handler.proofs.Integers.{mag-add, mag-minus}
 use Rattle.handler.proofs.values.of_integers.Statement.{statement}
 use Rattle.handler.proofs.values.of_integers.Tie as tie
-
 use Rattle.handler.proofs.values.of_integers.Reads as reads
 use Rattle.handler.proofs.values.of_integers.Lts as lts
 
