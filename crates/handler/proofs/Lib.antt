@@ -10,3 +10,5 @@ pub mod Heads
 pub mod Sizes
 pub mod Integers
 pub mod Worths
+pub mod ValueLaws
+pub mod ValueCases

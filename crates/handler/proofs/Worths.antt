@@ -1,25 +1,24 @@
 -- What a walk answers at each kind of head: the worth of what reading finds there, and a bound on it by the nodes read.
-use Prim.Native.Nat.{ℕ, zero, suc, _+_, _-_, _/_, _≤_, _<_}
+use Prim.Native.Nat.{ℕ, _+_, _-_, _/_, _≤_, _<_}
 use native.Mathlib.Nat.{mod-lt}
 use native.Mathlib.Numerals.{add-one}
 use native.Mathlib.Omega.{arith}
 use mathlib.Core.Option.{Option, none, some}
 use mathlib.Core.List.{List}
-use mathlib.Core.Path.{_≡_, refl, sym, ap, ap₂, _∙_}
+use mathlib.Core.Path.{_≡_, refl, sym, ap, _∙_}
 use lib.IntN.{ℤ, pos}
-use lib.Signed.{mag}
 use Rattle.semantics.specs.Language.{Val, int, truth, Expr, apply}
 use Rattle.semantics.specs.States.{Machine, machineOf, value, weight, valueOf, both}
 use Rattle.handler.specs.declared.ExprHead.{ExprHead}
 use Rattle.handler.specs.declared.ExprHead.the-variants as head
 use Rattle.handler.specs.declared.Worth.{Worth}
-use Rattle.handler.specs.declared.Worth.the-variants.{Integer, Truth, Nothing}
+use Rattle.handler.specs.declared.Worth.the-variants.{Integer, Truth}
 use Rattle.handler.specs.declared.WorthRead.{WorthRead}
 use Rattle.handler.specs.declared.WorthRead.the-variants.{Whole, Fault}
 use Rattle.handler.specs.Header.{headerAt, sizesOf}
-use Rattle.handler.specs.Expressions.{exprHead, ExprRead, good, bad, operands, joined, onExprHead, exprAt}
-use Rattle.handler.specs.Values.{countOf, valIn, worthOf, magnitude, worthRead, Small}
-use Rattle.handler.proofs.Folds.{Headed, headed, expr-step}
+use Rattle.handler.specs.Expressions.{exprHead, ExprRead, good, bad, operands, onExprHead, exprAt, wholeExpr}
+use Rattle.handler.specs.Values.{countOf, valIn, worthOf, magnitude, worthRead, Small, machineAt, valueAt}
+use Rattle.handler.proofs.Folds.{Headed, headed-as, expr-step, inner-step}
 use Rattle.handler.proofs.Sizes.{sound}
 
 val-of-worth : (v : Option Val) → valIn (worthOf v) ≡ v
@@ -36,17 +35,12 @@ module _ (m : Machine) (s : ℕ) where
   found-whole : (x : ExprRead) (w : Worth) (after next : ℕ) → worthRead m s x ≡ Whole w after next → Found x w after next
   found-whole (good e n i) w after next h =
       let worth-is : worthOf (value m e s) ≡ w = cc in
-      let after-is : n ≡ after = cc in
-      let next-is : i ≡ next = cc in
-      record { expr = e; read = rw (after-is, next-is); worth = sym (ap valIn worth-is) ∙ val-of-worth (value m e s) }
+      record { expr = e; read = cc; worth = sym (ap valIn worth-is) ∙ val-of-worth (value m e s) }
   found-whole (bad k place) w after next h = absurd (let z : _≡_ {A = ℕ} 0 1 = cc in omega arith)
 
   found-fault : (x : ExprRead) (k place : ℕ) → worthRead m s x ≡ Fault k place → x ≡ bad k place
   found-fault (good e n i) k place h = absurd (let z : _≡_ {A = ℕ} 0 1 = cc in omega arith)
-  found-fault (bad j i) k place h =
-      let k-is : j ≡ k = cc in
-      let place-is : i ≡ place = cc in
-      rw (k-is, place-is)
+  found-fault (bad j i) k place h = cc
 
 -- What a walk promises of its answer.
 abbrev pub Walked : List ℕ → ℕ → ℕ → ℕ → ℕ → ℕ → WorthRead → Type 0
@@ -57,10 +51,6 @@ pub walked-out : (bytes : List ℕ) (count s levels nodes at : ℕ) → levels �
 unfolding exprAt
 walked-out bytes count s levels nodes at none-left = rw none-left (refl, tt)
 
--- What a head that was read says.
-pub head-known : (bytes : List ℕ) (count nodes at : ℕ) (h : ExprHead) → exprHead bytes count nodes at ≡ h → Headed count nodes at h
-head-known bytes count nodes at h e = rw e at (headed bytes count nodes at)
-
 module _ (bytes : List ℕ) (count s levels nodes at : ℕ) (more : 0 < levels) where
   here : (h : ExprHead) → exprHead bytes count nodes at ≡ h
       → worthRead (machineOf (sizesOf bytes count)) s (exprAt levels bytes count nodes at)
@@ -70,19 +60,19 @@ module _ (bytes : List ℕ) (count s levels nodes at : ℕ) (more : 0 < levels) 
   pub walked-integer : (z : ℤ) (next : ℕ) → exprHead bytes count nodes at ≡ head.Integer z next
       → Walked bytes count s levels nodes at (Whole (Integer z) (nodes + 1) next)
   unfolding Headed
-  walked-integer z next e = (rw add-one (sym (here _ e)), omega (arith, head-known bytes count nodes at _ e))
+  walked-integer z next e = (rw add-one (sym (here _ e)), omega (arith, headed-as bytes count nodes at _ e))
 
   pub walked-truth : (b : _) (next : ℕ) → exprHead bytes count nodes at ≡ head.Truth b next
       → Walked bytes count s levels nodes at (Whole (Truth b) (nodes + 1) next)
   unfolding Headed
-  walked-truth b next e = (rw add-one (sym (here _ e)), omega (arith, head-known bytes count nodes at _ e))
+  walked-truth b next e = (rw add-one (sym (here _ e)), omega (arith, headed-as bytes count nodes at _ e))
 
   pub walked-variable : (v next : ℕ) → exprHead bytes count nodes at ≡ head.Variable v next → count ≡ countOf (headerAt bytes)
       → Walked bytes count s levels nodes at (Whole (Integer (pos (valueOf (sizesOf bytes count) s v))) (nodes + 1) next)
   unfolding Headed
   walked-variable v next e same =
       let size = sound bytes count same .size v in
-      (rw add-one (sym (here _ e)), omega (arith, head-known bytes count nodes at _ e, mod-lt (s / weight (sizesOf bytes count) v) (size .0)))
+      (rw add-one (sym (here _ e)), omega (arith, headed-as bytes count nodes at _ e, mod-lt (s / weight (sizesOf bytes count) v) (size .0)))
 
   pub walked-fault : (k place : ℕ) → exprHead bytes count nodes at ≡ head.Fault k place
       → Walked bytes count s levels nodes at (Fault k place)
@@ -94,16 +84,14 @@ module _ (bytes : List ℕ) (count s levels nodes at : ℕ) (more : 0 < levels) 
     m : Machine
     m = machineOf (sizesOf bytes count)
 
-    there : worthRead m s (exprAt levels bytes count nodes at)
-        ≡ worthRead m s (operands o (exprAt (levels - 1) bytes count (nodes + 1) next) (exprAt (levels - 1) bytes count))
-    unfolding m
-    there = rw add-one (here _ e)
+    inner : exprAt levels bytes count nodes at ≡ operands o (exprAt (levels - 1) bytes count (nodes + 1) next) (exprAt (levels - 1) bytes count)
+    inner = inner-step bytes count levels nodes at o next more e
 
     pub walked-left : (k place : ℕ) → first ≡ Fault k place → Walked bytes count s levels nodes at first
     unfolding m
     walked-left k place fault =
         let gone = found-fault m s (exprAt (levels - 1) bytes count (nodes + 1) next) k place (sym (left .0) ∙ fault) in
-        rw fault (sym (there ∙ rw gone), tt)
+        rw (fault, inner, gone) (refl, tt)
 
     -- The right operand stands behind the left.
     module _ (a : Worth) (seen middle : ℕ) (whole : first ≡ Whole a seen middle) (second : WorthRead)
@@ -117,7 +105,7 @@ module _ (bytes : List ℕ) (count s levels nodes at : ℕ) (more : 0 < levels) 
       walked-right k place fault =
           let gone = found-fault m s (exprAt (levels - 1) bytes count seen middle) k place (sym (right .0) ∙ fault) in
           let l = found-left .read in
-          rw fault (sym (there ∙ rw (l, gone)), tt)
+          rw (fault, inner, l, gone) (refl, tt)
 
       module _ (b : Worth) (all behind : ℕ) (also : second ≡ Whole b all behind) where
         pub operands-small : magnitude a + magnitude b < 8192
@@ -134,4 +122,20 @@ module _ (bytes : List ℕ) (count s levels nodes at : ℕ) (more : 0 < levels) 
             let small-right : Small seen (Whole b all behind) = rw also at (right .1) in
             let l = found-left in
             let f = found-whole m s (exprAt (levels - 1) bytes count seen middle) b all behind (sym (right .0) ∙ also) in
-            (sym (there ∙ rw (l .read, f .read, exact .0, l .worth, f .worth)), omega arith)
+            (rw (inner, l .read, f .read, exact .0, l .worth, f .worth), omega arith)
+
+-- The whole expression at a cursor, from the answer of a walk with all its levels.
+module _ (bytes : List ℕ) (count at s : ℕ) (same : count ≡ countOf (headerAt bytes)) where
+  pub whole-value : (w : Worth) (nodes next : ℕ)
+      → worthRead (machineOf (sizesOf bytes count)) s (exprAt 32 bytes count 0 at) ≡ Whole w nodes next → valIn w ≡ valueAt bytes at s
+  unfolding valueAt machineAt wholeExpr
+  whole-value w nodes next h =
+      let f = found-whole (machineOf (sizesOf bytes count)) s (exprAt 32 bytes count 0 at) w nodes next h in
+      rw (← same, f .read) (f .worth)
+
+  pub fault-value : (k place : ℕ)
+      → worthRead (machineOf (sizesOf bytes count)) s (exprAt 32 bytes count 0 at) ≡ Fault k place → none ≡ valueAt bytes at s
+  unfolding valueAt machineAt wholeExpr
+  fault-value k place h =
+      let gone = found-fault (machineOf (sizesOf bytes count)) s (exprAt 32 bytes count 0 at) k place h in
+      rw (← same, gone)

@@ -82,5 +82,5 @@ afterAt bytes v at s =
 -- Whether s and t are states that agree in variable v.
 unfoldable pub agreeAt : List ℕ → ℕ → ℕ → ℕ → Bool
 agreeAt bytes v s t =
-    ltb t (statesOf (headerAt bytes)) && ltb s (statesOf (headerAt bytes))
+    ltb s (statesOf (headerAt bytes)) && ltb t (statesOf (headerAt bytes))
     && eqZ (machineAt bytes .get s v) (machineAt bytes .get t v)

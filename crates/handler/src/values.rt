@@ -143,3 +143,111 @@ fn value_walk(src: &[u8], count: u32, s: u32, levels: u32, nodes: u32, at: usize
         ExprHead::Fault(k, place) => WorthRead::Fault(k, place),
     }
 }
+
+// The worth at state s of the whole expression at a cursor.
+fn worth_at(src: &[u8], count: u32, at: usize, s: u32) -> Worth
+    requires { ⌜ count ≡ countOf (headerAt (now src)) ⌝ }
+    ensures { λ r. ⌜ valIn r ≡ valueAt (now (src .entry)) at s ⌝ }
+{
+    match value_walk(src, count, s, 32, 0, at) {
+        WorthRead::Whole(worth, _, _) => worth,
+        WorthRead::Fault(_, _) => Worth::Nothing,
+    }
+}
+
+// Whether a worth is the wanted truth value.
+fn is_wanted(worth: Worth, wanted: bool) -> bool
+    ensures { λ r. ⌜ r ≡ isTruth wanted (valIn worth) ⌝ }
+{
+    match worth {
+        Worth::Truth(b) => b == wanted,
+        Worth::Integer(_) => false,
+        Worth::Nothing => false,
+    }
+}
+
+// The states found so far, with s where it is one of those looked for.
+fn with_state(found: StateSet, s: u32, one: bool) -> StateSet
+    ensures { λ r. ⌜ ((t : ℕ) → has r t ≡ (has found t || one && (ltb t 64 && eqb s t))) ⌝ }
+{
+    if one {
+        found.join(StateSet::single(s))
+    } else {
+        found
+    }
+}
+
+// The states at which the expression at a cursor is the wanted truth value; none where there is no such expression.
+pub fn states_where(src: &[u8], at: usize, wanted: bool) -> StateSet
+    ensures { λ r. ⌜ ((s : ℕ) → has r s ≡ whereAt (now (src .entry)) wanted at s) ⌝ }
+{
+    let mut found = StateSet::empty();
+    let Header::Sizes(count, n, _) = read_header(src) else {
+        return found;
+    };
+    for s in 0..n {
+        found = with_state(found, s, is_wanted(worth_at(src, count, at, s), wanted));
+    }
+    found
+}
+
+// The states that agree with s in variable v; none where s is no state.
+pub fn agreeing(src: &[u8], v: u32, s: u32) -> StateSet
+    ensures { λ r. ⌜ ((t : ℕ) → has r t ≡ agreeAt (now (src .entry)) v s t) ⌝ }
+{
+    let mut found = StateSet::empty();
+    let Header::Sizes(count, n, _) = read_header(src) else {
+        return found;
+    };
+    if s >= n {
+        return found;
+    }
+    let value = value_of(src, count, s, v);
+    for t in 0..n {
+        let other = value_of(src, count, t, v);
+        found = with_state(found, t, (value <= other) & (other <= value));
+    }
+    found
+}
+
+// The state after a store of n in variable v at state s.
+fn store_natural(src: &[u8], count: u32, s: u32, v: u32, n: u64) -> After
+    requires { ⌜ (count ≡ countOf (headerAt (now src))) × (s < 64) ⌝ }
+    ensures { λ r. ⌜ r ≡ afterOf (stored (sizesOf (now (src .entry)) count) s v (pos n)) ⌝ }
+{
+    if n >= size_of(src, count, v) as u64 {
+        return After::OutOfRange;
+    }
+    let weight = weight_of(src, count, v);
+    let value = value_of(src, count, s, v);
+    After::State(s - value * weight + n as u32 * weight)
+}
+
+// The state after a store of z in variable v at state s; no variable holds a negative number.
+fn store_integer(src: &[u8], count: u32, s: u32, v: u32, z: i64) -> After
+    requires { ⌜ (count ≡ countOf (headerAt (now src))) × (s < 64) ⌝ }
+    ensures { λ r. ⌜ r ≡ afterOf (stored (sizesOf (now (src .entry)) count) s v z) ⌝ }
+{
+    if z < 0 {
+        After::OutOfRange
+    } else {
+        store_natural(src, count, s, v, z as u64)
+    }
+}
+
+// The state after a store in variable v, at state s, of the expression at a cursor.
+pub fn successor(src: &[u8], v: u32, at: usize, s: u32) -> After
+    ensures { λ r. ⌜ r ≡ afterAt (now (src .entry)) v at s ⌝ }
+{
+    let Header::Sizes(count, n, _) = read_header(src) else {
+        return After::OutOfRange;
+    };
+    if s >= n {
+        return After::OutOfRange;
+    }
+    match worth_at(src, count, at, s) {
+        Worth::Integer(z) => store_integer(src, count, s, v, z),
+        Worth::Truth(_) => After::OutOfRange,
+        Worth::Nothing => After::OutOfRange,
+    }
+}
