@@ -5,3 +5,5 @@ pub mod Demand
 pub mod Faults
 pub mod Loaded
 pub mod Walking
+pub mod Stages
+pub mod Judging

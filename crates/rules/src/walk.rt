@@ -58,7 +58,7 @@ fn own_fault(handler: &[u8], proof: &[u8], work: &[u64], c: Counts, at: usize, s
 }
 
 // The derivation at a node over a statement: the node's own conditions, then its children's.
-fn walk(handler: &[u8], proof: &[u8], work: &[u64], c: Counts, levels: u32, node: u32, at: usize, stmt: usize) -> Walked
+pub(crate) fn walk(handler: &[u8], proof: &[u8], work: &[u64], c: Counts, levels: u32, node: u32, at: usize, stmt: usize) -> Walked
     requires { ⌜ Walkable (now handler) (now proof) (now work) c levels node at stmt ⌝ }
     ensures { λ r.
         ⌜ r ≡ walkOn (tablesOf (now (handler .entry)) (now (proof .entry)) (c .variables) (c .states) (c .sets))
