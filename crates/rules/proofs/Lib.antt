@@ -7,3 +7,8 @@ pub mod Loaded
 pub mod Walking
 pub mod Stages
 pub mod Judging
+pub mod Bare
+pub mod TestsPlaces
+pub mod TestsRows
+pub mod TestsStores
+pub mod TestsMoved

@@ -3,18 +3,13 @@
 use Prim.Native.Nat.{ℕ, _+_, _<_, _≤_}
 use native.Mathlib.Nat.{le-antisymm}
 use native.Mathlib.Numerals.{add-one}
-use mathlib.Core.Path.{_≡_, refl, sym, ap, ap₂, _∙_, fun-ext}
-use mathlib.Core.Logic.{_⊎_, ⊎-elim, inl, inr}
-use mathlib.Core.Bool.{Bool, true, false, not, _&&_, _||_, Bool·beq}
-use mathlib.Core.List.{List, [], _∷_}
+use mathlib.Core.Path.{_≡_, refl, sym, ap, _∙_}
+use mathlib.Core.Logic.{_⊎_, inl, inr}
+use mathlib.Core.Bool.{Bool, true, false, _&&_}
 use lib.Dec.{ltb}
 use borrow.Author.Tests.{lt-ltb}
-use Rattle.states.specs.Search.{implies, all, any, Search, must, given, named, orElse, each, holds}
-use Rattle.states.specs.Sets.{mem, has}
-use Rattle.states.specs.declared.StateSet.{StateSet}
-use Rattle.states.specs.Relations.{rel}
+use Rattle.states.specs.Search.{implies, all, any, Search, must, given, named, each, holds}
 use Rattle.states.proofs.Search.{and-left, and-right, and-both, implies-intro, implies-at, implies-false, bool-ext, true-or-false, all-intro, all-at, all-cong, any-intro, any-true, holds-must, holds-given, holds-named, holds-orElse, holds-each, each-cong}
-use Rattle.states.proofs.Rows.{rel-between, rel-mem, mem-below}
 use Rattle.semantics.specs.Conditions.{inSet}
 use Rattle.rules.specs.Words.{bare}
 
@@ -48,7 +43,7 @@ module _ (n : ℕ) (p : ℕ → Bool) (f : ℕ → Search) where
   pub inSet-at : holds (inSet (bare n) p f) ≡ true → (s : ℕ) → s < n → p s ≡ true → holds (f s) ≡ true
   inSet-at h s l = implies-at _ _ (all-at n _ (sym holds-inSet ∙ h) s l)
 
--- Members of a set of at most 64 states, each in another set.
+-- Every member is a state below n that a word can hold.
 abbrev pub Small : ℕ → (ℕ → Bool) → Type 0
 Small n p = (t : ℕ) → p t ≡ true → (t < 64) × (t < n)
 
@@ -86,7 +81,7 @@ chains-within n p a b c ab small chains =
     implies-cong x y z h =
         bool-ext _ _ (λ e. implies-intro x z (λ i. sym (h i) ∙ implies-at x y e i)) (λ e. implies-intro x y (λ i. h i ∙ implies-at x z e i))
 
--- A member of a set of at most 64 states is below 64, so a comparison of words answers for the n states.
+-- So a comparison of words answers for the n states.
 pub small-all : (n : ℕ) (p q : ℕ → Bool) → Small n p → all 64 (λ t. implies (p t) (q t)) ≡ all n (λ t. implies (p t) (q t))
 small-all n p q small = all-bounds 64 n _ (λ t e. small t (implies-false (p t) (q t) e .0))
 

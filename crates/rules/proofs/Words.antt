@@ -1,12 +1,12 @@
 -- The tables in the work words: a member of a set or of a row is a state below n that a word of 64 bits holds.
 use Prim.Native.Nat.{ℕ, _<_}
-use mathlib.Core.Path.{_≡_, refl, sym, ap, ap₂, _∙_, fun-ext, subst}
+use mathlib.Core.Path.{_≡_, refl, sym, ap₂, _∙_, fun-ext, subst}
 use mathlib.Core.Logic.{_⊎_, ⊎-elim, inl, inr, _↔_}
 use mathlib.Core.Bool.{Bool, true, false, _&&_, _||_, Bool·beq, true≢false}
 use mathlib.Core.List.{List, [], _∷_}
 use lib.Dec.{ltb, eqb}
 use borrow.Author.Tests.{lt-ltb, ltb-true, eqb-true}
-use Rattle.states.specs.Search.{implies, all, any, must, holds}
+use Rattle.states.specs.Search.{all, any, must, holds}
 use Rattle.states.specs.Sets.{mem, has}
 use Rattle.states.specs.declared.StateSet.{StateSet}
 use Rattle.states.specs.Relations.{rel, Reached, here, more, reach}

@@ -19,6 +19,7 @@ ghost use Rattle.rules.specs.Walks.{stmtIn, walkOn, decided, Walkable, H
 pub mod conditions;
 pub mod tables;
 pub mod walk;
+pub mod tests;
 
 // The tables that a node names, by number: P a set, R, G and Q relations.
 pub struct Names {

@@ -27,4 +27,7 @@ returns c s t =
     ∙ once (ltb s 64) (r (a .r) || r (a .left)) (r (a .right))
 
 pub changes-spec : {M : Type 1} → statement M
-changes-spec = tie.close (tie.spec (λ c κs. search needs) (λ c κs. search needs) (λ c κs. search needs) (λ c. search needs) (λ c κs. search needs) (λ c κs. search needs) returns)
+changes-spec =
+    tie.close
+    (tie.spec (λ c κs. search needs) (λ c κs. search needs) (λ c κs. search needs) (λ c. search needs) (λ c κs. search needs)
+    (λ c κs. search needs) returns)

@@ -1,8 +1,6 @@
 -- The ends lead by W into themselves.
-use mathlib.Core.Path.{_∙_, sym, ap, ap₂, refl}
-use mathlib.Core.Bool.{not, _&&_, false}
+use mathlib.Core.Path.{_∙_, sym}
 use borrow.Author.Needs.{needs}
-use Rattle.states.specs.Search.{must, holds}
 use Rattle.states.proofs.Search.{holds-must}
 use Rattle.rules.proofs.Words.{leads-cong}
 use Rattle.rules.proofs.conditions.descends_at.Statement.{statement}

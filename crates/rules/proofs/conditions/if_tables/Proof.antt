@@ -1,4 +1,5 @@
 -- Each comparison is the one that the condition names.
+use Prim.Native.Nat.{ℕ}
 use mathlib.Core.Path.{_∙_, sym, ap, ap₂}
 use mathlib.Core.Bool.{_&&_}
 use borrow.Author.Needs.{needs}
@@ -12,11 +13,16 @@ use Rattle.rules.proofs.conditions.if_tables.Tie as tie
 returns : tie.Need-returns
 unfolding c34if
 returns c =
-    let a = c .before .before .before .before .before .before .before .before .args in
-    let sets = c .before .before .before .same-set .ensures
-    ∙ same-cong _ _ _ _ _ (c .before .before .before .before .before .before .set-at .ensures) (λ s. c .before .before .before .before .meet .ensures s ∙ ap (λ b. b && has (a .truth) s) (c .before .before .before .before .before .set-at2 .ensures s)) in
+    let d = c .before .before .before in
+    let e = d .before .before in
+    let truth = e .before .before .before .args .truth in
+    let met : (s : ℕ) → _ = λ s. d .before .meet .ensures s ∙ ap (λ b. b && has truth s) (e .set-at2 .ensures s) in
+    let sets = d .same-set .ensures ∙ same-cong _ _ _ _ _ (e .before .set-at .ensures) met in
     ap₂ _&&_ (ap₂ _&&_ (ap₂ _&&_ sets (c .before .before .same-relation .ensures)) (c .before .same-relation2 .ensures)) (c .same-relation3 .ensures)
     ∙ sym (holds-must _)
 
 pub if-tables-spec : {M : Type 1} → statement M
-if-tables-spec = tie.close (tie.spec (λ c κs. search needs) (λ c κs. search needs) (λ c κs. search needs) (λ c κs. search needs) (λ c κs. search needs) (λ c κs. search needs) (λ c κs. search needs) returns)
+if-tables-spec =
+    tie.close
+    (tie.spec (λ c κs. search needs) (λ c κs. search needs) (λ c κs. search needs) (λ c κs. search needs) (λ c κs. search needs)
+    (λ c κs. search needs) (λ c κs. search needs) returns)

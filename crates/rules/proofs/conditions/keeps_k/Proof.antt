@@ -18,4 +18,6 @@ returns c =
     ∙ ap holds (inSet-and _ _ _ _)
 
 pub keeps-k-spec : {M : Type 1} → statement M
-keeps-k-spec = tie.close (tie.spec (λ c κs. search needs) (λ c κs. search needs) (λ c κs. search needs) (λ c κs. search needs) returns)
+keeps-k-spec =
+    tie.close
+    (tie.spec (λ c κs. search needs) (λ c κs. search needs) (λ c κs. search needs) (λ c κs. search needs) returns)

@@ -57,4 +57,7 @@ unfolding c66 inSet
 returns c = c .before .loop .inv .1 ∙ each-done _ _ _ (c .before .loop .inv .0) (c .loop-test .left)
 
 pub parallel-post-spec : {M : Type 1} → statement M
-parallel-post-spec = tie.close (tie.spec Inv-loop μ-loop (λ c κs. search needs) loop-holds (λ c. search needs) (λ c κs. search needs) (λ c. search needs) (λ c. search needs) loop-again returns)
+parallel-post-spec =
+    tie.close
+    (tie.spec Inv-loop μ-loop (λ c κs. search needs) loop-holds (λ c. search needs) (λ c κs. search needs) (λ c. search needs)
+    (λ c. search needs) loop-again returns)

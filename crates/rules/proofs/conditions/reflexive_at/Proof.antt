@@ -15,4 +15,6 @@ returns-2 : tie.Need-returns-2
 returns-2 c = at-other _ _ (sym (c .before .holds-state .ensures ∙ c .before .before .set-at .ensures _) ∙ c .if1 .left)
 
 pub reflexive-at-spec : {M : Type 1} → statement M
-reflexive-at-spec = tie.close (tie.spec (λ c κs. search needs) (λ c κs. search needs) (λ c κs. search needs) (λ c κs. search needs) returns returns-2)
+reflexive-at-spec =
+    tie.close
+    (tie.spec (λ c κs. search needs) (λ c κs. search needs) (λ c κs. search needs) (λ c κs. search needs) returns returns-2)

@@ -57,4 +57,6 @@ returns c own =
     l .1 ∙ ap₂ _&&_ (each-done _ _ _ (l .0) done) (each-done _ _ _ (l .0) done) ∙ sym (holds-orElse _ _)
 
 pub strict-order-spec : {M : Type 1} → statement M
-strict-order-spec = tie.close (tie.spec Inv-loop μ-loop loop-holds (λ c κs. search needs) (λ c. search needs) (λ c. search needs) loop-again returns)
+strict-order-spec =
+    tie.close
+    (tie.spec Inv-loop μ-loop loop-holds (λ c κs. search needs) (λ c. search needs) (λ c. search needs) loop-again returns)

@@ -17,4 +17,7 @@ returns c =
     ∙ chains-within (a .n) _ _ _ _ _ (set-small (a .n) (a .work .now) (a .p)) (simp (from, on) at (c .before .before .before .before .compose .ensures))
 
 pub chains-into-spec : {M : Type 1} → statement M
-chains-into-spec = tie.close (tie.spec (λ c κs. search needs) (λ c κs. search needs) (λ c κs. search needs) (λ c κs. search needs) (λ c. search needs) (λ c κs. search needs) (λ c κs. search needs) returns)
+chains-into-spec =
+    tie.close
+    (tie.spec (λ c κs. search needs) (λ c κs. search needs) (λ c κs. search needs) (λ c κs. search needs) (λ c. search needs)
+    (λ c κs. search needs) (λ c κs. search needs) returns)

@@ -14,4 +14,7 @@ returns c =
     (λ t. c .before .meet .ensures t ∙ ap₂ _&&_ (c .before .before .before .row-at2 .ensures t) (c .before .before .set-at .ensures t))
 
 pub row-ends-in-spec : {M : Type 1} → statement M
-row-ends-in-spec = tie.close (tie.spec (λ c κs. search needs) (λ c κs. search needs) (λ c κs. search needs) (λ c κs. search needs) (λ c κs. search needs) returns)
+row-ends-in-spec =
+    tie.close
+    (tie.spec (λ c κs. search needs) (λ c κs. search needs) (λ c κs. search needs) (λ c κs. search needs) (λ c κs. search needs)
+    returns)

@@ -14,4 +14,7 @@ returns c =
     (λ t. c .before .join .ensures t ∙ ap₂ _||_ (c .before .before .before .row-at2 .ensures t) (c .before .before .row-at3 .ensures t))
 
 pub row-is-join-spec : {M : Type 1} → statement M
-row-is-join-spec = tie.close (tie.spec (λ c κs. search needs) (λ c κs. search needs) (λ c κs. search needs) (λ c κs. search needs) (λ c κs. search needs) returns)
+row-is-join-spec =
+    tie.close
+    (tie.spec (λ c κs. search needs) (λ c κs. search needs) (λ c κs. search needs) (λ c κs. search needs) (λ c κs. search needs)
+    returns)

@@ -12,4 +12,6 @@ returns c =
     ∙ same-masked (a .n) (a .a) (a .b)
 
 pub same-set-spec : {M : Type 1} → statement M
-same-set-spec = tie.close (tie.spec (λ c κs. search needs) (λ c κs. search needs) (λ c κs. search needs) (λ c κs. search needs) returns)
+same-set-spec =
+    tie.close
+    (tie.spec (λ c κs. search needs) (λ c κs. search needs) (λ c κs. search needs) (λ c κs. search needs) returns)
