@@ -12,3 +12,5 @@ pub mod TestsPlaces
 pub mod TestsRows
 pub mod TestsStores
 pub mod TestsMoved
+pub mod Guards
+pub mod Owed

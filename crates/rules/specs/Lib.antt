@@ -3,3 +3,4 @@ pub mod Words
 pub mod Places
 pub mod Verdicts
 pub mod Walks
+pub mod Owing

@@ -17,6 +17,7 @@ ghost use Rattle.rules.specs.Verdicts.{refusedAt, tablesOf, onHandler, a
 ghost use Rattle.rules.specs.Walks.{stmtIn, walkOn, decided, Walkable, Handled};
 
 pub mod conditions;
+pub mod nodes;
 pub mod tables;
 pub mod walk;
 pub mod tests;

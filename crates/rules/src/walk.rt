@@ -2,7 +2,8 @@
 // stand; sequence and parallel find their right parts by where the left ones end, and weaken keeps its statement.
 use crate::{Counts, Own, Walked};
 use derivation::NodeHead;
-use derivation::nodes::node_head_at;
+use crate::nodes::{assignment_fault, code_of, expr_of, if_fault, names_of, next_of, parallel_fault, sequence_fault, skip_fault, target_of, weaken_fault, while_fault};
+use derivation::nodes::{node_end, node_head_at};
 use handler::Part;
 use handler::reading::part_at;
 ghost use mathlib.Core.Path.{_≡_};
@@ -54,7 +55,36 @@ fn own_fault(handler: &[u8], proof: &[u8], work: &[u64], c: Counts, at: usize, s
             (nodeIn (wholeNode (now (proof .entry)) (c .sets) (c .relations) at))
             (stmtIn (wholeStmt (now (handler .entry)) (c .variables) stmt)))) ⌝ }
 {
-    Own::Holds
+    let head = node_head_at(proof, c.sets, c.relations, 24, 0, at);
+    let own = names_of(head);
+    let NodeHead::Node(rule, _, _, _, _, k, w, first) = head else {
+        return Own::Holds;
+    };
+    let part = part_at(handler, c.variables, stmt);
+    let code = code_of(part);
+    let expr = expr_of(part);
+    if rule == 0 {
+        return skip_fault(c.states, work, own, code == 0);
+    }
+    if rule == 1 {
+        return assignment_fault(handler, work, own, code == 1, target_of(part), expr);
+    }
+    let child = names_of(node_head_at(proof, c.sets, c.relations, 24, 0, first));
+    if rule < 4 {
+        let middle = next_of(node_end(proof, c.sets, c.relations, first));
+        let right = names_of(node_head_at(proof, c.sets, c.relations, 24, 0, middle));
+        if rule == 2 {
+            return sequence_fault(c.states, work, own, child, right, code == 2);
+        }
+        return parallel_fault(c.states, work, own, child, right, code == 3);
+    }
+    if rule == 4 {
+        return if_fault(handler, work, own, child, code == 4, expr);
+    }
+    if rule == 5 {
+        return while_fault(handler, work, own, k, w, child, code == 5, expr);
+    }
+    weaken_fault(c.states, work, own, child)
 }
 
 // The derivation at a node over a statement: the node's own conditions, then its children's.
