@@ -29,8 +29,8 @@ expr-fits k at (var v) e = own (sameKind Integer k) none at e .0
 expr-fits k at (op o l r) e = by (rowOf o) (λ a. expr-fits a (at + 5) l) (λ b. expr-fits b (at + 5 + width l) r) e
   where
     by : (row : Row) → ((a : Kind) → misfit a (at + 5) l ≡ none → fits a l ≡ true) → ((b : Kind) → misfit b (at + 5 + width l) r ≡ none → fits b r ≡ true)
-      → rowMisfit row k at (λ a. misfit a (at + 5) l) (λ b. misfit b (at + 5 + width l) r) ≡ none
-      → rowFits row k (λ a. fits a l) (λ b. fits b r) ≡ true
+        → rowMisfit row k at (λ a. misfit a (at + 5) l) (λ b. misfit b (at + 5 + width l) r) ≡ none
+        → rowFits row k (λ a. fits a l) (λ b. fits b r) ≡ true
     by (Kinds a b c) left right e =
         let node = own (sameKind c k) (orPlace (misfit a (at + 5) l) (misfit b (at + 5 + width l) r)) at e in
         let sides = each (misfit a (at + 5) l) (misfit b (at + 5 + width l) r) (node .1) in

@@ -29,7 +29,7 @@ use Rattle.handler.specs.Kinds.{width}
 
 -- One level of reading, in the code's numbers.
 pub expr-step : (bytes : List ℕ) (count levels nodes at : ℕ) (head : ExprHead) → 0 < levels
-  → exprHead bytes count nodes at ≡ head → exprAt levels bytes count nodes at ≡ onExprHead head nodes (exprAt (levels - 1) bytes count)
+    → exprHead bytes count nodes at ≡ head → exprAt levels bytes count nodes at ≡ onExprHead head nodes (exprAt (levels - 1) bytes count)
 unfolding exprAt
 expr-step bytes count zero nodes at head more e = absurd (omega arith)
 expr-step bytes count (suc levels) nodes at head more e =
@@ -37,12 +37,12 @@ expr-step bytes count (suc levels) nodes at head more e =
     rw (e, less)
 
 pub inner-step : (bytes : List ℕ) (count levels nodes at o next : ℕ) → 0 < levels → exprHead bytes count nodes at ≡ Operation o next
-  → exprAt levels bytes count nodes at ≡ operands o (exprAt (levels - 1) bytes count (nodes + 1) next) (exprAt (levels - 1) bytes count)
+    → exprAt levels bytes count nodes at ≡ operands o (exprAt (levels - 1) bytes count (nodes + 1) next) (exprAt (levels - 1) bytes count)
 inner-step bytes count levels nodes at o next more e = rw (add-one nodes) (expr-step bytes count levels nodes at _ more e)
 
 -- A head that is no operation, by its tag, asks for no operands.
 pub childless : (head : ExprHead) → OneOf (0 ∷ 1 ∷ 2 ∷ 4 ∷ []) (tagOf the-type head) → (nodes : ℕ) (f g : ℕ → ℕ → ExprRead)
-  → onExprHead head nodes f ≡ onExprHead head nodes g
+    → onExprHead head nodes f ≡ onExprHead head nodes g
 childless (Integer z next) tag nodes f g = refl
 childless (Truth b next) tag nodes f g = refl
 childless (Variable v next) tag nodes f g = refl
@@ -120,6 +120,7 @@ module _ (bytes : List ℕ) (count nodes : ℕ) where
       full : (tag next : ℕ) → next ≡ at + 2 → (b : Bool) → leb 31 nodes ≡ b → Headed count nodes at (cond b (Fault 17 at) (payloadHead bytes count next tag))
       full tag next moved true t = tt
       full tag next moved false t = on-payload (leb-false 31 nodes t) at next moved tag
+
       by : (f : Field) → fieldAt bytes at 2 ≡ f → Headed count nodes at (tagHead bytes count nodes at f)
       by Missing e = tt
       by (Value tag next) e = full tag next (there bytes at 2 tag next e .moved) _ refl
@@ -143,13 +144,15 @@ all-read zero bytes count nodes at = tt
 all-read (suc levels) bytes count nodes at = by (exprHead bytes count nodes at) (headed bytes count nodes at) (all-read levels bytes count)
   where
     right : (o next : ℕ) → nodes < 31 → next ≡ at + 5 → (l : Expr) (after behind : ℕ) → Read (suc nodes) next l after behind
-      → (x : ExprRead) → AllRead after behind x → AllRead nodes at (joined o l x)
+        → (x : ExprRead) → AllRead after behind x → AllRead nodes at (joined o l x)
     right o next room moved l after behind before (bad k place) known = tt
     right o next room moved l after behind before (good r last end) known = omega (arith, before, known)
+
     left : (o next : ℕ) → nodes < 31 → next ≡ at + 5 → (x : ExprRead) → AllRead (suc nodes) next x → (expr : ℕ → ℕ → ExprRead)
-      → ((n i : ℕ) → AllRead n i (expr n i)) → AllRead nodes at (operands o x expr)
+        → ((n i : ℕ) → AllRead n i (expr n i)) → AllRead nodes at (operands o x expr)
     left o next room moved (bad k place) known expr later = tt
     left o next room moved (good l after behind) known expr later = right o next room moved l after behind known (expr after behind) (later after behind)
+
     by : (h : ExprHead) → Headed count nodes at h → ((n i : ℕ) → AllRead n i (exprAt levels bytes count n i)) → AllRead nodes at (onExprHead h nodes (exprAt levels bytes count))
     by (Integer z next) p later = omega arith
     by (Truth b next) p later = omega arith
@@ -158,7 +161,7 @@ all-read (suc levels) bytes count nodes at = by (exprHead bytes count nodes at) 
     by (Fault k place) p later = tt
 
 pub expr-read : (levels : ℕ) (bytes : List ℕ) (count nodes at : ℕ) (e : Expr) (after next : ℕ)
-  → exprAt levels bytes count nodes at ≡ good e after next → Read nodes at e after next
+    → exprAt levels bytes count nodes at ≡ good e after next → Read nodes at e after next
 expr-read levels bytes count nodes at e after next p = rw p at (all-read levels bytes count nodes at)
 
 -- Every occurrence counts for E.

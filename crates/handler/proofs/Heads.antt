@@ -46,7 +46,7 @@ module _ (s : List ℕ) (count : ℕ) (begun : 3 ≤ 8 * length s) where
   next-size k (Sizes c n at) u = by (fieldAt s at 5) refl
     where
       fits : (size next : ℕ) → fieldAt s at 5 ≡ Value size next → (ltb size 2 || ltb 16 size) ≡ false → (b : Bool) → ltb 64 (n * size) ≡ b
-        → Upto (suc k) (cond b (Fault 13 at) (Sizes c (n * size) next))
+          → Upto (suc k) (cond b (Fault 13 at) (Sizes c (n * size) next))
       fits size next e in-range true t = tt
       fits size next e in-range false t =
           let here = there s at 5 size next e in
@@ -54,18 +54,23 @@ module _ (s : List ℕ) (count : ℕ) (begun : 3 ≤ 8 * length s) where
           let range = neither (ltb size 2) (ltb 16 size) in-range in
           let least : 2 ≤ size = ltb-false size 2 (range .0) in
           let most : size ≤ 16 = ltb-false 16 size (range .1) in
-          let read : size ≡ bitsAt s (3 + 5 * k) 5 = here .value ∙ ap (λ i. bitsAt s i 5) (old .starts) in
-          (u .0, record {
-            starts = omega arith;
-            inside = omega arith;
-            total = ap₂ _*_ (old .total) read ∙ sym (product-snoc (sizesOf s k) (bitsAt s (3 + 5 * k) 5));
-            more = omega (arith, mul-le-mul-left n least);
-            most = ltb-false 64 (n * size) t;
-            each = λ v h. below-cases (λ i. (2 ≤ bitsAt s (3 + 5 * i) 5) × (bitsAt s (3 + 5 * i) 5 ≤ 16)) k v h (omega arith) (old .each v) })
+          let read : size ≡ bitsAt s (3 + 5 * k) 5 = here .value ∙ ap (λ i. bitsAt s i 5) (old .starts) in (
+            u .0,
+            record {
+              starts = omega arith;
+              inside = omega arith;
+              total = ap₂ _*_ (old .total) read ∙ sym (product-snoc (sizesOf s k) (bitsAt s (3 + 5 * k) 5));
+              more = omega (arith, mul-le-mul-left n least);
+              most = ltb-false 64 (n * size) t;
+              each = λ v h. below-cases (λ i. (2 ≤ bitsAt s (3 + 5 * i) 5) × (bitsAt s (3 + 5 * i) 5 ≤ 16)) k v h (omega arith) (old .each v);
+            },
+          )
+
       tests : (size next : ℕ) → fieldAt s at 5 ≡ Value size next → (b : Bool) → (ltb size 2 || ltb 16 size) ≡ b
-        → Upto (suc k) (cond b (Fault 12 at) (cond (ltb 64 (n * size)) (Fault 13 at) (Sizes c (n * size) next)))
+          → Upto (suc k) (cond b (Fault 12 at) (cond (ltb 64 (n * size)) (Fault 13 at) (Sizes c (n * size) next)))
       tests size next e true t = tt
       tests size next e false t = fits size next e t (ltb 64 (n * size)) refl
+
       by : (f : Field) → fieldAt s at 5 ≡ f → Upto (suc k) (sizeRead s c n at f)
       by Missing e = tt
       by (Value size next) e = tests size next e _ refl
@@ -86,13 +91,14 @@ unfolding headerAt countRead
 head-read s count n at = by (fieldAt s 0 3) refl
   where
     tests : (c next : ℕ) → fieldAt s 0 3 ≡ Value c next → (b : Bool) → (leb 1 c && leb c 4) ≡ b
-      → cond b (sizesRead s c c) (Fault 11 0) ≡ Sizes count n at → HeadRead s count n at
+        → cond b (sizesRead s c c) (Fault 11 0) ≡ Sizes count n at → HeadRead s count n at
     tests c next e true t h =
         let range = and-eq-true-iff (leb 1 c) (leb c 4) .0 t in
         let known = rw h at (upto s c (omega (arith, there s 0 3 c next e)) c) in
         let same = known .0 in
         record { least = omega (arith, leb-true 1 c (range .0)); few = omega (arith, leb-true c 4 (range .1)); sized = rw same (known .1) }
     tests c next e false t h = absurd (let z : _≡_ {A = ℕ} 0 1 = cc in omega arith)
+
     by : (f : Field) → fieldAt s 0 3 ≡ f → countRead s f ≡ Sizes count n at → HeadRead s count n at
     by Missing e h = absurd (let z : _≡_ {A = ℕ} 0 1 = cc in omega arith)
     by (Value c next) e h = tests c next e _ refl h

@@ -11,3 +11,4 @@ pub mod Sizes
 pub mod Integers
 pub mod Worths
 pub mod ValueLaws
+pub mod ValueCases

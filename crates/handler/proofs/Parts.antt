@@ -21,7 +21,7 @@ use Rattle.handler.proofs.StmtFolds.{Marked, marked, whole-ends, stmt-r
 
 -- Where there is room, a head does not depend on how much.
 same-head : (bytes : List ℕ) (count below before below′ before′ at : ℕ) (head : StmtHead) → 0 < below → before < 63 → 0 < below′ → before′ < 63
-  → stmtHead bytes count below before at ≡ head → stmtHead bytes count below′ before′ at ≡ head
+    → stmtHead bytes count below before at ≡ head → stmtHead bytes count below′ before′ at ≡ head
 unfolding stmtHead
 same-head bytes count below before below′ before′ at head deep room deep′ room′ e =
     roomy below′ before′ deep′ room′ ∙ sym (roomy below before deep room) ∙ e
@@ -36,7 +36,7 @@ Fresh d (fault k place) y = Unit {0}
 
 module _ (bytes : List ℕ) (count d : ℕ) where
   fresh : (levels levels′ : ℕ) → levels ≤ levels′ → (b before at : ℕ) → b ≡ before + d
-    → Fresh d (stmtAt levels bytes count b at) (stmtAt levels′ bytes count before at)
+      → Fresh d (stmtAt levels bytes count b at) (stmtAt levels′ bytes count before at)
   unfolding stmtAt Marked
   fresh zero levels′ less b before at e = tt
   fresh (suc levels) zero less b before at e = absurd (omega arith)
@@ -46,27 +46,33 @@ module _ (bytes : List ℕ) (count d : ℕ) where
       right : (code : ℕ) (l : Stmt) (x y : StmtRead) → Fresh d x y → Fresh d (onRight code l x) (onRight code l y)
       right code l (fault k place) y f = tt
       right code l (whole r n i) y f = (f .0, rw (f .1), f .2)
+
       left : (code : ℕ) (x y : StmtRead) → Fresh d x y → ((n m i : ℕ) → n ≡ m + d → Fresh d (stmtAt levels bytes count n i) (stmtAt levels′ bytes count m i))
-        → Fresh d (onLeft code x (stmtAt levels bytes count)) (onLeft code y (stmtAt levels′ bytes count))
+          → Fresh d (onLeft code x (stmtAt levels bytes count)) (onLeft code y (stmtAt levels′ bytes count))
       left code (fault k place) y f later = tt
       left code (whole l n i) y f later =
           rw (f .1) (right code l (stmtAt levels bytes count n i) (stmtAt levels′ bytes count (f .0) i) (later n (f .0) i (sym (f .2))))
+
       body : (code : ℕ) (e : Expr) (x y : StmtRead) → Fresh d x y → Fresh d (onBody code e x) (onBody code e y)
       body code e (fault k place) y f = tt
       body code e (whole s n i) y f = (f .0, rw (f .1), f .2)
+
       test : (code : ℕ) (x : ExprRead) → ((n m i : ℕ) → n ≡ m + d → Fresh d (stmtAt levels bytes count n i) (stmtAt levels′ bytes count m i))
-        → Fresh d (onTest code (suc b) x (stmtAt levels bytes count)) (onTest code (suc before) x (stmtAt levels′ bytes count))
+          → Fresh d (onTest code (suc b) x (stmtAt levels bytes count)) (onTest code (suc before) x (stmtAt levels′ bytes count))
       test code (bad k place) later = tt
       test code (good g nodes i) later =
           body code g (stmtAt levels bytes count (suc b) i) (stmtAt levels′ bytes count (suc before) i) (later (suc b) (suc before) i (omega arith))
+
       assigned : (v : ℕ) (x : ExprRead) → Fresh d (onAssigned v (suc b) x) (onAssigned v (suc before) x)
       assigned v (bad k place) = tt
       assigned v (good g nodes i) = (suc before, refl, omega arith)
+
       same : (h : StmtHead) → stmtHead bytes count levels b at ≡ h → 0 < levels → b < 63 → stmtHead bytes count levels′ before at ≡ h
       same h p deep room = same-head bytes count levels b levels′ before at h deep room (omega arith) (omega arith) p
+
       by : (h : StmtHead) → stmtHead bytes count levels b at ≡ h → Marked levels b at h
-        → ((n m i : ℕ) → n ≡ m + d → Fresh d (stmtAt levels bytes count n i) (stmtAt levels′ bytes count m i))
-        → Fresh d (onStmtHead h (wholeExpr bytes count) b (stmtAt levels bytes count))
+          → ((n m i : ℕ) → n ≡ m + d → Fresh d (stmtAt levels bytes count n i) (stmtAt levels′ bytes count m i))
+          → Fresh d (onStmtHead h (wholeExpr bytes count) b (stmtAt levels bytes count))
           (onStmtHead (stmtHead bytes count levels′ before at) (wholeExpr bytes count) before (stmtAt levels′ bytes count))
       by (Nil next) p m later = rw (same (Nil next) p (m .0) (m .1)) (suc before, refl, omega arith)
       by (Assign v next) p m later = rw (same (Assign v next) p (m .0) (m .1)) (assigned v (wholeExpr bytes count next))
@@ -78,7 +84,7 @@ module _ (bytes : List ℕ) (count d : ℕ) where
 
 -- A statement read anywhere is read the same from a fresh start.
 pub from-start : (levels : ℕ) (bytes : List ℕ) (count before at : ℕ) (S : Stmt) (after next : ℕ) → levels ≤ 17
-  → stmtAt levels bytes count before at ≡ whole S after next → wholeStmt bytes count at ≡ whole S (after - before) next
+    → stmtAt levels bytes count before at ≡ whole S after next → wholeStmt bytes count at ≡ whole S (after - before) next
 unfolding wholeStmt
 from-start levels bytes count before at S after next most p =
     let f = rw p at (fresh bytes count before levels 17 most before 0 at (omega arith)) in
@@ -132,11 +138,13 @@ module _ (bytes : List ℕ) (count at : ℕ) where
     where
       below : ℕ → ℕ → StmtRead
       below = stmtAt 16 bytes count
+
       standing : (before i : ℕ) (S : Stmt) (n j : ℕ) → below before i ≡ whole S n j → Stands bytes count i S
       standing before i S n j e = record { after = n - before; next = j; read = from-start 16 bytes count before i S n j (omega arith) e }
+
       pair : (code next : ℕ) → next ≡ at + 3 → 2 ≤ code → code < 4 → (l : Stmt) (behind : ℕ) → behind ≡ next + stmtWidth l → Stands bytes count next l
-        → (r : Stmt) (n j : ℕ) → Stands bytes count behind r → (b : Bool) → eqb code 2 ≡ b
-        → Apart (part.Pair code next behind) (whole (cond b (seq l r) (par l r)) n j)
+          → (r : Stmt) (n j : ℕ) → Stands bytes count behind r → (b : Bool) → eqb code 2 ≡ b
+          → Apart (part.Pair code next behind) (whole (cond b (seq l r) (par l r)) n j)
       pair code next placed least most l behind ends first r n j second true t =
           let two = eqb-true code 2 t in
           (rw (two, ends, placed), rw (← placed, ← ends) (first, second))
@@ -144,9 +152,10 @@ module _ (bytes : List ℕ) (count at : ℕ) where
           let other = eqb-false code 2 t in
           let three : code ≡ 3 = omega arith in
           (rw (three, ends, placed), rw (← placed, ← ends) (first, second))
+
       tests : (code next : ℕ) → next ≡ at + 3 → 4 ≤ code → code < 6 → (e : Expr) (behind : ℕ) → behind ≡ next + width e → StandsExpr bytes count next e
-        → (s : Stmt) (n j : ℕ) → Stands bytes count behind s → (b : Bool) → eqb code 4 ≡ b
-        → Apart (part.Test code next behind) (whole (cond b (if e s) (while e s)) n j)
+          → (s : Stmt) (n j : ℕ) → Stands bytes count behind s → (b : Bool) → eqb code 4 ≡ b
+          → Apart (part.Test code next behind) (whole (cond b (if e s) (while e s)) n j)
       tests code next placed least most e behind ends first s n j second true t =
           let four = eqb-true code 4 t in
           (rw (four, ends, placed), rw (← placed, ← ends) (first, second))
@@ -154,33 +163,39 @@ module _ (bytes : List ℕ) (count at : ℕ) where
           let other = eqb-false code 4 t in
           let five : code ≡ 5 = omega arith in
           (rw (five, ends, placed), rw (← placed, ← ends) (first, second))
+
       right : (code next : ℕ) → next ≡ at + 3 → 2 ≤ code → code < 4 → (l : Stmt) (behind : ℕ) → behind ≡ next + stmtWidth l → Stands bytes count next l
-        → (so-far : ℕ) (y : StmtRead) → below so-far behind ≡ y → Apart (part.Pair code next behind) (onRight code l y)
+          → (so-far : ℕ) (y : StmtRead) → below so-far behind ≡ y → Apart (part.Pair code next behind) (onRight code l y)
       right code next placed least most l behind ends first so-far (fault k place) e = tt
       right code next placed least most l behind ends first so-far (whole r n j) e =
           pair code next placed least most l behind ends first r n j (standing so-far behind r n j e) (eqb code 2) refl
+
       left : (code next : ℕ) → next ≡ at + 3 → 2 ≤ code → code < 4 → (x : StmtRead) → below 1 next ≡ x
-        → Apart (pairPart code next (wholeStmt bytes count next)) (onLeft code x below)
+          → Apart (pairPart code next (wholeStmt bytes count next)) (onLeft code x below)
       left code next placed least most (fault k place) e = tt
       left code next placed least most (whole l n behind) e =
           let first = standing 1 next l n behind e in
           rw (first .read)
           (right code next placed least most l behind (stmt-read 16 bytes count 1 next l n behind e .ends) first n (below n behind) refl)
+
       body : (code next : ℕ) → next ≡ at + 3 → 4 ≤ code → code < 6 → (e : Expr) (behind : ℕ) → behind ≡ next + width e → StandsExpr bytes count next e
-        → (y : StmtRead) → below 1 behind ≡ y → Apart (part.Test code next behind) (onBody code e y)
+          → (y : StmtRead) → below 1 behind ≡ y → Apart (part.Test code next behind) (onBody code e y)
       body code next placed least most e behind ends first (fault k place) p = tt
       body code next placed least most e behind ends first (whole s n j) p =
           tests code next placed least most e behind ends first s n j (standing 1 behind s n j p) (eqb code 4) refl
+
       test : (code next : ℕ) → next ≡ at + 3 → 4 ≤ code → code < 6 → (x : ExprRead) → wholeExpr bytes count next ≡ x
-        → Apart (testPart code next x) (onTest code 1 x below)
+          → Apart (testPart code next x) (onTest code 1 x below)
       test code next placed least most (bad k place) p = tt
       test code next placed least most (good e nodes behind) p =
           body code next placed least most e behind (whole-ends bytes count next e nodes behind p)
           (record { nodes = nodes; next = behind; read = p }) (below 1 behind) refl
+
       assigned : (v next : ℕ) → next ≡ at + 5 → (x : ExprRead) → wholeExpr bytes count next ≡ x → Apart (part.Assign v next) (onAssigned v 1 x)
       assigned v next placed (bad k place) p = tt
       assigned v next placed (good e nodes behind) p =
           (rw placed, rw (← placed) (record { nodes = nodes; next = behind; read = p }))
+
       by : (h : StmtHead) → Marked 16 0 at h → Apart (headPart bytes count h) (onStmtHead h (wholeExpr bytes count) 0 below)
       by (Nil next) m = (refl, tt)
       by (Assign v next) m = assigned v next (m .2) (wholeExpr bytes count next) refl
@@ -195,7 +210,7 @@ module _ (bytes : List ℕ) (count at : ℕ) where
 
   -- What stands at a whole statement is what its head says.
   pub head-part : (S : Stmt) (after next : ℕ) (h : StmtHead) → wholeStmt bytes count at ≡ whole S after next → stmtHead bytes count 16 0 at ≡ h
-    → headPart bytes count h ≡ partAt bytes count at
+      → headPart bytes count h ≡ partAt bytes count at
   unfolding wholeStmt partAt
   head-part S after next h p e = rw (p, ← e) ((rw p at apart) .0)
 

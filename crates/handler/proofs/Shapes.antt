@@ -42,7 +42,7 @@ pub record Shaped (wanted : Kind) (moved at : ℕ) (x : ExprRead) (m : Misfit) (
   pub occurrings : occurs ≡ occurrences (inMask moved) tree
 
 pub shaped : (wanted : Kind) (moved at : ℕ) (x : ExprRead) (m : Misfit) (e occurs nodes next : ℕ)
-  → exprShape wanted moved at x ≡ expr.Whole m e occurs nodes next → Shaped wanted moved at x m e occurs nodes next
+    → exprShape wanted moved at x ≡ expr.Whole m e occurs nodes next → Shaped wanted moved at x m e occurs nodes next
 unfolding exprShape
 shaped wanted moved at (good t n i) m e occurs nodes next p =
     record { tree = t; was = cc; misfits = cc; counts = cc; occurrings = cc }
@@ -55,7 +55,7 @@ faulted wanted moved at (bad j i) k place p = cc
 
 -- Its numbers are those of at most 31 nodes.
 pub shape-small : (levels : ℕ) (bytes : List ℕ) (count nodes at : ℕ) (wanted : Kind) (moved : ℕ) (m : Misfit) (e occurs after next : ℕ)
-  → exprShape wanted moved at (exprAt levels bytes count nodes at) ≡ expr.Whole m e occurs after next → (e ≤ 31) × (occurs ≤ 31) × (after ≤ 31)
+    → exprShape wanted moved at (exprAt levels bytes count nodes at) ≡ expr.Whole m e occurs after next → (e ≤ 31) × (occurs ≤ 31) × (after ≤ 31)
 shape-small levels bytes count nodes at wanted moved m e occurs after next p =
     let s = shaped wanted moved at _ m e occurs after next p in
     let read = expr-read levels bytes count nodes at (s .tree) after next (s .was) in
@@ -63,10 +63,10 @@ shape-small levels bytes count nodes at wanted moved m e occurs after next p =
 
 -- The numbers of an operation, from its operands' trees.
 op-made : (wanted a b result : Kind) (moved at o next behind : ℕ) (l r : Expr) (m m′ : Misfit) (e f these those last end : ℕ)
-  → rowOf o ≡ Kinds a b result → next ≡ at + 5 → behind ≡ next + width l
-  → m ≡ asMisfit (misfit a next l) → m′ ≡ asMisfit (misfit b behind r) → e ≡ E l → f ≡ E r
-  → these ≡ occurrences (inMask moved) l → those ≡ occurrences (inMask moved) r
-  → expr.Whole (cond (sameKind result wanted) (earlierOf m m′) (At at)) (e + f + 1) (these + those) last end
+    → rowOf o ≡ Kinds a b result → next ≡ at + 5 → behind ≡ next + width l
+    → m ≡ asMisfit (misfit a next l) → m′ ≡ asMisfit (misfit b behind r) → e ≡ E l → f ≡ E r
+    → these ≡ occurrences (inMask moved) l → those ≡ occurrences (inMask moved) r
+    → expr.Whole (cond (sameKind result wanted) (earlierOf m m′) (At at)) (e + f + 1) (these + those) last end
     ≡ exprShape wanted moved at (good (op o l r) last end)
 unfolding exprShape
 op-made wanted a b result moved at o next behind l r m m′ e f these those last end row i j p q u v y z =
@@ -92,13 +92,14 @@ module _ (bytes : List ℕ) (count levels nodes at o next : ℕ) (more : 0 < lev
       pub right-fault : (k place : ℕ) → exprShape b moved behind (second so-far behind) ≡ expr.Fault k place → expr.Fault k place ≡ both
       unfolding exprShape
       right-fault k place q =
-          rw
-          (inner-step bytes count levels nodes at o next more head,
-          shaped a moved next first m e these so-far behind p .was,
-          faulted b moved behind (second so-far behind) k place q)
+          rw (
+            inner-step bytes count levels nodes at o next more head,
+            shaped a moved next first m e these so-far behind p .was,
+            faulted b moved behind (second so-far behind) k place q,
+          )
 
       pub op-shape : (m′ : Misfit) (f those last end : ℕ) → exprShape b moved behind (second so-far behind) ≡ expr.Whole m′ f those last end
-        → expr.Whole (cond (sameKind result wanted) (earlierOf m m′) (At at)) (e + f + 1) (these + those) last end ≡ both
+          → expr.Whole (cond (sameKind result wanted) (earlierOf m m′) (At at)) (e + f + 1) (these + those) last end ≡ both
       unfolding exprShape Headed
       op-shape m′ f those last end q =
           let l = shaped a moved next first m e these so-far behind p in

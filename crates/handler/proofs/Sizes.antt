@@ -3,7 +3,7 @@
 use Prim.Native.Nat.{ℕ, zero, suc, _+_, _-_, _*_, _≤_, _<_}
 use native.Mathlib.Nat.{mul-comm, le-mul-of-pos-right, zero-mul, mul-zero}
 use native.Mathlib.Omega.{arith}
-use mathlib.Core.List.{List, [], _∷_, _++_}
+use mathlib.Core.List.{List, [], _∷_}
 use mathlib.Core.Path.{_≡_, refl, _∙_}
 use lib.ListN.{length, getD, drop, length-append, List·getD-append, List·getD-eq-default, drop-of-length-le}
 use lib.Seq.{drop-cons, getD-at}
@@ -84,9 +84,11 @@ sound s count = by (headerAt s) refl
         rw same (record {
           placed = λ v h e. let f = found s (3 + 5 * v) 5 (omega arith) (omega arith) (omega arith) (omega arith) in let z : _≡_ {A = ℕ} 0 1 = cc in omega arith;
           later = λ k. omega (arith, later-sizes (sizesOf s c) k (omega arith));
-          size = λ v. omega (arith, one-size (sizesOf s c) v (omega arith)) })
+          size = λ v. omega (arith, one-size (sizesOf s c) v (omega arith));
+        })
     by (Fault k place) e same =
         rw same (record {
           placed = λ v h e. absurd (omega arith);
           later = λ k. omega (arith, later-sizes [] k (omega arith));
-          size = λ v. omega arith })
+          size = λ v. omega arith;
+        })

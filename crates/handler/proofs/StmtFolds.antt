@@ -20,8 +20,8 @@ use Rattle.handler.proofs.Folds.{expr-read}
 
 -- One level of reading, in the code's numbers.
 pub stmt-step : (bytes : List ℕ) (count levels before at : ℕ) (head : StmtHead) → 0 < levels
-  → stmtHead bytes count (levels - 1) before at ≡ head
-  → stmtAt levels bytes count before at ≡ onStmtHead head (wholeExpr bytes count) before (stmtAt (levels - 1) bytes count)
+    → stmtHead bytes count (levels - 1) before at ≡ head
+    → stmtAt levels bytes count before at ≡ onStmtHead head (wholeExpr bytes count) before (stmtAt (levels - 1) bytes count)
 unfolding stmtAt
 stmt-step bytes count zero before at head more e = absurd (omega arith)
 stmt-step bytes count (suc levels) before at head more e =
@@ -53,7 +53,7 @@ module _ (bytes : List ℕ) (count below before : ℕ) where
     on-code code = by (eqb code 0) (eqb code 1) (ltb code 4) (ltb code 6) refl refl refl refl
       where
         by : (a b c d : Bool) → eqb code 0 ≡ a → eqb code 1 ≡ b → ltb code 4 ≡ c → ltb code 6 ≡ d
-          → Marked below before at (cond a (Nil next) (cond b (targetHead bytes count next (fieldAt bytes next 2)) (cond c (Pair code next) (cond d (Test code next) (Fault 14 at)))))
+            → Marked below before at (cond a (Nil next) (cond b (targetHead bytes count next (fieldAt bytes next 2)) (cond c (Pair code next) (cond d (Test code next) (Fault 14 at)))))
         by true b c d t u p q = omega arith
         by false true c d t u p q = on-target _ refl
         by false false true d t u p q =
@@ -68,10 +68,11 @@ module _ (bytes : List ℕ) (count below before : ℕ) where
   marked at head e = rw e at (by (fieldAt bytes at 3) refl)
     where
       full : (a b : Bool) → eqb below 0 ≡ a → leb 63 before ≡ b → (code next : ℕ) → next ≡ at + 3
-        → Marked below before at (cond (a || b) (Fault 17 at) (codeHead bytes count at code next))
+          → Marked below before at (cond (a || b) (Fault 17 at) (codeHead bytes count at code next))
       full true b p q code next moved = tt
       full false true p q code next moved = tt
       full false false p q code next moved = let some = eqb-false below 0 p in on-code (omega arith) (leb-false 63 before q) at next moved code
+
       by : (f : Field) → fieldAt bytes at 3 ≡ f → Marked below before at (markHead bytes count (eqb below 0 || leb 63 before) at f)
       by Missing e = tt
       by (Value code next) e = full (eqb below 0) (leb 63 before) refl refl code next (there bytes at 3 code next e .moved)
@@ -106,30 +107,35 @@ all-read (suc levels) bytes count before at =
     by (stmtHead bytes count levels before at) (marked bytes count levels before at _ refl) (all-read levels bytes count)
   where
     right : (code next : ℕ) → next ≡ at + 3 → (l : Stmt) (so-far behind : ℕ) → ReadStmt (suc before) next l so-far behind → (x : StmtRead)
-      → AllRead so-far behind x → AllRead before at (onRight code l x)
+        → AllRead so-far behind x → AllRead before at (onRight code l x)
     right code next placed l so-far behind first (fault k place) known = tt
     right code next placed l so-far behind first (whole r after end) known =
         omega (arith, first, known, paired-width (eqb code 2) l r)
+
     left : (code next : ℕ) → next ≡ at + 3 → (x : StmtRead) → AllRead (suc before) next x → (stmt : ℕ → ℕ → StmtRead)
-      → ((n i : ℕ) → AllRead n i (stmt n i)) → AllRead before at (onLeft code x stmt)
+        → ((n i : ℕ) → AllRead n i (stmt n i)) → AllRead before at (onLeft code x stmt)
     left code next placed (fault k place) known stmt later = tt
     left code next placed (whole l so-far behind) known stmt later =
         right code next placed l so-far behind known (stmt so-far behind) (later so-far behind)
+
     body : (code next behind : ℕ) → next ≡ at + 3 → (e : Expr) → behind ≡ next + width e → (x : StmtRead) → AllRead (suc before) behind x
-      → AllRead before at (onBody code e x)
+        → AllRead before at (onBody code e x)
     body code next behind placed e ends (fault k place) known = tt
     body code next behind placed e ends (whole b after end) known = omega (arith, known, tested-width (eqb code 4) e b)
+
     test : (code next : ℕ) → next ≡ at + 3 → (x : ExprRead) → wholeExpr bytes count next ≡ x → (stmt : ℕ → ℕ → StmtRead)
-      → ((n i : ℕ) → AllRead n i (stmt n i)) → AllRead before at (onTest code (suc before) x stmt)
+        → ((n i : ℕ) → AllRead n i (stmt n i)) → AllRead before at (onTest code (suc before) x stmt)
     test code next placed (bad k place) read stmt later = tt
     test code next placed (good e nodes behind) read stmt later =
         body code next behind placed e (whole-ends bytes count next e nodes behind read) (stmt (suc before) behind) (later (suc before) behind)
+
     assigned : (v next : ℕ) → before < 63 → next ≡ at + 5 → (x : ExprRead) → wholeExpr bytes count next ≡ x
-      → AllRead before at (onAssigned v (suc before) x)
+        → AllRead before at (onAssigned v (suc before) x)
     assigned v next room placed (bad k place) read = tt
     assigned v next room placed (good e nodes behind) read = omega (arith, whole-ends bytes count next e nodes behind read)
+
     by : (h : StmtHead) → Marked levels before at h → ((n i : ℕ) → AllRead n i (stmtAt levels bytes count n i))
-      → AllRead before at (onStmtHead h (wholeExpr bytes count) before (stmtAt levels bytes count))
+        → AllRead before at (onStmtHead h (wholeExpr bytes count) before (stmtAt levels bytes count))
     by (Nil next) p later = omega (arith, p)
     by (Assign v next) p later = assigned v next (p .1) (p .2) (wholeExpr bytes count next) refl
     by (Pair code next) p later = left code next (p .2) (stmtAt levels bytes count (suc before) next) (later (suc before) next) (stmtAt levels bytes count) later
@@ -137,5 +143,5 @@ all-read (suc levels) bytes count before at =
     by (Fault k place) p later = tt
 
 pub stmt-read : (levels : ℕ) (bytes : List ℕ) (count before at : ℕ) (S : Stmt) (after next : ℕ)
-  → stmtAt levels bytes count before at ≡ whole S after next → ReadStmt before at S after next
+    → stmtAt levels bytes count before at ≡ whole S after next → ReadStmt before at S after next
 stmt-read levels bytes count before at S after next p = rw p at (all-read levels bytes count before at)

@@ -49,7 +49,7 @@ pub record StmtShaped (N at : ℕ) (x : StmtRead) (s : ℕ) (m : Misfit) (after 
   pub misfits : m ≡ asMisfit (stmtMisfit at tree)
 
 pub stmt-shaped : (N at : ℕ) (x : StmtRead) (s : ℕ) (m : Misfit) (after next : ℕ) → stmtShape N at x ≡ stmt.Whole s m after next
-  → StmtShaped N at x s m after next
+    → StmtShaped N at x s m after next
 unfolding stmtShape
 stmt-shaped N at (whole S a i) s m after next p = record { tree = S; was = cc; counts = cc; misfits = cc }
 stmt-shaped N at (fault k place) s m after next p = absurd (let z : _≡_ {A = ℕ} 0 1 = cc in omega arith)
@@ -61,14 +61,14 @@ stmt-faulted N at (fault j i) k place p = cc
 
 -- An assignment.
 assigned-made : (N at v next before : ℕ) (x : ExprRead) → next ≡ at + 5
-  → assignedOf before (exprShape Integer 0 next x) ≡ stmtShape N at (onAssigned v before x)
+    → assignedOf before (exprShape Integer 0 next x) ≡ stmtShape N at (onAssigned v before x)
 unfolding exprShape stmtShape
 assigned-made N at v next before (good e nodes behind) placed = rw placed
 assigned-made N at v next before (bad k place) placed = refl
 
 -- A sequence or parallel whose left side was read.
 pair-made : (N at code next before behind : ℕ) (l : Stmt) (x : StmtRead) → next ≡ at + 3 → behind ≡ next + stmtWidth l
-  → pairOf (stmtShape N next (whole l before behind)) (stmtShape N behind x) ≡ stmtShape N at (onRight code l x)
+    → pairOf (stmtShape N next (whole l before behind)) (stmtShape N behind x) ≡ stmtShape N at (onRight code l x)
 unfolding stmtShape
 pair-made N at code next before behind l (fault k place) placed ends = refl
 pair-made N at code next before behind l (whole r after end) placed ends =
@@ -76,16 +76,18 @@ pair-made N at code next before behind l (whole r after end) placed ends =
   where
     both : Misfit
     both = asMisfit (orPlace (stmtMisfit (at + 3) l) (stmtMisfit (at + 3 + stmtWidth l) r))
+
     capped : min (min (steps N l) (2 ^ 32) + min (steps N r) (2 ^ 32) + 1) (2 ^ 32) ≡ min (steps N l + steps N r + 1) (2 ^ 32)
     capped = omega arith
+
     by : (b : Bool) → stmt.Whole (min (min (steps N l) (2 ^ 32) + min (steps N r) (2 ^ 32) + 1) (2 ^ 32)) both after end
-      ≡ stmtShape N at (whole (cond b (seq l r) (par l r)) after end)
+        ≡ stmtShape N at (whole (cond b (seq l r) (par l r)) after end)
     by true = rw capped
     by false = rw capped
 
 -- An if or while whose test was read.
 tested-made : (N at code next nodes behind : ℕ) (e : Expr) (x : StmtRead) → next ≡ at + 3 → behind ≡ next + width e
-  → testedOf N code (exprShape Truth 0 next (good e nodes behind)) (stmtShape N behind x) ≡ stmtShape N at (onBody code e x)
+    → testedOf N code (exprShape Truth 0 next (good e nodes behind)) (stmtShape N behind x) ≡ stmtShape N at (onBody code e x)
 unfolding exprShape stmtShape
 tested-made N at code next nodes behind e (fault k place) placed ends = refl
 tested-made N at code next nodes behind e (whole b after end) placed ends =
@@ -93,10 +95,12 @@ tested-made N at code next nodes behind e (whole b after end) placed ends =
   where
     both : Misfit
     both = asMisfit (orPlace (misfit Truth (at + 3) e) (stmtMisfit (at + 3 + width e) b))
+
     body : ℕ
     body = min (steps N b) (2 ^ 32)
+
     by : (t : Bool) → stmt.Whole (min (cond t (E e + 1 + body) (N * (E e + 2) + (N - 1) * (body + 1))) (2 ^ 32)) both after end
-      ≡ stmtShape N at (whole (cond t (if e b) (while e b)) after end)
+        ≡ stmtShape N at (whole (cond t (if e b) (while e b)) after end)
     by true = ap (λ (s : ℕ). stmt.Whole s both after end) (omega arith)
     by false = ap (λ (s : ℕ). stmt.Whole s both after end) (cap-part (N * (E e + 2)) (N - 1) (steps N b))
 
@@ -109,7 +113,7 @@ module _ (bytes : List ℕ) (count levels before at N : ℕ) (more : 0 < levels)
   below = stmtAt (levels - 1) bytes count
 
   pub assign-shape : (v next : ℕ) → stmtHead bytes count (levels - 1) before at ≡ Assign v next
-    → assignedOf (before + 1) (exprShape Integer 0 next (wholeExpr bytes count next)) ≡ here
+      → assignedOf (before + 1) (exprShape Integer 0 next (wholeExpr bytes count next)) ≡ here
   unfolding Marked
   assign-shape v next head =
       rw
@@ -121,13 +125,14 @@ module _ (bytes : List ℕ) (count levels before at N : ℕ) (more : 0 < levels)
       pub left-fault : (k place : ℕ) → stmtShape N next (below (before + 1) next) ≡ stmt.Fault k place → stmt.Fault k place ≡ here
       unfolding stmtShape
       left-fault k place p =
-          rw
-          (stmt-step bytes count levels before at _ more head,
-          ← add-one before,
-          stmt-faulted N next (below (before + 1) next) k place p)
+          rw (
+            stmt-step bytes count levels before at _ more head,
+            ← add-one before,
+            stmt-faulted N next (below (before + 1) next) k place p,
+          )
 
       pub pair-shape : (s : ℕ) (m : Misfit) (so-far behind : ℕ) → stmtShape N next (below (before + 1) next) ≡ stmt.Whole s m so-far behind
-        → pairOf (stmt.Whole s m so-far behind) (stmtShape N behind (below so-far behind)) ≡ here
+          → pairOf (stmt.Whole s m so-far behind) (stmtShape N behind (below so-far behind)) ≡ here
       unfolding Marked
       pair-shape s m so-far behind p =
           let l = stmt-shaped N next (below (before + 1) next) s m so-far behind p in
@@ -143,8 +148,8 @@ module _ (bytes : List ℕ) (count levels before at N : ℕ) (more : 0 < levels)
           rw (stmt-step bytes count levels before at _ more head, faulted Truth 0 next (wholeExpr bytes count next) k place p)
 
       pub test-shape : (m : Misfit) (e occurs nodes behind : ℕ)
-        → exprShape Truth 0 next (wholeExpr bytes count next) ≡ expr.Whole m e occurs nodes behind
-        → testedOf N code (expr.Whole m e occurs nodes behind) (stmtShape N behind (below (before + 1) behind)) ≡ here
+          → exprShape Truth 0 next (wholeExpr bytes count next) ≡ expr.Whole m e occurs nodes behind
+          → testedOf N code (expr.Whole m e occurs nodes behind) (stmtShape N behind (below (before + 1) behind)) ≡ here
       unfolding Marked
       test-shape m e occurs nodes behind p =
           let t = shaped Truth 0 next (wholeExpr bytes count next) m e occurs nodes behind p in
@@ -162,6 +167,7 @@ judged-made bytes count n at (whole S before next) = by (fillAt bytes next)
     kinds : (o : Option ℕ) → filledOf count n at (min (steps n S) (2 ^ 32)) (asMisfit o) Ends ≡ fileOf (onKinds count n at S o)
     kinds none = refl
     kinds (some place) = refl
+
     by : (f : Fill) → filledOf count n at (min (steps n S) (2 ^ 32)) (asMisfit (stmtMisfit at S)) f ≡ fileOf (onFill count n at S f)
     by Ends = kinds (stmtMisfit at S)
     by (Wrong place) = refl

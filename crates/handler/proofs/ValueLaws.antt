@@ -1,19 +1,19 @@
 -- What the values of a file are where its head was read and an expression stands at the cursor: laws for callers.
-use Prim.Native.Nat.{ℕ, zero, suc, _+_, _≤_, _<_}
+use Prim.Native.Nat.{ℕ, _+_, _≤_, _<_}
 use native.Mathlib.Numerals.{add-one}
 use native.Mathlib.Omega.{arith}
 use borrow.Author.Tests.{ltb-true, lt-ltb, le-ltb, eqb-true, eq-eqb}
-use mathlib.Core.Bool.{Bool, true, false, cond, _&&_, _||_}
+use mathlib.Core.Bool.{Bool, true, false, _&&_, _||_}
 use mathlib.Core.List.{List}
 use mathlib.Core.Logic.{⊎-elim}
-use mathlib.Core.Option.{Option, none, some}
-use mathlib.Core.Path.{_≡_, refl, sym, ap, _∙_}
+use mathlib.Core.Option.{Option}
+use mathlib.Core.Path.{_≡_, refl, sym, _∙_}
 use lib.Dec.{ltb, eqb}
 use Rattle.states.specs.declared.StateSet.{StateSet}
 use Rattle.states.specs.Sets.{has}
 use Rattle.states.proofs.Search.{and-left, and-right, and-both, or-left, or-right, or-cases, bool-ext, below-cases}
 use Rattle.semantics.specs.Language.{Val, Expr, eqZ}
-use Rattle.semantics.specs.States.{Machine, machineOf, value, isTruth, storeOf}
+use Rattle.semantics.specs.States.{machineOf, value, isTruth, storeOf}
 use Rattle.handler.specs.declared.Header.the-variants.{Sizes, Fault}
 use Rattle.handler.specs.declared.After.the-variants.{OutOfRange}
 use Rattle.handler.specs.Header.{headerAt, sizesOf}
@@ -37,12 +37,12 @@ module _ (bytes : List ℕ) (count n first : ℕ) (head : headerAt bytes ≡ Siz
   where-here wanted at s = rw head
 
   pub after-here : (v at s : ℕ) → s < n → (o : Option Val) → o ≡ valueAt bytes at s
-    → afterAt bytes v at s ≡ afterOf (storeOf (machineOf (sizesOf bytes count)) s v o)
+      → afterAt bytes v at s ≡ afterOf (storeOf (machineOf (sizesOf bytes count)) s v o)
   unfolding afterAt machineAt
   after-here v at s below o e = rw (head, lt-ltb s n below, ← e)
 
   pub agree-here : (v s t : ℕ) → let m = machineOf (sizesOf bytes count) in
-    agreeAt bytes v s t ≡ (ltb s n && ltb t n && eqZ (m .get s v) (m .get t v))
+      agreeAt bytes v s t ≡ (ltb s n && ltb t n && eqZ (m .get s v) (m .get t v))
   unfolding agreeAt machineAt
   agree-here v s t = rw head
 
@@ -56,7 +56,7 @@ module _ (bytes : List ℕ) (count n first : ℕ) (head : headerAt bytes ≡ Siz
     where-read wanted s = where-here wanted at s ∙ rw (value-read s)
 
     pub after-read : (v s : ℕ) → s < n → let m = machineOf (sizesOf bytes count) in
-      afterAt bytes v at s ≡ afterOf (storeOf m s v (value m e s))
+        afterAt bytes v at s ≡ afterOf (storeOf m s v (value m e s))
     after-read v s below = after-here v at s below _ (sym (value-read s))
 
 -- Where s is no state, as with a faulty head.

@@ -1,23 +1,22 @@
 -- What a walk answers at each kind of head: the worth of what reading finds there, and a bound on it by the nodes read.
-use Prim.Native.Nat.{ℕ, zero, suc, _+_, _-_, _/_, _≤_, _<_}
+use Prim.Native.Nat.{ℕ, _+_, _-_, _/_, _≤_, _<_}
 use native.Mathlib.Nat.{mod-lt}
 use native.Mathlib.Numerals.{add-one}
 use native.Mathlib.Omega.{arith}
 use mathlib.Core.Option.{Option, none, some}
 use mathlib.Core.List.{List}
-use mathlib.Core.Path.{_≡_, refl, sym, ap, ap₂, _∙_}
+use mathlib.Core.Path.{_≡_, refl, sym, ap, _∙_}
 use lib.IntN.{ℤ, pos}
-use lib.Signed.{mag}
 use Rattle.semantics.specs.Language.{Val, int, truth, Expr, apply}
 use Rattle.semantics.specs.States.{Machine, machineOf, value, weight, valueOf, both}
 use Rattle.handler.specs.declared.ExprHead.{ExprHead}
 use Rattle.handler.specs.declared.ExprHead.the-variants as head
 use Rattle.handler.specs.declared.Worth.{Worth}
-use Rattle.handler.specs.declared.Worth.the-variants.{Integer, Truth, Nothing}
+use Rattle.handler.specs.declared.Worth.the-variants.{Integer, Truth}
 use Rattle.handler.specs.declared.WorthRead.{WorthRead}
 use Rattle.handler.specs.declared.WorthRead.the-variants.{Whole, Fault}
 use Rattle.handler.specs.Header.{headerAt, sizesOf}
-use Rattle.handler.specs.Expressions.{exprHead, ExprRead, good, bad, operands, joined, onExprHead, exprAt, wholeExpr}
+use Rattle.handler.specs.Expressions.{exprHead, ExprRead, good, bad, operands, onExprHead, exprAt, wholeExpr}
 use Rattle.handler.specs.Values.{countOf, valIn, worthOf, magnitude, worthRead, Small, machineAt, valueAt}
 use Rattle.handler.proofs.Folds.{Headed, headed-as, expr-step, inner-step}
 use Rattle.handler.proofs.Sizes.{sound}
@@ -54,34 +53,34 @@ walked-out bytes count s levels nodes at none-left = rw none-left (refl, tt)
 
 module _ (bytes : List ℕ) (count s levels nodes at : ℕ) (more : 0 < levels) where
   here : (h : ExprHead) → exprHead bytes count nodes at ≡ h
-    → worthRead (machineOf (sizesOf bytes count)) s (exprAt levels bytes count nodes at)
-    ≡ worthRead (machineOf (sizesOf bytes count)) s (onExprHead h nodes (exprAt (levels - 1) bytes count))
+      → worthRead (machineOf (sizesOf bytes count)) s (exprAt levels bytes count nodes at)
+      ≡ worthRead (machineOf (sizesOf bytes count)) s (onExprHead h nodes (exprAt (levels - 1) bytes count))
   here h e = ap (worthRead (machineOf (sizesOf bytes count)) s) (expr-step bytes count levels nodes at h more e)
 
   pub walked-integer : (z : ℤ) (next : ℕ) → exprHead bytes count nodes at ≡ head.Integer z next
-    → Walked bytes count s levels nodes at (Whole (Integer z) (nodes + 1) next)
+      → Walked bytes count s levels nodes at (Whole (Integer z) (nodes + 1) next)
   unfolding Headed
   walked-integer z next e = (rw add-one (sym (here _ e)), omega (arith, headed-as bytes count nodes at _ e))
 
   pub walked-truth : (b : _) (next : ℕ) → exprHead bytes count nodes at ≡ head.Truth b next
-    → Walked bytes count s levels nodes at (Whole (Truth b) (nodes + 1) next)
+      → Walked bytes count s levels nodes at (Whole (Truth b) (nodes + 1) next)
   unfolding Headed
   walked-truth b next e = (rw add-one (sym (here _ e)), omega (arith, headed-as bytes count nodes at _ e))
 
   pub walked-variable : (v next : ℕ) → exprHead bytes count nodes at ≡ head.Variable v next → count ≡ countOf (headerAt bytes)
-    → Walked bytes count s levels nodes at (Whole (Integer (pos (valueOf (sizesOf bytes count) s v))) (nodes + 1) next)
+      → Walked bytes count s levels nodes at (Whole (Integer (pos (valueOf (sizesOf bytes count) s v))) (nodes + 1) next)
   unfolding Headed
   walked-variable v next e same =
       let size = sound bytes count same .size v in
       (rw add-one (sym (here _ e)), omega (arith, headed-as bytes count nodes at _ e, mod-lt (s / weight (sizesOf bytes count) v) (size .0)))
 
   pub walked-fault : (k place : ℕ) → exprHead bytes count nodes at ≡ head.Fault k place
-    → Walked bytes count s levels nodes at (Fault k place)
+      → Walked bytes count s levels nodes at (Fault k place)
   walked-fault k place e = (sym (here _ e), tt)
 
   -- An operation, whose left operand stands at `next`.
   module _ (o next : ℕ) (e : exprHead bytes count nodes at ≡ head.Operation o next) (first : WorthRead)
-    (left : Walked bytes count s (levels - 1) (nodes + 1) next first) where
+      (left : Walked bytes count s (levels - 1) (nodes + 1) next first) where
     m : Machine
     m = machineOf (sizesOf bytes count)
 
@@ -96,7 +95,7 @@ module _ (bytes : List ℕ) (count s levels nodes at : ℕ) (more : 0 < levels) 
 
     -- The right operand stands behind the left.
     module _ (a : Worth) (seen middle : ℕ) (whole : first ≡ Whole a seen middle) (second : WorthRead)
-      (right : Walked bytes count s (levels - 1) seen middle second) where
+        (right : Walked bytes count s (levels - 1) seen middle second) where
       found-left : Found m s (exprAt (levels - 1) bytes count (nodes + 1) next) a seen middle
       unfolding m
       found-left = found-whole m s _ a seen middle (sym (left .0) ∙ whole)
@@ -116,7 +115,7 @@ module _ (bytes : List ℕ) (count s levels nodes at : ℕ) (more : 0 < levels) 
             omega arith
 
         pub walked-both : (r : Worth) → (r ≡ worthOf (both (apply o) (valIn a) (valIn b))) × (magnitude r ≤ magnitude a + magnitude b + 1)
-          → Walked bytes count s levels nodes at (Whole r all behind)
+            → Walked bytes count s levels nodes at (Whole r all behind)
         unfolding m
         walked-both r exact =
             let small-left : Small (nodes + 1) (Whole a seen middle) = rw whole at (left .1) in
@@ -128,14 +127,14 @@ module _ (bytes : List ℕ) (count s levels nodes at : ℕ) (more : 0 < levels) 
 -- The whole expression at a cursor, from the answer of a walk with all its levels.
 module _ (bytes : List ℕ) (count at s : ℕ) (same : count ≡ countOf (headerAt bytes)) where
   pub whole-value : (w : Worth) (nodes next : ℕ)
-    → worthRead (machineOf (sizesOf bytes count)) s (exprAt 32 bytes count 0 at) ≡ Whole w nodes next → valIn w ≡ valueAt bytes at s
+      → worthRead (machineOf (sizesOf bytes count)) s (exprAt 32 bytes count 0 at) ≡ Whole w nodes next → valIn w ≡ valueAt bytes at s
   unfolding valueAt machineAt wholeExpr
   whole-value w nodes next h =
       let f = found-whole (machineOf (sizesOf bytes count)) s (exprAt 32 bytes count 0 at) w nodes next h in
       rw (← same, f .read) (f .worth)
 
   pub fault-value : (k place : ℕ)
-    → worthRead (machineOf (sizesOf bytes count)) s (exprAt 32 bytes count 0 at) ≡ Fault k place → none ≡ valueAt bytes at s
+      → worthRead (machineOf (sizesOf bytes count)) s (exprAt 32 bytes count 0 at) ≡ Fault k place → none ≡ valueAt bytes at s
   unfolding valueAt machineAt wholeExpr
   fault-value k place h =
       let gone = found-fault (machineOf (sizesOf bytes count)) s (exprAt 32 bytes count 0 at) k place h in

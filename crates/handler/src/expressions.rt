@@ -1,8 +1,8 @@
 // Expressions: what stands at a node, and what a whole expression is made of.
 use crate::ExprHead;
-use bits::Field;
 use crate::ExprShape;
 use crate::Misfit;
+use bits::Field;
 use semantics::Kind;
 use semantics::Row;
 ghost use mathlib.Core.Bool.{cond};
@@ -140,10 +140,22 @@ fn leaf_of(head: ExprHead, wanted: Kind, moved: u32, nodes: u32, at: usize) -> E
 {
     match head {
         ExprHead::Integer(_, next) => {
-            ExprShape::Whole(wanted_of(Kind::Integer, wanted, at, Misfit::Fits), 0, 0, nodes + 1, next)
+            ExprShape::Whole(
+                wanted_of(Kind::Integer, wanted, at, Misfit::Fits),
+                0,
+                0,
+                nodes + 1,
+                next,
+            )
         }
         ExprHead::Truth(_, next) => {
-            ExprShape::Whole(wanted_of(Kind::Truth, wanted, at, Misfit::Fits), 0, 0, nodes + 1, next)
+            ExprShape::Whole(
+                wanted_of(Kind::Truth, wanted, at, Misfit::Fits),
+                0,
+                0,
+                nodes + 1,
+                next,
+            )
         }
         ExprHead::Variable(v, next) => {
             let misfit = wanted_of(Kind::Integer, wanted, at, Misfit::Fits);
@@ -155,7 +167,15 @@ fn leaf_of(head: ExprHead, wanted: Kind, moved: u32, nodes: u32, at: usize) -> E
 }
 
 // The shape of the expression at a cursor, read to so many levels. The row of an operation that was read is never unused.
-fn expr_walk(src: &[u8], count: u32, wanted: Kind, moved: u32, levels: u32, nodes: u32, at: usize) -> ExprShape
+fn expr_walk(
+    src: &[u8],
+    count: u32,
+    wanted: Kind,
+    moved: u32,
+    levels: u32,
+    nodes: u32,
+    at: usize,
+) -> ExprShape
     requires { ⌜ nodes ≤ 31 ⌝ }
     ensures { λ r. ⌜ r ≡ exprShape wanted moved at (exprAt levels (now (src .entry)) count nodes at) ⌝ }
 {

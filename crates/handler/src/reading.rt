@@ -1,11 +1,11 @@
 // The whole handler file, front to back, and what stands at a statement of it.
-use crate::Header;
+use crate::ExprShape;
 use crate::HandlerFile;
+use crate::Header;
 use crate::Misfit;
 use crate::Part;
 use crate::StmtHead;
 use crate::StmtShape;
-use crate::ExprShape;
 use crate::expressions::expr_shape;
 use crate::head::read_header;
 use crate::statements::stmt_head_at;
@@ -38,7 +38,13 @@ pub fn read_handler(src: &[u8]) -> HandlerFile
 {
     match read_header(src) {
         Header::Fault(k, place) => HandlerFile::Fault(k, place),
-        Header::Sizes(count, n, at) => judged_of(src, count, n, at, stmt_walk(src, count, n, 17, 0, at)),
+        Header::Sizes(count, n, at) => judged_of(
+            src,
+            count,
+            n,
+            at,
+            stmt_walk(src, count, n, 17, 0, at),
+        ),
     }
 }
 
@@ -59,7 +65,8 @@ pub fn part_at(src: &[u8], count: u32, at: usize) -> Part
             Part::Pair(code, next, right)
         }
         StmtHead::Test(code, next) => {
-            let ExprShape::Whole(_, _, _, _, body) = expr_shape(src, count, Kind::Truth, 0, next) else {
+            let ExprShape::Whole(_, _, _, _, body) = expr_shape(src, count, Kind::Truth, 0, next)
+            else {
                 return Part::Nothing;
             };
             Part::Test(code, next, body)

@@ -74,7 +74,12 @@ fn assigned_of(before: u32, assigned: ExprShape) -> StmtShape
     ensures { λ r. ⌜ r ≡ assignedOf before assigned ⌝ }
 {
     match assigned {
-        ExprShape::Whole(misfit, e, _, _, next) => StmtShape::Whole(e as u64 + 1, misfit, before, next),
+        ExprShape::Whole(misfit, e, _, _, next) => StmtShape::Whole(
+            e as u64 + 1,
+            misfit,
+            before,
+            next,
+        ),
         ExprShape::Fault(k, place) => StmtShape::Fault(k, place),
     }
 }
@@ -123,14 +128,26 @@ fn tested_of(n: u32, code: u32, test: ExprShape, body: StmtShape) -> StmtShape
         ExprShape::Whole(first, e, _, _, _) => match body {
             StmtShape::Fault(k, place) => StmtShape::Fault(k, place),
             StmtShape::Whole(b, second, before, next) => {
-                StmtShape::Whole(test_steps(n, code, e, b), earlier_of(first, second), before, next)
+                StmtShape::Whole(
+                    test_steps(n, code, e, b),
+                    earlier_of(first, second),
+                    before,
+                    next,
+                )
             }
         },
     }
 }
 
 // The shape of the statement at a cursor over n states, read to so many levels.
-pub(crate) fn stmt_walk(src: &[u8], count: u32, n: u32, levels: u32, before: u32, at: usize) -> StmtShape
+pub(crate) fn stmt_walk(
+    src: &[u8],
+    count: u32,
+    n: u32,
+    levels: u32,
+    before: u32,
+    at: usize,
+) -> StmtShape
     requires { ⌜ (1 ≤ n) × (n ≤ 64) × (before ≤ 63) ⌝ }
     ensures { λ r. ⌜ r ≡ stmtShape n at (stmtAt levels (now (src .entry)) count before at) ⌝ }
 {
@@ -139,7 +156,10 @@ pub(crate) fn stmt_walk(src: &[u8], count: u32, n: u32, levels: u32, before: u32
     }
     match stmt_head_at(src, count, levels - 1, before, at) {
         StmtHead::Nil(next) => StmtShape::Whole(0, Misfit::Fits, before + 1, next),
-        StmtHead::Assign(_, next) => assigned_of(before + 1, expr_shape(src, count, Kind::Integer, 0, next)),
+        StmtHead::Assign(_, next) => assigned_of(
+            before + 1,
+            expr_shape(src, count, Kind::Integer, 0, next),
+        ),
         StmtHead::Pair(_, next) => {
             let left = stmt_walk(src, count, n, levels - 1, before + 1, next);
             let StmtShape::Whole(_, _, so_far, behind) = left else {
@@ -152,7 +172,12 @@ pub(crate) fn stmt_walk(src: &[u8], count: u32, n: u32, levels: u32, before: u32
             match test {
                 ExprShape::Fault(k, place) => StmtShape::Fault(k, place),
                 ExprShape::Whole(_, _, _, _, behind) => {
-                    tested_of(n, code, test, stmt_walk(src, count, n, levels - 1, before + 1, behind))
+                    tested_of(
+                        n,
+                        code,
+                        test,
+                        stmt_walk(src, count, n, levels - 1, before + 1, behind),
+                    )
                 }
             }
         }

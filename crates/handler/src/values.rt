@@ -1,6 +1,4 @@
 // What expressions are worth at states, by re-reading the file.
-use bits::Field;
-use states::StateSet;
 use crate::After;
 use crate::ExprHead;
 use crate::Header;
@@ -8,6 +6,8 @@ use crate::Worth;
 use crate::WorthRead;
 use crate::expressions::expr_head_at;
 use crate::head::read_header;
+use bits::Field;
+use states::StateSet;
 ghost use mathlib.Core.Path.{_≡_};
 ghost use mathlib.Core.Bool.{_&&_, _||_};
 ghost use mathlib.Core.Option.{none};

@@ -8,18 +8,17 @@ use mathlib.Core.Option.{Option, none, some}
 use native.Mathlib.Omega.{arith}
 use lib.ListN.{length}
 use lib.Dec.{ltb}
-use Rattle.semantics.specs.Language.{Stmt, kindsFit}
-use Rattle.semantics.specs.States.{product, machineOf}
+use Rattle.semantics.specs.States.{machineOf}
 use Rattle.semantics.specs.StepNumber.{steps}
-use Rattle.semantics.specs.Derivations.{Derivation, namesOf, specOf}
+use Rattle.semantics.specs.Derivations.{namesOf, specOf}
 use Rattle.semantics.specs.Checking.{Broken, firstFault}
 use Rattle.semantics.specs.Promise.{Promise}
 use Rattle.semantics.proofs.Soundness.{soundness}
 use Rattle.handler.specs.Header.{sizesOf}
-use Rattle.handler.specs.Reading.{handler, readHandler}
-use Rattle.derivation.specs.Reading as Proofs
+use Rattle.handler.specs.Reading.{readHandler}
 use Rattle.rules.specs.declared.Verdict.{Verdict}
 use Rattle.rules.specs.declared.Verdict.the-variants.{Accepted, Refused}
+use Rattle.rules.proofs.Stages.{kinds-fit, states-are}
 use Rattle.rules.specs.Verdicts.{Answer, tablesOf, onSteps, onFault, onHandler, answer, Upheld}
 
 -- What the last stages accepted: no condition is broken, and the step number is the bound.
@@ -45,12 +44,10 @@ accepted-files hb pb words bound e = by (ltb words 1040) (ltb 16384 (length hb) 
     by false true s t e = absurd (let f = rw (s, t) at e in let z : _≡_ {A = ℕ} 0 1 = cc in omega arith)
     by false false s t e = rw (s, t) at e
 
-module _ (kinds : (hb : List ℕ) (count n at : ℕ) (S : Stmt) → readHandler hb ≡ handler count n at S → kindsFit S ≡ true)
-    (states : (hb : List ℕ) (count n at : ℕ) (S : Stmt) → readHandler hb ≡ handler count n at S → product (sizesOf hb count) ≡ n) where
-  pub upheld : (hb pb : List ℕ) (words : ℕ) → Upheld hb pb (answer hb pb words .verdict)
-  upheld hb pb words = record { upheld = λ bound e count n at S h sets relations root d p.
-      let through = accepted-files hb pb words bound e in
-      let (clear, is) = accepted-fault (firstFault (tablesOf hb pb count n sets) d S 0) (steps n S) bound _ (rw (h, p) at through) in
-      subst (Promise (machineOf (sizesOf hb count)) S (specOf (tablesOf hb pb count n sets) (namesOf d)))
-      (ap (λ N. steps N S) (states hb count n at S h) ∙ is)
-      (soundness (tablesOf hb pb count n sets) d S 0 clear (kinds hb count n at S h)) }
+pub upheld : (hb pb : List ℕ) (words : ℕ) → Upheld hb pb (answer hb pb words .verdict)
+upheld hb pb words = record { upheld = λ bound e count n at S h sets relations root d p.
+    let through = accepted-files hb pb words bound e in
+    let (clear, is) = accepted-fault (firstFault (tablesOf hb pb count n sets) d S 0) (steps n S) bound _ (rw (h, p) at through) in
+    subst (Promise (machineOf (sizesOf hb count)) S (specOf (tablesOf hb pb count n sets) (namesOf d)))
+    (ap (λ N. steps N S) (states-are hb count n at S h) ∙ is)
+    (soundness (tablesOf hb pb count n sets) d S 0 clear (kinds-fit hb count n at S h)) }

@@ -63,14 +63,14 @@ fits-30 false rest e = absurd (Option·none-ne-some _ (sym e))
 
 -- Condition 30, of a node with children whose own conditions hold: the statement has the node's rule, unless it is a weaken.
 module _ (t : Tables) (S : Stmt) where
-  fits-two : (rule : ℕ) (h : Names) (l r : Derivation) → 2 ≤ rule → rule < 4 → firstBroken (owed t (overTwo rule h l r) S) ≡ none → codeOf S ≡ rule
+  pub fits-two : (rule : ℕ) (h : Names) (l r : Derivation) → 2 ≤ rule → rule < 4 → firstBroken (owed t (overTwo rule h l r) S) ≡ none → codeOf S ≡ rule
   fits-two rule h l r over below = by (eqb rule 2) refl
     where
       by : (b : Bool) → eqb rule 2 ≡ b → firstBroken (owed t (cond b (sequence h l r) (parallel h l r)) S) ≡ none → codeOf S ≡ rule
       by true e clear = eqb-true (codeOf S) 2 (fits-30 (eqb (codeOf S) 2) _ clear) ∙ sym (eqb-true rule 2 e)
       by false e clear = eqb-true (codeOf S) 3 (fits-30 (eqb (codeOf S) 3) _ clear) ∙ (let x = eqb-false rule 2 e in omega arith)
 
-  fits-one : (rule : ℕ) (h : Names) (K W : ℕ) (d : Derivation) → 4 ≤ rule → rule < 6 → firstBroken (owed t (overOne rule h K W d) S) ≡ none → codeOf S ≡ rule
+  pub fits-one : (rule : ℕ) (h : Names) (K W : ℕ) (d : Derivation) → 4 ≤ rule → rule < 6 → firstBroken (owed t (overOne rule h K W d) S) ≡ none → codeOf S ≡ rule
   fits-one rule h K W d over below = by (eqb rule 4) refl (eqb rule 5) refl
     where
       by : (a : Bool) → eqb rule 4 ≡ a → (b : Bool) → eqb rule 5 ≡ b
@@ -80,7 +80,7 @@ module _ (t : Tables) (S : Stmt) where
       by false e false f clear = absurd (let x = eqb-false rule 4 e in let y = eqb-false rule 5 f in omega arith)
 
 -- The first own condition that is broken is the first fault.
-own-first : (t : Tables) (d : Derivation) (S : Stmt) (n k : ℕ) → firstBroken (owed t d S) ≡ some k → firstFault t d S n ≡ some (record { number = k; node = n })
+pub own-first : (t : Tables) (d : Derivation) (S : Stmt) (n k : ℕ) → firstBroken (owed t d S) ≡ some k → firstFault t d S n ≡ some (record { number = k; node = n })
 own-first t (skip h) S n k e = rw e
 own-first t (assignment h) S n k e = rw e
 own-first t (sequence h l r) S n k e = rw e

@@ -4,6 +4,9 @@ pub mod Words
 pub mod Demand
 pub mod Faults
 pub mod Loaded
+pub mod Walking
+pub mod Stages
+pub mod Judging
 pub mod Bare
 pub mod TestsPlaces
 pub mod TestsRows

@@ -12,7 +12,7 @@ use lib.IntN.{ℤ, pos, negsuc}
 use borrow.Author.Tests.{ltb-true, le-ltb, eqb-true}
 use Rattle.states.proofs.Search.{and-left, and-right}
 use Rattle.states.proofs.Reach.{Between}
-use Rattle.semantics.specs.Language.{Val, int, truth}
+use Rattle.semantics.specs.Language.{Val, int, truth, Expr}
 use Rattle.semantics.specs.States.{Machine, product, weight, valueOf, stored, machineOf, value, storeOf, isTruth}
 use Rattle.semantics.specs.Conditions.{isTrue, isFalse, afterStore}
 use Rattle.handler.specs.declared.Header.{Header}
@@ -41,9 +41,13 @@ goes-guarded false o t = refl
 
 -- Under a head that was read.
 module _ (bytes : List ℕ) (count n first : ℕ) (head : headerAt bytes ≡ Sizes count n first) where
-  pub machine-here : machineHere bytes ≡ machineAt bytes
-  unfolding machineHere machineAt
+  pub machine-here : machineHere bytes ≡ machineOf (sizesOf bytes count)
+  unfolding machineHere
   machine-here = rw head
+
+  pub expr-here : (at : ℕ) (e : Expr) (nodes next : ℕ) → wholeExpr bytes count at ≡ good e nodes next → exprHere bytes at ≡ e
+  unfolding exprHere
+  expr-here at e nodes next read = rw (head, read)
 
   pub states-here : machineHere bytes .states ≡ n
   unfolding machineHere
@@ -91,7 +95,8 @@ module _ (bytes : List ℕ) where
       goesTo (cond (ltb s (statesOf h)) (afterOf (storeOf m s v (valueRead m s (wholeExpr bytes (countOf h) at)))) OutOfRange) t
       ≡ (ltb s (under .states) && leadsTo (storeOf under s v (value under (exprUnder bytes at h) s)) t))
       (λ count n first e. let m = machineOf (sizesOf bytes count) in
-      rw (head-read bytes count n first e .sized .total, value-in m s (wholeExpr bytes count at)) (goes-guarded (ltb s (m .states)) (storeOf m s v (valueRead m s (wholeExpr bytes count at))) t))
+      rw (head-read bytes count n first e .sized .total, value-in m s (wholeExpr bytes count at))
+      (goes-guarded (ltb s (m .states)) (storeOf m s v (valueRead m s (wholeExpr bytes count at))) t))
       (λ k place. rw (le-ltb s 0 zero-le))
 
   -- The states where a test is true, and where it is false, as the walk over the bits finds them.
@@ -161,4 +166,5 @@ after-within bytes v at s t h = (below, inside below (and-right (ltb s (machineH
     inside =
         on-head bytes (λ h. let m = machineUnder bytes h in
         s < m .states → leadsTo (storeOf m s v (value m (exprHere bytes at) s)) t ≡ true → t < m .states)
-        (λ count n first e. store-within (sizesOf bytes count) s v (value (machineOf (sizesOf bytes count)) (exprHere bytes at) s) t) (λ k place l. absurd (omega arith))
+        (λ count n first e. let sizes = sizesOf bytes count in store-within sizes s v (value (machineOf sizes) (exprHere bytes at) s) t)
+        (λ k place l. absurd (omega arith))

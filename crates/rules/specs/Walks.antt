@@ -1,14 +1,17 @@
 -- What the walk over the nodes finds, from what the two files hold: nodes by number, conditions by number.
-use Prim.Native.Nat.{ℕ, _≤_}
+use Prim.Native.Nat.{ℕ, _-_, _^_, _≤_, min}
 use mathlib.Core.Path.{_≡_}
 use mathlib.Core.Bool.{Bool, true, false, cond}
 use mathlib.Core.List.{List, [], _∷_}
 use mathlib.Core.Option.{Option, none, some}
 use lib.ListN.{length}
+use lib.Dec.{ltb}
 use Rattle.semantics.specs.Language.{Stmt, nil}
 use Rattle.semantics.specs.Derivations.{Derivation, skip, Tables}
 use Rattle.states.specs.Search.{holds}
 use Rattle.semantics.specs.Checking.{Condition, Broken, firstFault}
+use Rattle.semantics.specs.StepNumber as StepNumber
+use Rattle.handler.specs.Reading.{handler, readHandler}
 use Rattle.handler.specs.Header.{headerAt}
 use Rattle.handler.specs.declared.Header.the-variants.{Sizes}
 use Rattle.handler.specs.Statements as Stmts
@@ -16,10 +19,14 @@ use Rattle.handler.specs.declared.Part.{Part}
 use Rattle.handler.specs.declared.Part.the-variants.{Nil, Assign, Pair, Test, Nothing}
 use Rattle.derivation.specs.Tables.{written}
 use Rattle.derivation.specs.Reading.{proof, readProof, wordsOf}
-use Rattle.derivation.specs.Nodes.{NodeRead, whole, fault}
+use Rattle.derivation.specs.Nodes.{NodeRead, whole, fault, nodeAt}
 use Rattle.rules.specs.declared.Counts.{Counts}
 use Rattle.rules.specs.declared.Own.{Own}
 use Rattle.rules.specs.declared.Own.the-variants.{Holds, Breaks}
+use Rattle.rules.specs.declared.Place.the-variants.{Node}
+use Rattle.rules.specs.declared.Verdict.{Verdict}
+use Rattle.rules.specs.declared.Verdict.the-variants.{Accepted}
+use Rattle.rules.specs.Verdicts.{refusedAt}
 use Rattle.rules.specs.declared.Walked.{Walked}
 use Rattle.rules.specs.declared.Walked.the-variants as Way
 
@@ -69,6 +76,13 @@ pub record Ready (hb pb work : List ℕ) (c : Counts) : Type 0 where
   pub enough : 1040 ≤ length before
   pub words : work ≡ written (wordsOf pb (c .states) (readProof pb (c .states))) before
 
+-- A node and a statement that the walk may start from.
+pub record Walkable (hb pb work : List ℕ) (c : Counts) (levels node at stmt : ℕ) : Type 0 where
+  pub ready : Ready hb pb work c
+  pub shallow : levels ≤ 25
+  pub derivation : isNode (nodeAt levels pb (c .sets) (c .relations) node at) ≡ true
+  pub statement : isStmt (Stmts.wholeStmt hb (c .variables) stmt) ≡ true
+
 -- Where the parts of the statement at a bit stand: the left part or the body, and the right part.
 abbrev pub firstAt : ℕ → Part → ℕ
 firstAt stmt Nil = stmt
@@ -83,3 +97,14 @@ secondAt stmt (Assign v e) = stmt
 secondAt stmt (Pair code left right) = right
 secondAt stmt (Test code e body) = stmt
 secondAt stmt Nothing = stmt
+
+-- The verdict by what the walk finds and a step number; 80 last, at node 0.
+abbrev pub decided : Walked → ℕ → Verdict
+decided (Way.Broken k node) steps = refusedAt k (Node node)
+decided (Way.Through after next) steps = cond (ltb (2 ^ 32 - 1) steps) (refusedAt 80 (Node 0)) (Accepted steps)
+
+-- A handler file that was read, with its step number as far as 2 ^ 32.
+pub record Handled (hb : List ℕ) (variables states stmt steps : ℕ) : Type 0 where
+  pub S : Stmt
+  pub reads : readHandler hb ≡ handler variables states stmt S
+  pub counted : steps ≡ min (StepNumber.steps states S) (2 ^ 32)

@@ -93,6 +93,7 @@ pub fn leaves(n: u32, work: &[u64], own: Names, w: u32, falsity: StateSet) -> bo
     included_from(n, p, &exits, rows_of(work, own.q))
 }
 
+// Whether s has an end, where it is in P.
 fn in_range_at(n: u32, p: StateSet, after: &[u64], s: u32) -> bool
     ensures { λ out. ⌜ out ≡ holds (given (has p s) (must (any n (rel n (now (after .entry)) s)))) ⌝ }
 {

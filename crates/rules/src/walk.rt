@@ -8,14 +8,13 @@ use handler::Part;
 use handler::reading::part_at;
 ghost use mathlib.Core.Path.{_≡_};
 ghost use mathlib.Core.Bool.{true, cond};
-ghost use Prim.Native.Nat.{_≤_};
 ghost use lib.Dec.{eqb};
 ghost use Rattle.handler.specs.Statements.{wholeStmt};
 ghost use Rattle.handler.specs.Shapes.{partAt};
 ghost use Rattle.semantics.specs.Checking.{firstBroken, owed};
 ghost use Rattle.derivation.specs.Nodes.{nodeAt, wholeNode};
 ghost use Rattle.rules.specs.Verdicts.{tablesOf};
-ghost use Rattle.rules.specs.Walks.{stmtIn, isStmt, nodeIn, isNode, ownOf, walkOn, Ready, firstAt, secondAt};
+ghost use Rattle.rules.specs.Walks.{stmtIn, isStmt, nodeIn, isNode, ownOf, walkOn, Ready, Walkable, firstAt, secondAt};
 
 // The first bit of the part that a node's first child is about: the left part or the body; under a weaken, the same statement.
 fn first_part(handler: &[u8], variables: u32, rule: u32, stmt: usize) -> usize
@@ -89,11 +88,8 @@ fn own_fault(handler: &[u8], proof: &[u8], work: &[u64], c: Counts, at: usize, s
 }
 
 // The derivation at a node over a statement: the node's own conditions, then its children's.
-fn walk(handler: &[u8], proof: &[u8], work: &[u64], c: Counts, levels: u32, node: u32, at: usize, stmt: usize) -> Walked
-    requires { ⌜ Ready (now handler) (now proof) (now work) c ⌝ }
-    requires { ⌜ levels ≤ 25 ⌝ }
-    requires { ⌜ isNode (nodeAt levels (now proof) (c .sets) (c .relations) node at) ≡ true ⌝ }
-    requires { ⌜ isStmt (wholeStmt (now handler) (c .variables) stmt) ≡ true ⌝ }
+pub(crate) fn walk(handler: &[u8], proof: &[u8], work: &[u64], c: Counts, levels: u32, node: u32, at: usize, stmt: usize) -> Walked
+    requires { ⌜ Walkable (now handler) (now proof) (now work) c levels node at stmt ⌝ }
     ensures { λ r.
         ⌜ r ≡ walkOn (tablesOf (now (handler .entry)) (now (proof .entry)) (c .variables) (c .states) (c .sets))
             (nodeAt levels (now (proof .entry)) (c .sets) (c .relations) node at)

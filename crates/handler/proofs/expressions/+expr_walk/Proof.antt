@@ -1,3 +1,4 @@
+-- The head, the row and the walks of the two operands are taken apart in turn; each way out is one law of Shapes.
 use Prim.Native.Nat.{ℕ, _+_, _-_, _≤_, _<_}
 use mathlib.Core.Path.{_≡_, sym, _∙_}
 use native.Mathlib.Nat.{pos-of-ne-zero}
@@ -36,37 +37,38 @@ expr-walk-below t =
 
 -- What the calls ask and tell, the own ones at a smaller measure.
 abbrev callees : ℕ → expr-walk-lts.Claims
-callees t =
-    (expr-head-at-reads.Asked,
-    expr-head-at-reads.Learnt,
-    leaf-of-reads.Asked,
-    leaf-of-reads.Learnt,
-    row-of-reads.Asked,
-    row-of-reads.Learnt,
-    expr-walk-below t,
-    expr-walk.Post,
-    earlier-of-reads.Asked,
-    earlier-of-reads.Learnt,
-    wanted-of-reads.Asked,
-    wanted-of-reads.Learnt)
+callees t = (
+  expr-head-at-reads.Asked,
+  expr-head-at-reads.Learnt,
+  leaf-of-reads.Asked,
+  leaf-of-reads.Learnt,
+  row-of-reads.Asked,
+  row-of-reads.Learnt,
+  expr-walk-below t,
+  expr-walk.Post,
+  earlier-of-reads.Asked,
+  earlier-of-reads.Learnt,
+  wanted-of-reads.Asked,
+  wanted-of-reads.Learnt,
+)
 
 -- What is known once the head, the row, the left operand and the right one are read.
 head-is : (t : ℕ) (c : expr-walk-lts.After-known-told (callees t) (expr-walk-at t) expr-walk.Post)
-  → let a = c .before .before .before .before .before .before .args in
+    → let a = c .before .before .before .before .before .before .args in
     exprHead (a .src .now) (a .count) (a .nodes) (a .at) ≡ Operation (c .before .head .given .0 .0) (c .before .head .given .0 .1 .0)
 head-is t c = sym (c .before .before .before .expr-head-at .ensures) ∙ c .before .head .given .1
 
 more : (t : ℕ) (c : expr-walk-lts.After-known-told (callees t) (expr-walk-at t) expr-walk.Post)
-  → 0 < c .before .before .before .before .before .before .args .levels
+    → 0 < c .before .before .before .before .before .before .args .levels
 more t c = pos-of-ne-zero (c .before .before .before .before .if1 .left)
 
 row-is : (t : ℕ) (c : expr-walk-lts.After-known-told2 (callees t) (expr-walk-at t) expr-walk.Post)
-  → rowOf (c .before .before .before .before .before .head .given .0 .0)
+    → rowOf (c .before .before .before .before .before .head .given .0 .0)
     ≡ Kinds (c .before .a .given .0 .0) (c .before .a .given .0 .1 .0) (c .before .a .given .0 .1 .1 .0)
 row-is t c = sym (c .before .before .before .row-of .ensures) ∙ c .before .a .given .1
 
 left-is : (t : ℕ) (c : expr-walk-lts.After-known-told3 (callees t) (expr-walk-at t) expr-walk.Post)
-  → let b = c .before .before .before .before in
+    → let b = c .before .before .before .before in
     let a = b .before .before .before .before .before .before .before .before .before .before .args in
     let next = b .before .before .before .before .before .head .given .0 .1 .0 in
     let l = c .before .left .given .0 in
@@ -75,7 +77,7 @@ left-is : (t : ℕ) (c : expr-walk-lts.After-known-told3 (callees t) (expr-walk-
 left-is t c = sym (c .before .before .before .expr-walk .ensures) ∙ c .before .left .given .1
 
 right-is : (t : ℕ) (c : expr-walk-lts.After-known-told4 (callees t) (expr-walk-at t) expr-walk.Post)
-  → let l = c .before .before .before .before .before .left .given .0 .1 .1 .1 in
+    → let l = c .before .before .before .before .before .left .given .0 .1 .1 .1 in
     let b = c .before .before .before .before .before .before .before .before in
     let a = b .before .before .before .before .before .before .before .before .before .before .args in
     let r = c .before .right .given .0 in
@@ -84,7 +86,7 @@ right-is : (t : ℕ) (c : expr-walk-lts.After-known-told4 (callees t) (expr-walk
 right-is t c = sym (c .before .before .before .expr-walk2 .ensures) ∙ c .before .right .given .1
 
 room : (t : ℕ) (c : expr-walk-lts.After-known-told (callees t) (expr-walk-at t) expr-walk.Post)
-  → c .before .before .before .before .before .before .args .nodes < 31
+    → c .before .before .before .before .before .before .args .nodes < 31
 unfolding Headed
 room t c = headed-as _ _ _ _ _ (head-is t c) .0
 
@@ -93,11 +95,11 @@ abbrev Small : ℕ → ℕ → ℕ → Type 0
 Small e occurs nodes = (e ≤ 31) × (occurs ≤ 31) × (nodes ≤ 31)
 
 small-left : (t : ℕ) (c : expr-walk-lts.After-known-told3 (callees t) (expr-walk-at t) expr-walk.Post)
-  → let l = c .before .left .given .0 .1 in Small (l .0) (l .1 .0) (l .1 .1 .0)
+    → let l = c .before .left .given .0 .1 in Small (l .0) (l .1 .0) (l .1 .1 .0)
 small-left t c = shape-small _ _ _ _ _ _ _ _ _ _ _ _ (left-is t c)
 
 small-right : (t : ℕ) (c : expr-walk-lts.After-known-told4 (callees t) (expr-walk-at t) expr-walk.Post)
-  → let r = c .before .right .given .0 .1 in Small (r .0) (r .1 .0) (r .1 .1 .0)
+    → let r = c .before .right .given .0 .1 in Small (r .0) (r .1 .0) (r .1 .1 .0)
 small-right t c = shape-small _ _ _ _ _ _ _ _ _ _ _ _ (right-is t c)
 
 expr-walk-returns : (t : ℕ) → expr-walk-lts.Need-returns (callees t) (expr-walk-at t) expr-walk.Post
@@ -107,9 +109,10 @@ expr-walk-returns t c = rw (c .if1 .taken)
 expr-walk-returns-2 : (t : ℕ) → expr-walk-lts.Need-returns-2 (callees t) (expr-walk-at t) expr-walk.Post
 expr-walk-returns-2 t c =
     let h = c .before .before .expr-head-at in
-    rw
-    (expr-step _ _ _ _ _ (h .result) (pos-of-ne-zero (c .before .before .before .if1 .left)) (sym (h .ensures)),
-    childless (h .result) (c .before .match .keys2) _ _ (λ _ place. bad 14 place))
+    rw (
+      expr-step _ _ _ _ _ (h .result) (pos-of-ne-zero (c .before .before .before .if1 .left)) (sym (h .ensures)),
+      childless (h .result) (c .before .match .keys2) _ _ (λ _ place. bad 14 place),
+    )
     (c .leaf-of .ensures)
 
 expr-walk-returns-3 : (t : ℕ) → expr-walk-lts.Need-returns-3 (callees t) (expr-walk-at t) expr-walk.Post

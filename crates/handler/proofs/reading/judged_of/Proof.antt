@@ -8,28 +8,31 @@ returns c = rw (c .before .read .given .1)
 
 returns-2 : tie.Need-returns-2
 returns-2 c =
-    rw
-    (c .before .before .before .before .before .read2 .given .1,
-    ← c .before .before .before .read-fill .ensures,
-    c .before .place .given .1)
+    rw (
+      c .before .before .before .before .before .read2 .given .1,
+      ← c .before .before .before .read-fill .ensures,
+      c .before .place .given .1,
+    )
 
 returns-3 : tie.Need-returns-3
 returns-3 c =
     let f = c .before .before .before in
-    rw
-    (f .before .before .before .before .read2 .given .1,
-    ← f .before .before .read-fill .ensures,
-    f .enum-told .given .1,
-    c .before .misfit .given .1)
+    rw (
+      f .before .before .before .before .read2 .given .1,
+      ← f .before .before .read-fill .ensures,
+      f .enum-told .given .1,
+      c .before .misfit .given .1,
+    )
 
 returns-4 : tie.Need-returns-4
 returns-4 c =
     let f = c .before .before in
-    rw
-    (f .before .before .before .before .read2 .given .1,
-    ← f .before .before .read-fill .ensures,
-    f .enum-told .given .1,
-    c .enum-told2 .given .1)
+    rw (
+      f .before .before .before .before .read2 .given .1,
+      ← f .before .before .read-fill .ensures,
+      f .enum-told .given .1,
+      c .enum-told2 .given .1,
+    )
 
 pub judged-of-spec : {M : Type 1} → statement M
 judged-of-spec =

@@ -12,7 +12,7 @@ use Rattle.handler.proofs.reading.part_at.Tie as tie
 
 -- What the head says is the answer, where a whole statement stands.
 answer : (c : tie.After-stmt-head-at) → let a = c .before .before .before .before .before .args in
-  headPart (a .src .now) (a .count) (c .stmt-head-at .result) ≡ partAt (a .src .now) (a .count) (a .at)
+    headPart (a .src .now) (a .count) (c .stmt-head-at .result) ≡ partAt (a .src .now) (a .count) (a .at)
 unfolding wholeStmt
 answer c =
     let s = stmt-shaped _ _ _ _ _ _ _ (sym (c .before .before .before .stmt-walk .ensures) ∙ c .before .enum-told .given .1) in
@@ -20,13 +20,13 @@ answer c =
 
 -- Where the left side of a pair is read again, and the test.
 left-of : (c : tie.After-known-told2) → let a = c .before .before .before .before .before .before .before .before .args in
-  let h = c .before .code .given .0 in
-  pairPart (h .0) (h .1 .0) (wholeStmt (a .src .now) (a .count) (h .1 .0)) ≡ partAt (a .src .now) (a .count) (a .at)
+    let h = c .before .code .given .0 in
+    pairPart (h .0) (h .1 .0) (wholeStmt (a .src .now) (a .count) (h .1 .0)) ≡ partAt (a .src .now) (a .count) (a .at)
 left-of c = rw (c .before .code .given .1) at (answer (c .before .before .before))
 
 test-of : (c : tie.After-known-told4) → let a = c .before .before .before .before .before .before .before .before .args in
-  let h = c .before .code2 .given .0 in
-  testPart (h .0) (h .1 .0) (wholeExpr (a .src .now) (a .count) (h .1 .0)) ≡ partAt (a .src .now) (a .count) (a .at)
+    let h = c .before .code2 .given .0 in
+    testPart (h .0) (h .1 .0) (wholeExpr (a .src .now) (a .count) (h .1 .0)) ≡ partAt (a .src .now) (a .count) (a .at)
 test-of c = rw (c .before .code2 .given .1) at (answer (c .before .before .before))
 
 returns : tie.Need-returns

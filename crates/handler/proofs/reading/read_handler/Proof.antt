@@ -21,11 +21,12 @@ returns c = rw (← c .before .before .before .read-header .ensures, c .before .
 returns-2 : tie.Need-returns-2
 unfolding readHandler
 returns-2 c =
-    rw
-    (← c .before .before .before .before .before .read-header .ensures,
-    c .before .before .before .count .given .1,
-    c .judged-of .ensures,
-    c .before .stmt-walk .ensures)
+    rw (
+      ← c .before .before .before .before .before .read-header .ensures,
+      c .before .before .before .count .given .1,
+      c .judged-of .ensures,
+      c .before .stmt-walk .ensures,
+    )
     (judged _ _ _ _)
 
 pub read-handler-spec : {M : Type 1} → statement M

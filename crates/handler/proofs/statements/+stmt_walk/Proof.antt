@@ -38,43 +38,44 @@ stmt-walk-below t =
 
 -- What the calls ask and tell, the own ones at a smaller measure.
 abbrev callees : ℕ → stmt-walk-lts.Claims
-callees t =
-    (stmt-head-at-reads.Asked,
-    stmt-head-at-reads.Learnt,
-    expr-shape-reads.Asked,
-    expr-shape-reads.Learnt,
-    assigned-of-reads.Asked,
-    assigned-of-reads.Learnt,
-    stmt-walk-below t,
-    stmt-walk.Post,
-    pair-of-reads.Asked,
-    pair-of-reads.Learnt,
-    tested-of-reads.Asked,
-    tested-of-reads.Learnt)
+callees t = (
+  stmt-head-at-reads.Asked,
+  stmt-head-at-reads.Learnt,
+  expr-shape-reads.Asked,
+  expr-shape-reads.Learnt,
+  assigned-of-reads.Asked,
+  assigned-of-reads.Learnt,
+  stmt-walk-below t,
+  stmt-walk.Post,
+  pair-of-reads.Asked,
+  pair-of-reads.Learnt,
+  tested-of-reads.Asked,
+  tested-of-reads.Learnt,
+)
 
 -- The head that the function takes apart, from the place where it was read.
 head-is : (t : ℕ) (c : stmt-walk-lts.After-stmt-head-at (callees t) (stmt-walk-at t) stmt-walk.Post) (head : StmtHead)
-  → c .stmt-head-at .result ≡ head
-  → let a = c .before .before .before .args in stmtHead (a .src .now) (a .count) (a .levels - 1) (a .before) (a .at) ≡ head
+    → c .stmt-head-at .result ≡ head
+    → let a = c .before .before .before .args in stmtHead (a .src .now) (a .count) (a .levels - 1) (a .before) (a .at) ≡ head
 head-is t c head e = sym (c .stmt-head-at .ensures) ∙ e
 
 more : (t : ℕ) (c : stmt-walk-lts.After-stmt-head-at (callees t) (stmt-walk-at t) stmt-walk.Post)
-  → 0 < c .before .before .before .args .levels
+    → 0 < c .before .before .before .args .levels
 more t c = pos-of-ne-zero (c .before .if1 .left)
 
 -- There is room for the parts: what the head says, and what the left side leaves.
 pair-room : (t : ℕ) (c : stmt-walk-lts.After-known-told3 (callees t) (stmt-walk-at t) stmt-walk.Post)
-  → c .before .before .before .before .before .before .args .before < 63
+    → c .before .before .before .before .before .before .args .before < 63
 unfolding Marked
 pair-room t c = marked _ _ _ _ _ _ (head-is t (c .before .before .before) _ (c .before .next3 .given .1)) .1
 
 test-room : (t : ℕ) (c : stmt-walk-lts.After-known-told5 (callees t) (stmt-walk-at t) stmt-walk.Post)
-  → c .before .before .before .before .before .before .args .before < 63
+    → c .before .before .before .before .before .before .args .before < 63
 unfolding Marked
 test-room t c = marked _ _ _ _ _ _ (head-is t (c .before .before .before) _ (c .before .code .given .1)) .1
 
 right-room : (t : ℕ) (c : stmt-walk-lts.After-known-told4 (callees t) (stmt-walk-at t) stmt-walk.Post)
-  → c .before .left .given .0 .1 .1 .0 ≤ 63
+    → c .before .left .given .0 .1 .1 .0 ≤ 63
 right-room t c =
     let l = stmt-shaped _ _ _ _ _ _ _ (sym (c .before .before .before .stmt-walk .ensures) ∙ c .before .left .given .1) in
     stmt-read _ _ _ _ _ _ _ _ (l .was) .room

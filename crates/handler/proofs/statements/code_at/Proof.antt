@@ -20,20 +20,22 @@ returns-3 c = rw (ne-eqb _ 0 (c .before .before .if1 .left), ne-eqb _ 1 (c .befo
 returns-4 : tie.Need-returns-4
 unfolding codeHead
 returns-4 c =
-    rw
-    (ne-eqb _ 0 (c .before .before .before .if1 .left),
-    ne-eqb _ 1 (c .before .before .if2 .left),
-    le-ltb _ 4 (c .before .if3 .left),
-    lt-ltb _ 6 (c .if4 .taken))
+    rw (
+      ne-eqb _ 0 (c .before .before .before .if1 .left),
+      ne-eqb _ 1 (c .before .before .if2 .left),
+      le-ltb _ 4 (c .before .if3 .left),
+      lt-ltb _ 6 (c .if4 .taken),
+    )
 
 returns-5 : tie.Need-returns-5
 unfolding codeHead
 returns-5 c =
-    rw
-    (ne-eqb _ 0 (c .before .before .before .if1 .left),
-    ne-eqb _ 1 (c .before .before .if2 .left),
-    le-ltb _ 4 (c .before .if3 .left),
-    le-ltb _ 6 (c .if4 .left))
+    rw (
+      ne-eqb _ 0 (c .before .before .before .if1 .left),
+      ne-eqb _ 1 (c .before .before .if2 .left),
+      le-ltb _ 4 (c .before .if3 .left),
+      le-ltb _ 6 (c .if4 .left),
+    )
 
 pub code-at-spec : {M : Type 1} → statement M
 code-at-spec =

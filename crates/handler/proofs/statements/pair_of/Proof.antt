@@ -11,11 +11,12 @@ returns-2 c = rw (c .before .before .before .left .given .1, c .enum-told2 .give
 
 returns-3 : tie.Need-returns-3
 returns-3 c =
-    rw
-    (c .before .before .before .before .before .before .left .given .1,
-    c .before .before .before .right .given .1,
-    c .before .pair-steps .ensures,
-    c .earlier-of .ensures)
+    rw (
+      c .before .before .before .before .before .before .left .given .1,
+      c .before .before .before .right .given .1,
+      c .before .pair-steps .ensures,
+      c .earlier-of .ensures,
+    )
 
 pub pair-of-spec : {M : Type 1} → statement M
 pair-of-spec =

@@ -20,11 +20,12 @@ returns-2 c =
 returns-3 : tie.Need-returns-3
 unfolding stmtHead markHead
 returns-3 c =
-    rw
-    (← c .before .before .before .before .before .before .read .ensures,
-    c .before .before .before .before .code .given .1,
-    ne-eqb _ 0 (c .before .before .if1 .left),
-    c .before .if2 .left)
+    rw (
+      ← c .before .before .before .before .before .before .read .ensures,
+      c .before .before .before .before .code .given .1,
+      ne-eqb _ 0 (c .before .before .if1 .left),
+      c .before .if2 .left,
+    )
     (c .code-at .ensures)
 
 pub stmt-head-at-spec : {M : Type 1} → statement M

@@ -13,11 +13,12 @@ returns c = rw (eq-eqb _ 4 (c .before .if1 .taken)) (omega arith)
 
 -- Both products are at most 64 times a number of 33 bits.
 products : (c : tie.Else1) → let a = c .before .before .args in
-  (a .n * (a .e + 2) ≤ 64 * (2 ^ 32 + 1)) × ((a .n - 1) * (c .before .capped .result + 1) ≤ 64 * (2 ^ 32 + 1))
+    (a .n * (a .e + 2) ≤ 64 * (2 ^ 32 + 1)) × ((a .n - 1) * (c .before .capped .result + 1) ≤ 64 * (2 ^ 32 + 1))
 products c =
-    let a = c .before .before .args in
-    (mul-le-mul {n₁ = a .n} {m₁ = a .e + 2} {n₂ = 64} {m₂ = 2 ^ 32 + 1} (omega arith) (omega arith),
-    mul-le-mul {n₁ = a .n - 1} {m₁ = c .before .capped .result + 1} {n₂ = 64} {m₂ = 2 ^ 32 + 1} (omega arith) (omega arith))
+    let a = c .before .before .args in (
+      mul-le-mul {n₁ = a .n} {m₁ = a .e + 2} {n₂ = 64} {m₂ = 2 ^ 32 + 1} (omega arith) (omega arith),
+      mul-le-mul {n₁ = a .n - 1} {m₁ = c .before .capped .result + 1} {n₂ = 64} {m₂ = 2 ^ 32 + 1} (omega arith) (omega arith),
+    )
 
 returns-2 : tie.Need-returns-2
 returns-2 c =

@@ -11,11 +11,12 @@ returns-2 c = rw (c .before .before .before .before .test2 .given .1, c .before 
 
 returns-3 : tie.Need-returns-3
 returns-3 c =
-    rw
-    (c .before .before .before .before .before .before .test2 .given .1,
-    c .before .before .before .body2 .given .1,
-    c .before .test-steps .ensures,
-    c .earlier-of .ensures)
+    rw (
+      c .before .before .before .before .before .before .test2 .given .1,
+      c .before .before .before .body2 .given .1,
+      c .before .test-steps .ensures,
+      c .earlier-of .ensures,
+    )
 
 pub tested-of-spec : {M : Type 1} → statement M
 tested-of-spec =

@@ -27,7 +27,7 @@ of-integers-requires c κs =
 of-two : (o : ℕ) (left right r : Worth) (x y a b : ℤ) → left ≡ Integer x → right ≡ Integer y → a ≡ x → b ≡ y
     → (r ≡ worthOf (getD (ofIntegers a b) o none)) × (magnitude r ≤ mag a + mag b + 1)
     → (r ≡ worthOf (both (apply o) (valIn left) (valIn right))) × (magnitude r ≤ magnitude left + magnitude right + 1)
-of-two o left right r x y a b l m p q h = 
+of-two o left right r x y a b l m p q h =
     rw (l, m) (h .0 ∙ ap₂ (λ i j. worthOf (getD (ofIntegers i j) o none)) p q, rw (p, q) at (h .1))
 
 returns : tie.Need-returns

@@ -1,23 +1,19 @@
 -- Each operation is its row of `ofIntegers`; a sum and a difference fit because the operands are small.
-use Prim.Native.Nat.{ℕ, _+_, _≤_, _<_}
+use Prim.Native.Nat.{_+_, _<_}
 use native.Mathlib.Omega.{arith}
 use mathlib.Core.Option.{none}
-use mathlib.Core.Path.{_≡_, refl, ap}
+use mathlib.Core.Path.{refl}
 use borrow.Author.Needs.{needs}
-use lib.ListN.{getD, List·getD-eq-default}
+use lib.ListN.{List·getD-eq-default}
 use lib.IntN.{ℤ, _+ℤ_, _-ℤ_}
 use lib.Signed.{mag}
 use mir.Syntax.{w64}
 use mir.Val.{SFits}
 use mir.Facts.{toZ-ofZ}
 use Rattle.semantics.specs.Language.{ofIntegers}
-use Rattle.handler.specs.Values.{worthOf}
 use Rattle.handler.proofs.Integers.{mag-add, mag-minus}
 use Rattle.handler.proofs.values.of_integers.Statement.{statement}
 use Rattle.handler.proofs.values.of_integers.Tie as tie
-
-use Rattle.handler.proofs.values.of_integers.Reads as reads
-use Rattle.handler.proofs.values.of_integers.Lts as lts
 
 sum-fits : (a b : ℤ) → mag a + mag b < 8192 → SFits w64 (a +ℤ b)
 sum-fits a b small = record { sfits = omega (arith, mag-add a b) }

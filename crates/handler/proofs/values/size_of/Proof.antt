@@ -1,15 +1,11 @@
 -- A head that was read has every size in its place, so the field is there.
-use Prim.Native.Nat.{ℕ}
 use native.Mathlib.Omega.{arith}
-use mathlib.Core.Path.{_≡_, sym, ap, _∙_}
+use mathlib.Core.Path.{sym, _∙_}
 use borrow.Author.Needs.{needs}
-use Rattle.bits.proofs.Laws.{there, found}
+use Rattle.bits.proofs.Laws.{there}
 use Rattle.handler.proofs.Sizes.{size-at, size-past, sound}
 use Rattle.handler.proofs.values.size_of.Statement.{statement}
 use Rattle.handler.proofs.values.size_of.Tie as tie
-use Rattle.handler.proofs.values.size_of.Reads as reads
-use Rattle.handler.proofs.values.size_of.Lts as lts
-use Rattle.bits.proofs.read.Reads as read-reads
 
 returns : tie.Need-returns
 returns c = sym (size-past _ _ _ (c .if1 .taken))
@@ -25,7 +21,8 @@ cast-result c =
 
 returns-3 : tie.Need-returns-3
 returns-3 c =
-    there _ _ _ _ _ (sym (c .before .before .before .read .ensures) ∙ c .before .size .given .1) .value ∙ sym (size-at _ _ _ (c .before .before .before .before .if1 .left))
+    there _ _ _ _ _ (sym (c .before .before .before .read .ensures) ∙ c .before .size .given .1) .value
+    ∙ sym (size-at _ _ _ (c .before .before .before .before .if1 .left))
 
 pub size-of-spec : {M : Type 1} → statement M
 size-of-spec =

@@ -1,12 +1,9 @@
 -- The new value is below the size and the old one is taken out first, so no number leaves the states of 64 by 64.
-use Prim.Native.Nat.{ℕ, suc, _*_, _/_, _%_, _≤_, _<_}
+use Prim.Native.Nat.{ℕ, suc, _*_, _/_, _%_, _≤_}
 use native.Mathlib.Nat.{mod-le, div-mul-le-self, mul-le-mul, mul-le-mul-right, le-trans}
 use native.Mathlib.Omega.{arith}
-use mathlib.Core.Path.{_≡_, ap₂, _∙_}
 use borrow.Author.Needs.{needs}
 use borrow.Author.Tests.{lt-ltb, le-ltb}
-use Rattle.semantics.specs.States.{weight, valueOf}
-use Rattle.handler.specs.Header.{sizesOf}
 use Rattle.handler.proofs.Sizes.{sound}
 use Rattle.handler.proofs.values.store_natural.Statement.{statement}
 use Rattle.handler.proofs.values.store_natural.Tie as tie

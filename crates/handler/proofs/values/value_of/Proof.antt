@@ -1,12 +1,9 @@
 -- Neither the weight nor the size is 0, because N is not.
 use Prim.Native.Nat.{suc}
-use mathlib.Core.Path.{_≡_}
 use borrow.Author.Needs.{needs}
 use Rattle.handler.proofs.Sizes.{sound}
 use Rattle.handler.proofs.values.value_of.Statement.{statement}
 use Rattle.handler.proofs.values.value_of.Tie as tie
-use Rattle.handler.proofs.values.value_of.Reads as reads
-use Rattle.handler.proofs.values.value_of.Lts as lts
 
 div-result : tie.Need-div-result
 div-result c = rw (c .weight-of .ensures) (sound _ _ (c .before .before .pre) .later (suc (c .before .before .args .v)) .0)

@@ -1,5 +1,5 @@
 -- Joined with the state alone, or left as it is.
-use mathlib.Core.Bool.{_&&_, _||_, or-false}
+use mathlib.Core.Bool.{_||_, or-false}
 use mathlib.Core.Path.{_∙_, sym, ap}
 use borrow.Author.Needs.{needs}
 use Rattle.states.specs.Sets.{has}

@@ -1,5 +1,5 @@
 -- The whole expression is the one that a walk with all its levels finds.
-use mathlib.Core.Path.{_≡_, sym, _∙_}
+use mathlib.Core.Path.{sym, _∙_}
 use borrow.Author.Needs.{needs}
 use Rattle.handler.proofs.Worths.{whole-value, fault-value}
 use Rattle.handler.proofs.values.worth_at.Statement.{statement}

@@ -32,4 +32,6 @@ returns-3 : tie.Need-returns-3
 returns-3 c = at-other _ _ (sym (c .before .holds-state .ensures) ∙ c .if1 .left)
 
 pub in-range-at-spec : {M : Type 1} → statement M
-in-range-at-spec = tie.close (tie.spec (λ c κs. search needs) (λ c κs. search needs) (λ c κs. search needs) returns returns-2 returns-3)
+in-range-at-spec =
+    tie.close
+    (tie.spec (λ c κs. search needs) (λ c κs. search needs) (λ c κs. search needs) returns returns-2 returns-3)

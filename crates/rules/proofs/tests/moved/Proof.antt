@@ -48,4 +48,5 @@ returns-2 c v =
 pub moved-spec : {M : Type 1} → statement M
 moved-spec =
     tie.close
-    (tie.spec Inv-loop μ-loop (λ c κs. search needs) (λ c. search needs) (λ c. search needs) returns loop-holds (λ c κs. search needs) with-variable-requires (λ c. search needs) (λ c. search needs) loop-again returns-2)
+    (tie.spec Inv-loop μ-loop (λ c κs. search needs) (λ c. search needs) (λ c. search needs) returns loop-holds
+    (λ c κs. search needs) with-variable-requires (λ c. search needs) (λ c. search needs) loop-again returns-2)

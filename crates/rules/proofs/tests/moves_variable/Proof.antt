@@ -27,4 +27,6 @@ returns : tie.Need-returns Inv-loop μ-loop
 returns c = c .before .loop .inv .1 ∙ any-done _ _ _ (c .before .loop .inv .0) (c .loop-test .left)
 
 pub moves-variable-spec : {M : Type 1} → statement M
-moves-variable-spec = tie.close (tie.spec Inv-loop μ-loop loop-holds (λ c κs. search needs) (λ c. search needs) (λ c. search needs) loop-again returns)
+moves-variable-spec =
+    tie.close
+    (tie.spec Inv-loop μ-loop loop-holds (λ c κs. search needs) (λ c. search needs) (λ c. search needs) loop-again returns)

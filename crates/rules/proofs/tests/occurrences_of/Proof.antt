@@ -23,4 +23,7 @@ returns-3 c =
     (ap occursIn (sym (c .before .occurs .given .1) ∙ c .before .before .before .expr-shape .ensures) ∙ occurs-here _ _ _ _)
 
 pub occurrences-of-spec : {M : Type 1} → statement M
-occurrences-of-spec = tie.close (tie.spec (λ c κs. search needs) (λ c. search needs) (λ c. search needs) returns (λ c κs. search needs) (λ c. search needs) (λ c. search needs) returns-2 returns-3)
+occurrences-of-spec =
+    tie.close
+    (tie.spec (λ c κs. search needs) (λ c. search needs) (λ c. search needs) returns (λ c κs. search needs) (λ c. search needs)
+    (λ c. search needs) returns-2 returns-3)

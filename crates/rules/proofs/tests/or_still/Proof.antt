@@ -18,4 +18,6 @@ returns c s t =
     ∙ or-itself (a .n) s t rest
 
 pub or-still-spec : {M : Type 1} → statement M
-or-still-spec = tie.close (tie.spec (λ c κs. search needs) (λ c κs. search needs) (λ c. search needs) (λ c κs. search needs) returns)
+or-still-spec =
+    tie.close
+    (tie.spec (λ c κs. search needs) (λ c κs. search needs) (λ c. search needs) (λ c κs. search needs) returns)

@@ -20,4 +20,7 @@ returns c =
     at-itself n s l (has (a .falsity) s) _ (λ t. must (wordRelation n (a .work .now) (a .own .q) s t)) (c .before .before .before .before .diagonal .ensures n s))
 
 pub skips-spec : {M : Type 1} → statement M
-skips-spec = tie.close (tie.spec (λ c κs. search needs) (λ c κs. search needs) (λ c. search needs) (λ c κs. search needs) (λ c κs. search needs) returns)
+skips-spec =
+    tie.close
+    (tie.spec (λ c κs. search needs) (λ c κs. search needs) (λ c. search needs) (λ c κs. search needs) (λ c κs. search needs)
+    returns)

@@ -1,0 +1,123 @@
+//! The pairs that are measured.
+
+use generate::author::operate;
+use generate::derivation::Derivation;
+use generate::derive::{least, Demand};
+use generate::pairs::Pair;
+use generate::programs::{count_down, count_up, in_order, number, parallel, read, store, when};
+use reference::language::{Handler, Operation, Statement};
+use reference::space::Space;
+use reference::states::{Relation, StateSet};
+use reference::{Place, Verdict};
+
+pub struct Row {
+    pub name: &'static str,
+    pub handler: Vec<u8>,
+    pub proof: Vec<u8>,
+    /// Whether the verdict is the one that the row is about.
+    pub expected: fn(Verdict) -> bool,
+}
+
+pub fn all() -> Vec<Row> {
+    let large = large();
+    let (handler, proof) = (&large.handler_file.bytes, &large.proof_file.bytes);
+    let cut = handler[..handler.len() - 1].to_vec();
+    vec![
+        accepted("typical: N = 16, about 20 nodes", typical()),
+        accepted("large: N = 64, near 127 nodes, parallels and loops", large.clone()),
+        accepted("parallel at N = 64, R and each G empty", idle_parallel(&Relation::none())),
+        accepted("parallel at N = 64, reach a chain of 63 pairs", idle_parallel(&chain())),
+        accepted("31 stores of 31-node expressions", expressions()),
+        refused_at_last(large.clone()),
+        Row {
+            name: "large, handler file a byte short",
+            handler: cut,
+            proof: proof.clone(),
+            expected: |verdict| matches!(verdict, Verdict::Refused { number: 10, .. }),
+        },
+    ]
+}
+
+fn accepted(name: &'static str, pair: Pair) -> Row {
+    Row {
+        name,
+        handler: pair.handler_file.bytes,
+        proof: pair.proof_file.bytes,
+        expected: |verdict| matches!(verdict, Verdict::Accepted(_)),
+    }
+}
+
+/// The derivation from every state, with the least tables or with coarse postconditions.
+fn derive(sizes: &[usize], statement: &Statement, r: &Relation, coarse: bool) -> Derivation {
+    let space = Space::new(sizes);
+    let demand = Demand { p: space.all(), r, coarse };
+    least(&space, statement, demand).expect("the row is made to hold")
+}
+
+fn pair(sizes: &[usize], statement: Statement, derivation: Derivation) -> Pair {
+    Pair::new(Handler { space: Space::new(sizes), statement }, derivation)
+        .expect("the row is made to fit")
+}
+
+fn typical() -> Pair {
+    let sizes = [4, 4];
+    let guarded = when(operate(Operation::Less, read(0), number(2)), store(0, number(3)));
+    let block = parallel(count_down(0), count_up(1, 3));
+    let copy = store(1, read(0));
+    let statement = in_order(vec![block.clone(), guarded, copy, Statement::Nil, block]);
+    let root = derive(&sizes, &statement, &Relation::none(), true);
+    pair(&sizes, statement, root)
+}
+
+/// Ten parallels of two loops each, and a weaken over every node.
+fn large() -> Pair {
+    let sizes = [4, 4, 4];
+    let blocks = [parallel(count_down(0), count_up(1, 3)), parallel(count_down(1), count_up(2, 3))];
+    let more = (0..10).map(|index| blocks[index % 2].clone());
+    let statement = in_order(more.chain([Statement::Nil, Statement::Nil]).collect());
+    let root = derive(&sizes, &statement, &Relation::none(), true).doubled().under_weaken();
+    pair(&sizes, statement, root)
+}
+
+/// Two sides that do nothing beside others that do this.
+fn idle_parallel(r: &Relation) -> Pair {
+    let sizes = [8, 8];
+    let statement = parallel(Statement::Nil, Statement::Nil);
+    let root = derive(&sizes, &statement, r, false);
+    pair(&sizes, statement, root)
+}
+
+fn chain() -> Relation {
+    Relation::of_rows((0..63).map(|s| StateSet::NONE.with(s + 1)))
+}
+
+/// Stores of c + d − d + d − d and so on in c, and the like in d: no value changes.
+fn expressions() -> Pair {
+    let sizes = [8, 8];
+    let still = |variable: usize| {
+        let other = 1 - variable;
+        let value = (1..16).fold(read(variable), |sum, leaf| match leaf {
+            15 => operate(Operation::Add, sum, number(0)),
+            leaf if leaf % 2 == 1 => operate(Operation::Add, sum, read(other)),
+            _ => operate(Operation::Subtract, sum, read(other)),
+        });
+        store(variable, value)
+    };
+    let statement = in_order((0..31).map(|index| still(index % 2)).collect());
+    let root = derive(&sizes, &statement, &Relation::none(), true);
+    pair(&sizes, statement, root)
+}
+
+/// The large pair with a last node that promises nothing.
+fn refused_at_last(large: Pair) -> Row {
+    let mut root = large.derivation;
+    let path = root.paths().pop().expect("there is a root");
+    root.at(&path).tables.q = Relation::none();
+    let pair = Pair::new(large.handler, root).expect("there is room for one table more");
+    Row {
+        name: "large, refused at its last node",
+        handler: pair.handler_file.bytes,
+        proof: pair.proof_file.bytes,
+        expected: |verdict| verdict == Verdict::Refused { number: 35, place: Place::Node(126) },
+    }
+}

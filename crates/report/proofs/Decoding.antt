@@ -1,0 +1,35 @@
+-- A verdict can be read off its code: quotients and remainders by powers of two give its parts back.
+use Prim.Native.Nat.{ℕ, _+_, _*_, _/_, _%_, _^_, _<_}
+use mathlib.Core.Path.{_≡_, refl}
+use mathlib.Core.Bool.{false}
+use native.Mathlib.Omega.{arith}
+use lib.Dec.{ltb}
+use borrow.Author.Tests.{lt-ltb, le-ltb}
+use Rattle.rules.specs.Verdicts.{refusedAt}
+use Rattle.rules.specs.declared.Place.{Place}
+use Rattle.rules.specs.declared.Place.the-variants.{Bit, Node}
+use Rattle.rules.specs.declared.Verdict.{Verdict}
+use Rattle.rules.specs.declared.Verdict.the-variants.{Accepted, Refused}
+use Rattle.report.specs.Code.{kindOf, indexOf, codeOf, Lossless, decoded}
+
+-- The parts of a refusal's code.
+parts : (number kind index : ℕ) → 0 < number → number < 2 ^ 31 → kind < 2 → index < 2 ^ 32
+    → (code : ℕ) → code ≡ (number % 2 ^ 31 * 2 + kind) * 2 ^ 32 + index % 2 ^ 32
+    → (ltb code (2 ^ 32) ≡ false) × (code / 2 ^ 33 ≡ number) × (code / 2 ^ 32 % 2 ≡ kind) × (code % 2 ^ 32 ≡ index)
+parts number kind index positive below k i code e = (le-ltb code (2 ^ 32) (omega arith), omega arith, omega arith, omega arith)
+
+refused-back : (number : ℕ) (place : Place) → 0 < number → number < 2 ^ 31 → indexOf place < 2 ^ 32
+    → decoded (codeOf (refusedAt number place)) ≡ refusedAt number place
+unfolding decoded codeOf kindOf indexOf
+refused-back number (Bit i) positive below h =
+    let p = parts number 0 i positive below (omega arith) h _ refl in
+    rw (p .0, p .1, p .2, p .3)
+refused-back number (Node k) positive below h =
+    let p = parts number 1 k positive below (omega arith) h _ refl in
+    rw (p .0, p .1, p .2, p .3)
+
+-- The code of a verdict of document 01 determines it.
+pub decoded-back : (v : Verdict) → Lossless v → decoded (codeOf v) ≡ v
+unfolding decoded codeOf
+decoded-back (Accepted n) h = rw (lt-ltb n (2 ^ 32) h)
+decoded-back (Refused f) h = refused-back (f .number) (f .place) (h .0) (h .1) (h .2)

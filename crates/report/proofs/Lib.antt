@@ -1,0 +1,5 @@
+pub mod Decoding
+pub mod Decimal
+pub mod Writing
+pub mod Lines
+pub mod Cases

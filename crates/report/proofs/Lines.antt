@@ -1,0 +1,46 @@
+-- Every line fits 64 bytes, and what is written fits its buffer.
+use Prim.Native.Nat.{ℕ, _^_, _≤_, _<_}
+use mathlib.Core.Path.{_≡_, refl}
+use mathlib.Core.Bool.{Bool, true, false, cond}
+use mathlib.Core.List.{List, _++_}
+use native.Mathlib.Omega.{arith}
+use lib.ListN.{length, length-append}
+use lib.Dec.{leb}
+use borrow.Author.Tests.{leb-true}
+use Rattle.rules.specs.declared.Place.{Place}
+use Rattle.rules.specs.declared.Place.the-variants.{Bit, Node}
+use Rattle.rules.specs.declared.Verdict.{Verdict}
+use Rattle.rules.specs.declared.Verdict.the-variants.{Accepted, Refused}
+use Rattle.report.specs.Code.{indexOf}
+use Rattle.report.specs.Line.{ascii, decimal, placeText, wordsOf, lineOf, lineLength, Held}
+use Rattle.report.proofs.Decimal.{decimal-short}
+
+place-short : (place : Place) → indexOf place < 2 ^ 64 → length (placeText place) ≤ 26
+unfolding placeText indexOf
+place-short (Bit i) h = omega (arith, decimal-short i h)
+place-short (Node k) h = omega (arith, decimal-short k h)
+
+words-short : (v : Verdict) → Held v → length (wordsOf v) ≤ 54
+unfolding wordsOf
+words-short (Accepted n) h = omega (arith, decimal-short n h)
+words-short (Refused f) h =
+    omega (
+      arith,
+      length-append (ascii "refused " ++ decimal (f .number)) (placeText (f .place)),
+      decimal-short (f .number) (h .0),
+      place-short (f .place) (h .1),
+    )
+
+-- 64 bytes hold every line.
+pub line-short : (v : Verdict) → Held v → length (lineOf v) ≤ 64
+unfolding lineOf
+line-short v h = rw length-append (omega (arith, words-short v h))
+
+-- No more is written than there is room for.
+pub line-within : (v : Verdict) (out : List ℕ) → lineLength v out ≤ length out
+unfolding lineLength
+line-within v out = go (leb (length (lineOf v)) (length out)) refl
+  where
+    go : (b : Bool) → leb (length (lineOf v)) (length out) ≡ b → cond b (length (lineOf v)) 0 ≤ length out
+    go true e = leb-true (length (lineOf v)) (length out) e
+    go false e = omega arith

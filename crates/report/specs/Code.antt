@@ -1,0 +1,38 @@
+-- The verdict as one number of 64 bits, for hosts that call over the C interface.
+use Prim.Native.Nat.{ℕ, _+_, _*_, _/_, _%_, _^_, _<_}
+use mathlib.Core.Bool.{cond}
+use lib.Dec.{ltb, eqb}
+use Rattle.rules.specs.declared.Place.{Place}
+use Rattle.rules.specs.declared.Place.the-variants.{Bit, Node}
+use Rattle.rules.specs.declared.Verdict.{Verdict}
+use Rattle.rules.specs.declared.Verdict.the-variants.{Accepted, Refused}
+
+-- The kind of a place: 1 for a node, 0 for a bit.
+unfoldable pub kindOf : Place → ℕ
+kindOf (Bit i) = 0
+kindOf (Node k) = 1
+
+unfoldable pub indexOf : Place → ℕ
+indexOf (Bit i) = i
+indexOf (Node k) = k
+
+-- An accepted pair's number is its step number. A refusal's upper 32 bits are its number and the kind of its place, its
+-- lower 32 bits the place; of a number or place that is longer, the lower bits.
+unfoldable pub codeOf : Verdict → ℕ
+codeOf (Accepted n) = n
+codeOf (Refused f) = (f .number % 2 ^ 31 * 2 + kindOf (f .place)) * 2 ^ 32 + indexOf (f .place) % 2 ^ 32
+
+-- Where no bit is cut off; document 01's numbers are 1 to 80, and its places far below 2 ^ 32.
+abbrev pub Lossless : Verdict → Type 0
+Lossless (Accepted n) = n < 2 ^ 32
+Lossless (Refused f) = (0 < f .number) × (f .number < 2 ^ 31) × (indexOf (f .place) < 2 ^ 32)
+
+-- The verdict that a number stands for.
+unfoldable pub decoded : ℕ → Verdict
+decoded code =
+    cond (ltb code (2 ^ 32)) (Accepted code)
+    (Refused
+    (record {
+      number = code / 2 ^ 33;
+      place = cond (eqb (code / 2 ^ 32 % 2) 1) (Node (code % 2 ^ 32)) (Bit (code % 2 ^ 32));
+    }))

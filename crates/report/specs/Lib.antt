@@ -1,0 +1,4 @@
+-- The verdict as the check program's line and as the C interface's number.
+pub mod Code
+pub mod Line
+pub mod Put

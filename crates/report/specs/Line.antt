@@ -1,0 +1,56 @@
+-- Document 01, "Cases": the check program prints one line in full: the word and the step number, or the number, `node` or
+-- `bit`, and the place. A text is the list of its bytes.
+use Prim.Native.Nat.{ℕ, zero, suc, _+_, _/_, _%_, _^_, _<_}
+use Prim.Native.Char.{code}
+use Prim.Native.String.{String, [] as []ˢ, _∷_ as _∷ˢ_}
+use mathlib.Core.Bool.{cond}
+use mathlib.Core.List.{List, [], _∷_, _++_}
+use lib.ListN.{length, drop}
+use lib.Dec.{leb, ltb}
+use Rattle.rules.specs.declared.Place.{Place}
+use Rattle.rules.specs.declared.Place.the-variants.{Bit, Node}
+use Rattle.rules.specs.declared.Verdict.{Verdict}
+use Rattle.rules.specs.declared.Verdict.the-variants.{Accepted, Refused}
+use Rattle.report.specs.Code.{indexOf}
+
+-- The bytes of a text of ASCII characters.
+abbrev pub ascii : String → List ℕ
+ascii []ˢ = []
+ascii (c ∷ˢ s) = code c ∷ ascii s
+
+-- The digits of a number, the most significant first: those of n / 10, if n has more than one, and then the last.
+unfoldable pub digits : ℕ → ℕ → List ℕ
+digits zero n = []
+digits (suc fuel) n =
+    let front = digits fuel (n / 10) in
+    cond (ltb n 10) [] front ++ ((48 + n % 10) ∷ [])
+
+-- A number in decimal, with no leading zeros; 0 is `0`. It has at most n + 1 digits.
+unfoldable pub decimal : ℕ → List ℕ
+decimal n = digits (suc n) n
+
+-- `node` or `bit`, then the place.
+unfoldable pub placeText : Place → List ℕ
+placeText (Bit i) = ascii " bit " ++ decimal i
+placeText (Node k) = ascii " node " ++ decimal k
+
+-- The line without its end.
+unfoldable pub wordsOf : Verdict → List ℕ
+wordsOf (Accepted n) = ascii "accepted " ++ decimal n
+wordsOf (Refused f) = (ascii "refused " ++ decimal (f .number)) ++ placeText (f .place)
+
+-- The line, in full, ends in one newline.
+unfoldable pub lineOf : Verdict → List ℕ
+lineOf v = wordsOf v ++ ascii "\n"
+
+-- What the code's types hold: every number is below 2 ^ 64.
+abbrev pub Held : Verdict → Type 0
+Held (Accepted n) = n < 2 ^ 64
+Held (Refused f) = (f .number < 2 ^ 64) × (indexOf (f .place) < 2 ^ 64)
+
+-- A buffer after the line was written at its front, and how many bytes that were. Where it has no room, nothing is written.
+unfoldable pub lineInto : Verdict → List ℕ → List ℕ
+lineInto v out = cond (leb (length (lineOf v)) (length out)) (lineOf v ++ drop (length (lineOf v)) out) out
+
+unfoldable pub lineLength : Verdict → List ℕ → ℕ
+lineLength v out = cond (leb (length (lineOf v)) (length out)) (length (lineOf v)) 0

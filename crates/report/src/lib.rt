@@ -1,0 +1,107 @@
+// A verdict as the check program's line and as one number.
+ghost use mathlib.Core.Path.{_≡_};
+ghost use Prim.Native.Nat.{_+_, _≤_};
+ghost use mathlib.Core.List.{_++_};
+ghost use lib.ListN.{length};
+ghost use Rattle.report.specs.Code.{codeOf};
+ghost use Rattle.report.specs.Line.{decimal, placeText, wordsOf, lineInto, lineLength};
+ghost use Rattle.report.specs.Put.{Put};
+use rules::Place;
+use rules::Verdict;
+
+const HALF: u64 = 2147483648;
+
+const WORD: u64 = 4294967296;
+
+// The verdict as one number, by which a host learns it over the C interface.
+pub fn code_of(v: Verdict) -> u64
+    ensures { λ r. ⌜ r ≡ codeOf v ⌝ }
+{
+    match v {
+        Verdict::Accepted(steps) => steps as u64,
+        Verdict::Refused(fault) => {
+            let number = fault.number as u64 % HALF * 2;
+            let place = fault.place;
+            match place {
+                Place::Bit(i) => number * WORD + i as u64 % WORD,
+                Place::Node(k) => (number + 1) * WORD + k as u64 % WORD,
+            }
+        }
+    }
+}
+
+// Puts a text at a place that has room for it, and answers where it ends.
+fn put(out: &mut [u8], at: usize, text: &[u8]) -> usize
+    requires { ⌜ at + length (now text) ≤ length (now out) ⌝ }
+    ensures { λ r. ⌜ Put (now (out .entry)) at (now (text .entry)) (now (out .exit)) r ⌝ }
+{
+    for k in 0..text.len() {
+        out[at + k] = text[k];
+    }
+    at + text.len()
+}
+
+// Puts a number in decimal: all digits but the last, then the last.
+fn put_number(out: &mut [u8], at: usize, n: u64) -> usize
+    requires { ⌜ at + length (decimal n) ≤ length (now out) ⌝ }
+    ensures { λ r. ⌜ Put (now (out .entry)) at (decimal n) (now (out .exit)) r ⌝ }
+{
+    let digit = [48 + (n % 10) as u8];
+    if n < 10 {
+        return put(out, at, &digit);
+    }
+    let last = put_number(out, at, n / 10);
+    put(out, last, &digit)
+}
+
+// Puts a word and the number that it names, of at most 20 digits.
+fn put_named(out: &mut [u8], at: usize, word: &[u8], n: u64) -> usize
+    requires { ⌜ at + length (now word) + 20 ≤ length (now out) ⌝ }
+    ensures { λ r. ⌜ Put (now (out .entry)) at (now (word .entry) ++ decimal n) (now (out .exit)) r ⌝ }
+    ensures { λ r. ⌜ r ≤ at + length (now (word .entry)) + 20 ⌝ }
+{
+    let next = put(out, at, word);
+    put_number(out, next, n)
+}
+
+// Puts `bit` or `node` and the place.
+fn put_place(out: &mut [u8], at: usize, place: Place) -> usize
+    requires { ⌜ at + 26 ≤ length (now out) ⌝ }
+    ensures { λ r. ⌜ Put (now (out .entry)) at (placeText place) (now (out .exit)) r ⌝ }
+    ensures { λ r. ⌜ r ≤ at + 26 ⌝ }
+{
+    match place {
+        Place::Bit(i) => put_named(out, at, b" bit ", i as u64),
+        Place::Node(k) => put_named(out, at, b" node ", k as u64),
+    }
+}
+
+// Puts the line without its end at the front.
+fn put_words(out: &mut [u8], v: Verdict) -> usize
+    requires { ⌜ 54 ≤ length (now out) ⌝ }
+    ensures { λ r. ⌜ Put (now (out .entry)) 0 (wordsOf v) (now (out .exit)) r ⌝ }
+    ensures { λ r. ⌜ r ≤ 54 ⌝ }
+{
+    match v {
+        Verdict::Accepted(steps) => put_named(out, 0, b"accepted ", steps as u64),
+        Verdict::Refused(fault) => {
+            let place = fault.place;
+            let next = put_named(out, 0, b"refused ", fault.number as u64);
+            put_place(out, next, place)
+        }
+    }
+}
+
+// Writes the line at the front of `out` and answers its length, or writes nothing and answers 0 where it has no room.
+pub fn write_line(v: Verdict, out: &mut [u8]) -> usize
+    ensures { λ r. ⌜ (r ≡ lineLength v (now (out .entry))) × (now (out .exit) ≡ lineInto v (now (out .entry))) ⌝ }
+{
+    let mut line = [0u8; 64];
+    let end = put_words(&mut line, v);
+    let n = put(&mut line, end, b"\n");
+    if n <= out.len() {
+        put(out, 0, &line[..n])
+    } else {
+        0
+    }
+}

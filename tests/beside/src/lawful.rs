@@ -1,0 +1,93 @@
+//! What document 01 says of every call, whatever its files are.
+
+use reference::{Place, Verdict, TABLE_WORDS};
+
+/// The numbers that a refusal can have.
+pub const NUMBERS: [u32; 45] = [
+    1, 2, 10, 11, 12, 13, 14, 15, 16, 17, 18, 20, 21, 22, 23, 24, 25, 30, 31, 32, 33, 34, 35, 40,
+    41, 42, 43, 45, 46, 50, 51, 52, 53, 54, 55, 56, 60, 61, 65, 66, 70, 71, 72, 73, 80,
+];
+
+/// Whether a call may end so, with the reason where it may not.
+pub fn call(
+    handler: &[u8],
+    proof: &[u8],
+    before: &[u64],
+    verdict: Verdict,
+    after: &[u64],
+) -> Result<(), String> {
+    match verdict {
+        Verdict::Accepted(_) => tables(handler, proof, after)?,
+        Verdict::Refused { number: 1 | 2, .. } if before != after => {
+            return Err("a fault of the host left other words".into());
+        }
+        Verdict::Refused { number, place } => {
+            refusal(number, place, handler.len() * 8, proof.len() * 8)?;
+            if number > 2 && after[..TABLE_WORDS].iter().any(|word| *word != 0) {
+                return Err("a refusal left words that are not 0".into());
+            }
+        }
+    }
+    if after.len() > TABLE_WORDS && after[TABLE_WORDS..] != before[TABLE_WORDS..] {
+        return Err("words past the tables have changed".into());
+    }
+    Ok(())
+}
+
+/// Whether the number exists and its place is of the right sort.
+fn refusal(number: u32, place: Place, handler: usize, proof: usize) -> Result<(), String> {
+    let fits = match (number, place) {
+        (1 | 2 | 11, Place::Bit(bit)) => bit == 0,
+        (10, Place::Bit(bit)) => bit as usize == handler,
+        (20, Place::Bit(bit)) => bit as usize == proof,
+        (21, Place::Bit(bit)) => bit == 0 || bit == 5,
+        (12..=18, Place::Bit(bit)) => (bit as usize) < handler,
+        (22..=25, Place::Bit(bit)) => (bit as usize) < proof,
+        (80, Place::Node(node)) => node == 0,
+        (30..=73, Place::Node(node)) => node < 127,
+        _ => false,
+    };
+    if fits && NUMBERS.contains(&number) {
+        Ok(())
+    } else {
+        Err("no fault has such a number and place".into())
+    }
+}
+
+/// Whether the words are the tables, each bit taken straight from the proof file.
+fn tables(handler: &[u8], proof: &[u8], words: &[u64]) -> Result<(), String> {
+    let sizes = (0..number(handler, 0, 3)).map(|variable| number(handler, 3 + 5 * variable, 5));
+    let states: usize = sizes.product();
+    let (sets, relations) = (number(proof, 0, 5), number(proof, 5, 5));
+    let row = |index: usize| -> u64 {
+        let first = 10 + index * states;
+        (0..states).map(|state| (number(proof, first + state, 1) as u64) << state).sum()
+    };
+    for (index, word) in words[..TABLE_WORDS].iter().enumerate() {
+        let expected = if index < 16 {
+            if index < sets {
+                row(index)
+            } else {
+                0
+            }
+        } else {
+            let (relation, state) = ((index - 16) / 64, (index - 16) % 64);
+            let there = relation < relations && state < states;
+            if there {
+                row(sets + relation * states + state)
+            } else {
+                0
+            }
+        };
+        if *word != expected {
+            return Err(format!("word {index} is {word:X}, not {expected:X}"));
+        }
+    }
+    Ok(())
+}
+
+/// The bits from `first` on as a number, most significant first.
+fn number(bytes: &[u8], first: usize, width: usize) -> usize {
+    let bit = |bit: usize| usize::from(bytes[bit / 8] >> (7 - bit % 8) & 1);
+    (first..first + width).fold(0, |number, place| number * 2 + bit(place))
+}

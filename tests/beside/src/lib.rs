@@ -1,0 +1,82 @@
+//! Runs checkers beside each other and against what document 01 says of every call.
+
+pub mod answer;
+pub mod lawful;
+#[cfg(feature = "proved")]
+pub mod proved;
+
+use reference::{Place, Verdict};
+
+/// Something that decides two files and leaves tables in the work words.
+pub trait Checker {
+    fn name(&self) -> &'static str;
+    fn check(&self, handler: &[u8], proof: &[u8], work: &mut [u64]) -> Verdict;
+}
+
+/// The checker of the crate `reference`.
+pub struct Reference;
+
+impl Checker for Reference {
+    fn name(&self) -> &'static str {
+        "reference"
+    }
+
+    fn check(&self, handler: &[u8], proof: &[u8], work: &mut [u64]) -> Verdict {
+        reference::check(handler, proof, work)
+    }
+}
+
+/// Every checker of this build, the reference first.
+pub fn checkers() -> Vec<Box<dyn Checker>> {
+    vec![
+        Box::new(Reference),
+        #[cfg(feature = "proved")]
+        Box::new(proved::Proved),
+    ]
+}
+
+/// The words of a call beyond the tables, which no call may change.
+pub const SPARE_WORDS: usize = 8;
+
+/// Decides two files by every checker, with room for the tables and a few words more.
+pub fn judge(handler: &[u8], proof: &[u8]) -> Verdict {
+    judge_with(handler, proof, reference::TABLE_WORDS + SPARE_WORDS)
+}
+
+/// Decides two files by every checker with so many work words, and panics where a checker
+/// breaks document 01 or where two differ in the verdict or in any word.
+pub fn judge_with(handler: &[u8], proof: &[u8], words: usize) -> Verdict {
+    let before: Vec<u64> = (0..words as u64).map(mark).collect();
+    let mut first: Option<(Verdict, Vec<u64>)> = None;
+    for checker in checkers() {
+        let mut work = before.clone();
+        let verdict = checker.check(handler, proof, &mut work);
+        let files = || format!("{}: handler {handler:02X?} proof {proof:02X?}", checker.name());
+        if let Err(why) = lawful::call(handler, proof, &before, verdict, &work) {
+            panic!("{why}: {verdict:?} {}", files());
+        }
+        match &first {
+            None => first = Some((verdict, work)),
+            Some((known, words)) => {
+                assert_eq!(verdict, *known, "{}", files());
+                assert!(work == *words, "work words differ: {}", files());
+            }
+        }
+    }
+    first.expect("the reference is always there").0
+}
+
+/// A refusal at a bit.
+pub fn at_bit(number: u32, bit: u32) -> Verdict {
+    Verdict::Refused { number, place: Place::Bit(bit) }
+}
+
+/// A refusal at a node.
+pub fn at_node(number: u32, node: u32) -> Verdict {
+    Verdict::Refused { number, place: Place::Node(node) }
+}
+
+/// What word `index` holds before a call: never 0, and no two alike.
+fn mark(index: u64) -> u64 {
+    (index + 1).wrapping_mul(0x9E37_79B9_7F4A_7C15) | 1
+}

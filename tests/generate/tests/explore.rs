@@ -1,0 +1,133 @@
+//! Every run of small accepted pairs keeps demand 3, and the explorer sees what breaks it.
+
+use generate::author::operate;
+use generate::damage::damaged;
+use generate::explore::{explore, Breach, Exploration, Promise};
+use generate::pairs::{accepted, Scale};
+use generate::programs::{count_down, number, parallel, read, sequence, store};
+use generate::random::Random;
+use reference::language::{Handler, Operation, Statement};
+use reference::space::Space;
+use reference::states::{Relation, StateSet};
+use reference::{check, handler_file, proof_file, Verdict, TABLE_WORDS};
+
+const MOST_MOMENTS: usize = 60_000;
+
+/// Explores a pair of files if it is accepted; what is promised is read from the files.
+fn explore_files(handler: &[u8], proof: &[u8]) -> Option<Exploration> {
+    let mut work = vec![0; TABLE_WORDS];
+    let Verdict::Accepted(steps) = check(handler, proof, &mut work) else { return None };
+    let handler = handler_file::read(handler).expect("it was accepted");
+    let proof = proof_file::read(proof, handler.space.states()).expect("it was accepted");
+    let root = &proof.root;
+    let relation = |number: usize| proof.relations[number].clone();
+    let [r, g, q] = [root.r, root.g, root.q].map(relation);
+    let promise = Promise { p: proof.sets[root.p], r, g, q, steps };
+    Some(explore(&handler, &promise, MOST_MOMENTS))
+}
+
+/// How many own steps the longest run makes, or none where the exploration was given up.
+fn longest_run(exploration: Exploration, handler: &[u8], proof: &[u8]) -> Option<u32> {
+    match exploration {
+        Exploration::Broken(breach) => panic!("{breach:?} {handler:02X?} {proof:02X?}"),
+        Exploration::Holds { longest, .. } => Some(longest),
+        Exploration::TooLarge => None,
+    }
+}
+
+/// Pairs as generated, and those of their damaged versions that are still accepted.
+#[test]
+fn accepted_pairs_keep_demand_3() {
+    let mut random = Random::new(0xE1);
+    let (mut whole, mut damaged_too, mut long) = (0, 0, 0);
+    for _ in 0..600 {
+        let pair = accepted(&mut random, Scale::SMALL);
+        let (handler, proof) = (&pair.handler_file.bytes, &pair.proof_file.bytes);
+        let exploration = explore_files(handler, proof).expect("a generated pair is accepted");
+        let longest = longest_run(exploration, handler, proof);
+        whole += usize::from(longest.is_some());
+        long += usize::from(longest > Some(10));
+        for _ in 0..12 {
+            let (handler, proof) = damaged(&mut random, &pair);
+            let explored = explore_files(&handler, &proof);
+            let longest = explored.and_then(|found| longest_run(found, &handler, &proof));
+            damaged_too += usize::from(longest.is_some());
+        }
+    }
+    assert!(whole > 500 && damaged_too > 1000 && long > 100, "{whole} {damaged_too} {long}");
+}
+
+fn handler(sizes: &[usize], statement: Statement) -> Handler {
+    Handler { space: Space::new(sizes), statement }
+}
+
+/// Everything is allowed but what a test takes away.
+fn lenient(handler: &Handler, steps: u32) -> Promise {
+    let all = handler.space.all();
+    let every = Relation::of_rows(vec![all; handler.space.states()]);
+    Promise { p: all, r: Relation::none(), g: every.clone(), q: every, steps }
+}
+
+fn without(relation: &Relation, s: usize, t: usize) -> Relation {
+    let mut left = relation.clone();
+    left.set_row(s, left.row(s).without(t));
+    left
+}
+
+/// d ← c + c takes 4 steps, and with c read as 0 and then as 1 it stores the odd value 1.
+#[test]
+fn reads_in_separate_steps() {
+    let sum = operate(Operation::Add, read(0), read(0));
+    let handler = handler(&[2, 3], store(1, sum));
+    let mut promise = lenient(&handler, 4);
+    assert!(matches!(explore(&handler, &promise, 1000), Exploration::Holds { longest: 4, .. }));
+    promise.steps = 3;
+    assert_eq!(explore(&handler, &promise, 1000), Exploration::Broken(Breach::Steps));
+    promise.steps = 4;
+    // From (0,0), with no interference, only (0,0) is reached: (1,1), state 4, is not.
+    promise.p = StateSet::NONE.with(0);
+    promise.q = without(&promise.q, 0, 4);
+    assert!(matches!(explore(&handler, &promise, 1000), Exploration::Holds { .. }));
+    promise.r.set_row(0, StateSet::NONE.with(3));
+    assert_eq!(explore(&handler, &promise, 1000), Exploration::Broken(Breach::Postcondition));
+}
+
+/// The test (c = 0) ∨ (c = 1) is true in both states, yet it can be read false.
+#[test]
+fn a_test_is_not_read_at_one_instant() {
+    let is = |value| operate(Operation::Equal, read(0), number(value));
+    let test = operate(Operation::Or, is(0), is(1));
+    let body = Statement::If(test, Box::new(store(1, number(1))));
+    let handler = handler(&[2, 2], body);
+    let mut promise = lenient(&handler, 100);
+    promise.p = StateSet::NONE.with(2);
+    promise.q = without(&without(&promise.q, 2, 0), 2, 2);
+    assert!(matches!(explore(&handler, &promise, 1000), Exploration::Holds { .. }));
+    promise.r.set_row(0, StateSet::NONE.with(2));
+    promise.r.set_row(2, StateSet::NONE.with(0));
+    assert_eq!(explore(&handler, &promise, 1000), Exploration::Broken(Breach::Postcondition));
+}
+
+/// The count from 3 down to 0 stays within its 28 steps.
+#[test]
+fn a_countdown_ends() {
+    let handler = handler(&[4], count_down(0));
+    let mut promise = lenient(&handler, 28);
+    assert!(matches!(explore(&handler, &promise, 9000), Exploration::Holds { longest: 28, .. }));
+    promise.g = without(&promise.g, 2, 1);
+    assert_eq!(explore(&handler, &promise, 9000), Exploration::Broken(Breach::Guarantee));
+    promise.steps = 27;
+    promise.g = lenient(&handler, 27).g;
+    assert_eq!(explore(&handler, &promise, 9000), Exploration::Broken(Breach::Steps));
+}
+
+/// A store out of range stands still, even where the other side still steps.
+#[test]
+fn a_store_out_of_range_stands_still() {
+    let handler = handler(
+        &[2, 2],
+        parallel(store(0, number(2)), sequence(store(1, number(1)), store(1, number(0)))),
+    );
+    let promise = lenient(&handler, 100);
+    assert_eq!(explore(&handler, &promise, 1000), Exploration::Broken(Breach::StandsStill));
+}

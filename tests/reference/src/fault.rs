@@ -1,0 +1,43 @@
+//! Verdicts, and the faults that refusals carry.
+
+/// Where a fault lies: a bit of the file that has it, or a node of the derivation.
+#[derive(Clone, Copy, PartialEq, Eq, Hash, Debug)]
+pub enum Place {
+    Bit(u32),
+    Node(u32),
+}
+
+/// A fault: its number in document 01 and its place.
+#[derive(Clone, Copy, PartialEq, Eq, Hash, Debug)]
+pub struct Fault {
+    pub number: u32,
+    pub place: Place,
+}
+
+impl Fault {
+    /// Positions stay far below 2^32: no file that is read has more than 131,072 bits.
+    pub fn at_bit(number: u32, bit: usize) -> Fault {
+        Fault { number, place: Place::Bit(bit as u32) }
+    }
+
+    pub fn at_node(number: u32, node: u32) -> Fault {
+        Fault { number, place: Place::Node(node) }
+    }
+}
+
+/// What the checker says of a pair of files.
+#[derive(Clone, Copy, PartialEq, Eq, Hash, Debug)]
+pub enum Verdict {
+    /// Accepted, with the step number.
+    Accepted(u32),
+    Refused {
+        number: u32,
+        place: Place,
+    },
+}
+
+impl From<Fault> for Verdict {
+    fn from(fault: Fault) -> Verdict {
+        Verdict::Refused { number: fault.number, place: fault.place }
+    }
+}

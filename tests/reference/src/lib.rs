@@ -1,0 +1,70 @@
+//! A second checker of handover handlers, written from document 01 alone.
+//!
+//! It builds ordinary trees from the two files and tries each condition as the document
+//! words it. It shares no code with the proved checker, so that agreement means something.
+
+pub mod conditions;
+pub mod fault;
+pub mod handler_file;
+pub mod language;
+pub mod proof_file;
+pub mod reader;
+pub mod space;
+pub mod states;
+pub mod step_number;
+
+pub use fault::{Fault, Place, Verdict};
+
+use proof_file::Proof;
+
+/// The words of the tables: 16 sets, then 16 relations of 64 rows.
+pub const TABLE_WORDS: usize = 16 + 16 * 64;
+
+/// The longest file that is read.
+pub const LONGEST_FILE: usize = 16_384;
+
+/// Decides a handler and its proof, and leaves the proof's tables in `work`.
+///
+/// Faults of the host (1 and 2) leave `work` as it was. Every other refusal clears the table
+/// words, so that no half-read table outlives the call. Words past the tables never change.
+pub fn check(handler: &[u8], proof: &[u8], work: &mut [u64]) -> Verdict {
+    if work.len() < TABLE_WORDS {
+        return Fault::at_bit(1, 0).into();
+    }
+    if handler.len() > LONGEST_FILE || proof.len() > LONGEST_FILE {
+        return Fault::at_bit(2, 0).into();
+    }
+    work[..TABLE_WORDS].fill(0);
+    match decide(handler, proof) {
+        Ok((steps, proof)) => {
+            write_tables(&proof, work);
+            Verdict::Accepted(steps)
+        }
+        Err(fault) => fault.into(),
+    }
+}
+
+/// The order of document 01: handler file, proof file, nodes, and 80 last.
+fn decide(handler: &[u8], proof: &[u8]) -> Result<(u32, Proof), Fault> {
+    let handler = handler_file::read(handler)?;
+    let proof = proof_file::read(proof, handler.space.states())?;
+    conditions::examine(&handler, &proof)?;
+    let steps = step_number::of(&handler.statement, handler.space.states());
+    match u32::try_from(steps) {
+        Ok(steps) => Ok((steps, proof)),
+        Err(_) => Err(Fault::at_node(80, 0)),
+    }
+}
+
+/// Word i is set i; word 16 + 64r + s is row s of relation r. The caller has cleared the rest.
+fn write_tables(proof: &Proof, work: &mut [u64]) {
+    for (word, set) in work.iter_mut().zip(&proof.sets) {
+        *word = set.0;
+    }
+    for (number, relation) in proof.relations.iter().enumerate() {
+        let first = 16 + 64 * number;
+        for (word, row) in work[first..first + 64].iter_mut().zip(relation.rows()) {
+            *word = row.0;
+        }
+    }
+}
