@@ -9,10 +9,10 @@ fn main() {
     }
     let package = std::env::var("CARGO_MANIFEST_DIR").expect("cargo sets it");
     let folder = Path::new(&package).join("../../target/staticlib");
-    let library = folder.join("libhandover.a");
+    let library = folder.join("libhost.a");
     println!("cargo:rerun-if-changed={}", library.display());
     // Said here, since the linker's own message would not say how to make the library.
-    assert!(library.exists(), "{} is missing: run `rt staticlib handover`", library.display());
+    assert!(library.exists(), "{} is missing: run `rt staticlib host`", library.display());
     println!("cargo:rustc-link-search=native={}", folder.display());
-    println!("cargo:rustc-link-lib=static=handover");
+    println!("cargo:rustc-link-lib=static=host");
 }

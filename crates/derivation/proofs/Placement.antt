@@ -40,29 +40,29 @@ nodes-one rule h K W d = by (eqb rule 4) (eqb rule 5)
     by false false = refl
 
 -- The parts of a node that is read without fault, where its children are read by `node`.
-record Child (f : Derivation → Derivation) (r : NodeRead) (d : Derivation) (after next : ℕ) : Type 0 where
-  child : Derivation
-  read : r ≡ whole child after next
-  is : d ≡ f child
+pub record Child (f : Derivation → Derivation) (r : NodeRead) (d : Derivation) (after next : ℕ) : Type 0 where
+  pub child : Derivation
+  pub read : r ≡ whole child after next
+  pub is : d ≡ f child
 
-child-of : (f : Derivation → Derivation) (r : NodeRead) (d : Derivation) (after next : ℕ) → onChild f r ≡ whole d after next → Child f r d after next
+pub child-of : (f : Derivation → Derivation) (r : NodeRead) (d : Derivation) (after next : ℕ) → onChild f r ≡ whole d after next → Child f r d after next
 child-of f (fault k place) d after next e = absurd (let z : _≡_ {A = ℕ} 0 1 = cc in omega arith)
 child-of f (whole c a n) d after next e =
     let same-a : a ≡ after = cc in
     let same-n : n ≡ next = cc in
     record { child = c; read = rw (same-a, same-n); is = cc }
 
-record Children (f : Derivation → Derivation → Derivation) (l : NodeRead) (node : ℕ → ℕ → NodeRead) (d : Derivation)
+pub record Children (f : Derivation → Derivation → Derivation) (l : NodeRead) (node : ℕ → ℕ → NodeRead) (d : Derivation)
     (after next : ℕ) : Type 0 where
-  left : Derivation
-  right : Derivation
-  between : ℕ
-  middle : ℕ
-  left-read : l ≡ whole left between middle
-  right-read : node between middle ≡ whole right after next
-  is : d ≡ f left right
+  pub left : Derivation
+  pub right : Derivation
+  pub between : ℕ
+  pub middle : ℕ
+  pub left-read : l ≡ whole left between middle
+  pub right-read : node between middle ≡ whole right after next
+  pub is : d ≡ f left right
 
-children-of : (f : Derivation → Derivation → Derivation) (l : NodeRead) (node : ℕ → ℕ → NodeRead) (d : Derivation) (after next : ℕ)
+pub children-of : (f : Derivation → Derivation → Derivation) (l : NodeRead) (node : ℕ → ℕ → NodeRead) (d : Derivation) (after next : ℕ)
     → onLeft f l node ≡ whole d after next → Children f l node d after next
 children-of f (fault k place) node d after next e = absurd (let z : _≡_ {A = ℕ} 0 1 = cc in omega arith)
 children-of f (whole l b m) node d after next e =

@@ -5,6 +5,7 @@ use mathlib.Core.Bool.{Bool}
 use Rattle.semantics.specs.States.{Machine}
 use Rattle.semantics.specs.Derivations.{Spec}
 use Rattle.semantics.specs.Conditions.{inSet, sameSet, sameRelation, liesIn, c31, c32, c33, c34if, c34while, c34sequence, c34parallel, c35, c46, c51, c52, c53, c54, c55, c56, c60, c61, c65, c66, c70, c71, c72, c73}
+use Rattle.semantics.specs.Checking.{skipOwes, sequenceOwes, parallelOwes, weakenOwes}
 use Rattle.rules.specs.Words.{bare}
 
 module _ (m : Machine) (c : Spec) where
@@ -19,10 +20,6 @@ module _ (m : Machine) (c : Spec) where
   pub bare-33 : c33 (bare (m .states)) c ≡ c33 m c
   unfolding c33 inSet
   bare-33 = refl
-
-  pub bare-35 : c35 (bare (m .states)) c ≡ c35 m c
-  unfolding c35 inSet
-  bare-35 = refl
 
   pub bare-34if : (T : ℕ → Bool) (d : Spec) → c34if (bare (m .states)) c T d ≡ c34if m c T d
   unfolding c34if sameSet sameRelation
@@ -60,44 +57,20 @@ module _ (m : Machine) (c : Spec) where
   unfolding c56 inSet
   bare-56 F W = refl
 
-  module _ (l r : Spec) where
-    pub bare-34sequence : c34sequence (bare (m .states)) c l r ≡ c34sequence m c l r
-    unfolding c34sequence sameSet sameRelation
-    bare-34sequence = refl
+-- The rules whose conditions look at tables alone see only how many states there are.
+module _ (m : Machine) (n : ℕ) (N-is : m .states ≡ n) where
+  pub bare-skip : (fits : Bool) (c : Spec) → skipOwes (bare n) fits c ≡ skipOwes m fits c
+  unfolding c31 c32 c33 c35 inSet
+  bare-skip fits c = rw (← N-is)
 
-    pub bare-34parallel : c34parallel (bare (m .states)) c l r ≡ c34parallel m c l r
-    unfolding c34parallel sameSet sameRelation
-    bare-34parallel = refl
+  pub bare-sequence : (fits : Bool) (c l r : Spec) → sequenceOwes (bare n) fits c l r ≡ sequenceOwes m fits c l r
+  unfolding c31 c32 c33 c34sequence c60 c61 inSet sameSet sameRelation
+  bare-sequence fits c l r = rw (← N-is)
 
-    pub bare-60 : c60 (bare (m .states)) c l r ≡ c60 m c l r
-    unfolding c60 inSet
-    bare-60 = refl
+  pub bare-parallel : (fits : Bool) (c l r : Spec) → parallelOwes (bare n) fits c l r ≡ parallelOwes m fits c l r
+  unfolding c31 c32 c33 c34parallel c65 c66 inSet liesIn sameSet sameRelation
+  bare-parallel fits c l r = rw (← N-is)
 
-    pub bare-61 : c61 (bare (m .states)) c l r ≡ c61 m c l r
-    unfolding c61 inSet
-    bare-61 = refl
-
-    pub bare-65 : c65 (bare (m .states)) c l r ≡ c65 m c l r
-    unfolding c65 liesIn inSet
-    bare-65 = refl
-
-    pub bare-66 : c66 (bare (m .states)) c l r ≡ c66 m c l r
-    unfolding c66 inSet
-    bare-66 = refl
-
-  module _ (d : Spec) where
-    pub bare-70 : c70 (bare (m .states)) c d ≡ c70 m c d
-    unfolding c70 inSet
-    bare-70 = refl
-
-    pub bare-71 : c71 (bare (m .states)) c d ≡ c71 m c d
-    unfolding c71 liesIn inSet
-    bare-71 = refl
-
-    pub bare-72 : c72 (bare (m .states)) c d ≡ c72 m c d
-    unfolding c72 liesIn inSet
-    bare-72 = refl
-
-    pub bare-73 : c73 (bare (m .states)) c d ≡ c73 m c d
-    unfolding c73 liesIn inSet
-    bare-73 = refl
+  pub bare-weaken : (c d : Spec) → weakenOwes (bare n) c d ≡ weakenOwes m c d
+  unfolding c31 c32 c33 c70 c71 c72 c73 inSet liesIn
+  bare-weaken c d = rw (← N-is)

@@ -12,12 +12,10 @@ use Rattle.states.proofs.Search.{and-right, and-both, bool-ext, any-intro, any-
 use Rattle.semantics.specs.States.{Machine}
 use Rattle.semantics.specs.Derivations.{Spec}
 use Rattle.semantics.specs.Conditions.{inSet, afterStore, inRange, toAfter, c40, c42, c43}
-use Rattle.handler.specs.declared.Header.the-variants.{Sizes}
-use Rattle.handler.specs.Header.{headerAt}
 use Rattle.rules.specs.Words.{bare}
 use Rattle.rules.specs.Places.{machineHere, exprHere, leadsTo, afterHere}
 use Rattle.rules.proofs.Searches.{inSet-intro, inSet-at}
-use Rattle.rules.proofs.TestsPlaces.{states-here, after-within}
+use Rattle.rules.proofs.TestsPlaces.{after-within}
 use Rattle.rules.proofs.TestsRows.{inSet-cong}
 
 -- The end of a store, where it is one of the n states.
@@ -36,11 +34,8 @@ module _ (m : Machine) (n : ℕ) where
       (λ h. inSet-intro n _ _ (λ t l e. subst (λ x. holds (must (g x)) ≡ true) (eqb-true s′ t e) h))
       ∙ sym (holds-named s′ (must (g s′)))
 
-module _ (bytes : List ℕ) (count n first : ℕ) (head : headerAt bytes ≡ Sizes count n first) (v at : ℕ) (rows : List ℕ)
+module _ (bytes : List ℕ) (n : ℕ) (states : machineHere bytes .states ≡ n) (v at : ℕ) (rows : List ℕ)
     (filled : (n s t : ℕ) → rel n rows s t ≡ (ltb s n && ltb t n && afterHere bytes v at s t)) where
-  states : machineHere bytes .states ≡ n
-  states = states-here bytes count n first head
-
   starts : (s : ℕ) → s < n → ltb s (machineHere bytes .states) ≡ true
   starts s l = rw states (lt-ltb s n l)
 

@@ -2,3 +2,5 @@
 pub mod Words
 pub mod Places
 pub mod Verdicts
+pub mod Walks
+pub mod Owing

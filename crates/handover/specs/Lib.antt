@@ -1,0 +1,2 @@
+-- The definitions that the contracts of the check program cite.
+pub mod Reading

@@ -1,0 +1,350 @@
+-- What the code makes of the words and of what it reads at a node and at its statement is what the definition says of the
+-- derivation and the statement that stand there.
+use Prim.Native.Nat.{ℕ, _≤_, _<_}
+use mathlib.Core.Path.{_≡_, refl, sym, _∙_, ap}
+use mathlib.Core.Bool.{Bool, true, false, cond, false≢true}
+use mathlib.Core.List.{List}
+use native.Mathlib.Omega.{arith}
+use lib.Dec.{ltb, eqb}
+use borrow.Author.Tests.{ltb-true, ltb-false, eqb-true, eq-eqb, ne-eqb}
+use Rattle.states.specs.Search.{must, holds}
+use Rattle.semantics.specs.Language.{Expr, Stmt, nil, assign, seq, par, if, while}
+use Rattle.semantics.specs.Derivations.{Names, Derivation, skip, assignment, sequence, parallel, conditional, iteration, weaken, namesOf, Tables, Spec, setOf, relationOf, specOf}
+use Rattle.semantics.specs.Conditions.{codeOf, targetOf, exprOf}
+use Rattle.semantics.specs.Checking.{skipOwes, assignmentOwes, sequenceOwes, parallelOwes, ifOwes, whileOwes, weakenOwes, firstBroken, owed}
+use Rattle.handler.specs.Statements as Stmts
+use Rattle.handler.specs.Shapes.{partOf, partAt}
+use Rattle.handler.proofs.Heads.{Sized, head-read}
+use Rattle.handler.proofs.Parts as Parts
+use Rattle.derivation.specs.declared.NodeHead.{NodeHead}
+use Rattle.derivation.specs.declared.NodeHead.the-variants.{Node, Fault}
+use Rattle.derivation.specs.Nodes.{NodeRead, whole, fault, alone, overTwo, overOne, nodeHead, wholeNode, endOf}
+use Rattle.derivation.proofs.Heads.{node-within}
+use Rattle.derivation.proofs.Placement as Placement
+use Rattle.rules.specs.declared.Counts.{Counts}
+use Rattle.rules.specs.declared.Names as Named
+use Rattle.rules.specs.declared.Own.{Own}
+use Rattle.rules.specs.declared.Own.the-variants.{Holds}
+use Rattle.rules.specs.Words.{bare, wordSet, wordRelation, wordSpec}
+use Rattle.rules.specs.Places.{machineHere, exprHere}
+use Rattle.rules.specs.Verdicts.{tablesOf}
+use Rattle.rules.specs.Walks.{stmtIn, isStmt, nodeIn, isNode, ownOf, guarded, Ready}
+use Rattle.rules.specs.Owing.{codeAt, targetAt, exprAt, namesAt, nextAt}
+use Rattle.rules.proofs.Bare.{bare-skip, bare-sequence, bare-parallel, bare-weaken}
+use Rattle.rules.proofs.Guards.{first-guarded, on-fit}
+use Rattle.rules.proofs.Loaded.{names, Known, set-loaded, relation-loaded, spec-loaded}
+
+-- The names of a node of each number of children.
+names-alone : (rule : ℕ) (h : Names) → namesOf (alone rule h) ≡ h
+names-alone rule h = by (eqb rule 0)
+  where
+    by : (b : Bool) → namesOf (cond b (skip h) (assignment h)) ≡ h
+    by true = refl
+    by false = refl
+
+names-two : (rule : ℕ) (h : Names) (l r : Derivation) → namesOf (overTwo rule h l r) ≡ h
+names-two rule h l r = by (eqb rule 2)
+  where
+    by : (b : Bool) → namesOf (cond b (sequence h l r) (parallel h l r)) ≡ h
+    by true = refl
+    by false = refl
+
+names-one : (rule : ℕ) (h : Names) (K W : ℕ) (d : Derivation) → namesOf (overOne rule h K W d) ≡ h
+names-one rule h K W d = by (eqb rule 4) (eqb rule 5)
+  where
+    by : (a b : Bool) → namesOf (cond a (conditional h d) (cond b (iteration h K W d) (weaken h d))) ≡ h
+    by true b = refl
+    by false true = refl
+    by false false = refl
+
+-- A statement by what stands at its place.
+code-of : (at : ℕ) (S : Stmt) → codeAt (partOf at S) ≡ codeOf S
+code-of at nil = refl
+code-of at (assign v e) = refl
+code-of at (seq l r) = refl
+code-of at (par l r) = refl
+code-of at (if e b) = refl
+code-of at (while e b) = refl
+
+target-of : (at : ℕ) (S : Stmt) → targetAt (partOf at S) ≡ targetOf S
+target-of at nil = refl
+target-of at (assign v e) = refl
+target-of at (seq l r) = refl
+target-of at (par l r) = refl
+target-of at (if e b) = refl
+target-of at (while e b) = refl
+
+-- What a node owes, by its names and its children's.
+module _ (t : Tables) (S : Stmt) (d : Derivation) (h : Names) where
+  abbrev mine : Spec
+  mine = specOf t (namesOf d)
+
+  as-skip : d ≡ skip h → skipOwes (t .machine) (eqb (codeOf S) 0) mine ≡ owed t d S
+  as-skip e = rw e
+
+  as-assignment : d ≡ assignment h → assignmentOwes (t .machine) (eqb (codeOf S) 1) mine (targetOf S) (exprOf S) ≡ owed t d S
+  as-assignment e = rw e
+
+  as-sequence : (l r : Derivation) → d ≡ sequence h l r
+      → sequenceOwes (t .machine) (eqb (codeOf S) 2) mine (specOf t (namesOf l)) (specOf t (namesOf r)) ≡ owed t d S
+  as-sequence l r e = rw e
+
+  as-parallel : (l r : Derivation) → d ≡ parallel h l r
+      → parallelOwes (t .machine) (eqb (codeOf S) 3) mine (specOf t (namesOf l)) (specOf t (namesOf r)) ≡ owed t d S
+  as-parallel l r e = rw e
+
+  as-if : (b : Derivation) → d ≡ conditional h b → ifOwes (t .machine) (eqb (codeOf S) 4) mine (exprOf S) (specOf t (namesOf b)) ≡ owed t d S
+  as-if b e = rw e
+
+  as-while : (K W : ℕ) (b : Derivation) → d ≡ iteration h K W b
+      → whileOwes (t .machine) (eqb (codeOf S) 5) mine (exprOf S) (setOf t K) (relationOf t W) (specOf t (namesOf b)) ≡ owed t d S
+  as-while K W b e = rw e
+
+  as-weaken : (b : Derivation) → d ≡ weaken h b → weakenOwes (t .machine) mine (specOf t (namesOf b)) ≡ owed t d S
+  as-weaken b e = rw e
+
+module _ (hb pb work : List ℕ) (c : Counts) (ready : Ready hb pb work c) where
+  abbrev t : Tables
+  t = tablesOf hb pb (c .variables) (c .states) (c .sets)
+
+  abbrev head-at : ℕ → NodeHead
+  head-at = nodeHead pb (c .sets) (c .relations) 24 0
+
+  -- The tables in the words of what a head names.
+  abbrev words-at : ℕ → Spec
+  words-at at = wordSpec (c .states) work (namesAt (head-at at))
+
+  abbrev Stands : Derivation → ℕ → ℕ → Type 0
+  Stands = Placement.Stands pb (c .sets) (c .relations)
+
+  sized : Sized hb (c .variables) (c .states) (ready .first)
+  sized = head-read hb (c .variables) (c .states) (ready .first) (ready .header) .sized
+
+  here : machineHere hb ≡ t .machine
+  unfolding machineHere
+  here = rw (ready .header)
+
+  loaded : (h : Named.Names) → Known c h → wordSpec (c .states) work h ≡ specOf t (names h)
+  loaded = spec-loaded hb pb work c ready (sized .most) (sym (sized .total))
+
+  -- The head of a derivation names what the derivation does.
+  head-names : (d : Derivation) (at next : ℕ) → Stands d at next → (rule P R G Q K W first : ℕ)
+      → head-at at ≡ Node rule P R G Q K W first → namesOf d ≡ record { P = P; R = R; G = G; Q = Q }
+  head-names d at next stands rule P R G Q K W first read = by (ltb rule 2) refl (ltb rule 4) refl
+    where
+      h : Names
+      h = record { P = P; R = R; G = G; Q = Q }
+
+      by : (leaf : Bool) → ltb rule 2 ≡ leaf → (two : Bool) → ltb rule 4 ≡ two → namesOf d ≡ h
+      by true e two f =
+          ap namesOf (Placement.leaf-alone pb (c .sets) (c .relations) d at next stands rule P R G Q K W first read (ltb-true rule 2 e) .0) ∙ names-alone rule h
+      by false e true f =
+          let b = Placement.children-of-two pb (c .sets) (c .relations) d at next stands rule P R G Q K W first read (ltb-false rule 2 e) (ltb-true rule 4 f) in
+          ap namesOf (b .is) ∙ names-two rule h (b .left) (b .right)
+      by false e false f =
+          let b = Placement.child-of-one pb (c .sets) (c .relations) d at next stands rule P R G Q K W first read (ltb-false rule 4 f) in
+          ap namesOf (b .is) ∙ names-one rule h K W (b .child)
+
+  words-of : (d : Derivation) (at next : ℕ) → Stands d at next → words-at at ≡ specOf t (namesOf d)
+  words-of d at next stands = by (head-at at) refl
+    where
+      by : (head : NodeHead) → head-at at ≡ head → wordSpec (c .states) work (namesAt head) ≡ specOf t (namesOf d)
+      by (Fault k place) e = absurd (Placement.head-sound pb (c .sets) (c .relations) d at next stands k place e)
+      by (Node rule P R G Q K W first) e =
+          let w = node-within pb (c .sets) (c .relations) 24 0 at rule P R G Q K W first e in
+          loaded _ (record { P-known = w .P-below; R-known = w .R-below; G-known = w .G-below; Q-known = w .Q-below })
+          ∙ ap (specOf t) (sym (head-names d at next stands rule P R G Q K W first e))
+
+  -- An expression where a statement has one.
+  expr-here : (at : ℕ) (e : Expr) → Parts.StandsExpr hb (c .variables) at e → exprHere hb at ≡ e
+  unfolding exprHere
+  expr-here at e s = rw (ready .header, s .read)
+
+  expr-of : (at : ℕ) (S : Stmt) → Parts.PartsOf hb (c .variables) at S → (codeOf S ≡ 0 → ⊥) → (codeOf S ≡ 2 → ⊥) → (codeOf S ≡ 3 → ⊥)
+      → exprHere hb (exprAt (partOf at S)) ≡ exprOf S
+  expr-of at nil p no-nil no-seq no-par = absurd (no-nil refl)
+  expr-of at (assign v e) p no-nil no-seq no-par = expr-here _ e p
+  expr-of at (seq l r) p no-nil no-seq no-par = absurd (no-seq refl)
+  expr-of at (par l r) p no-nil no-seq no-par = absurd (no-par refl)
+  expr-of at (if e b) p no-nil no-seq no-par = expr-here _ e (p .0)
+  expr-of at (while e b) p no-nil no-seq no-par = expr-here _ e (p .0)
+
+  words-here : (h : Named.Names) → wordSpec (machineHere hb .states) work h ≡ wordSpec (c .states) work h
+  words-here h = ap (λ k. wordSpec k work h) (ap (λ m. m .states) here ∙ sym (sized .total))
+
+  -- A derivation and a statement that were read stand in their places.
+  pub node-stands : (at : ℕ) → isNode (wholeNode pb (c .sets) (c .relations) at) ≡ true
+      → (next : ℕ) × Stands (nodeIn (wholeNode pb (c .sets) (c .relations) at)) at next
+  unfolding wholeNode
+  node-stands at = by (wholeNode pb (c .sets) (c .relations) at) refl
+    where
+      by : (r : NodeRead) → wholeNode pb (c .sets) (c .relations) at ≡ r → isNode r ≡ true → (next : ℕ) × Stands (nodeIn r) at next
+      by (whole d after next) e read = (next, Placement.fresh pb (c .sets) (c .relations) 25 0 at d after next e (omega arith))
+      by (fault k place) e read = absurd (false≢true read)
+
+  pub stmt-stands : (at : ℕ) → isStmt (Stmts.wholeStmt hb (c .variables) at) ≡ true
+      → Parts.Stands hb (c .variables) at (stmtIn (Stmts.wholeStmt hb (c .variables) at))
+  stmt-stands at = by (Stmts.wholeStmt hb (c .variables) at) refl
+    where
+      by : (r : Stmts.StmtRead) → Stmts.wholeStmt hb (c .variables) at ≡ r → isStmt r ≡ true → Parts.Stands hb (c .variables) at (stmtIn r)
+      by (Stmts.whole S after next) e read = record { after = after; next = next; read = e }
+      by (Stmts.fault k place) e read = absurd (false≢true read)
+
+-- What the code has read at a node and at its statement.
+pub record Site (hb pb : List ℕ) (c : Counts) (at stmt : ℕ) (own : Named.Names) (code expr : ℕ) : Type 0 where
+  pub next : ℕ
+  pub d-stands : Placement.Stands pb (c .sets) (c .relations) (nodeIn (wholeNode pb (c .sets) (c .relations) at)) at next
+  pub S-stands : Parts.Stands hb (c .variables) stmt (stmtIn (Stmts.wholeStmt hb (c .variables) stmt))
+  pub rule : ℕ
+  pub P : ℕ
+  pub R : ℕ
+  pub G : ℕ
+  pub Q : ℕ
+  pub K : ℕ
+  pub W : ℕ
+  pub first : ℕ
+  pub read : nodeHead pb (c .sets) (c .relations) 24 0 at ≡ Node rule P R G Q K W first
+  pub own-is : own ≡ namesAt (nodeHead pb (c .sets) (c .relations) 24 0 at)
+  pub code-is : code ≡ codeAt (partAt hb (c .variables) stmt)
+  pub expr-is : expr ≡ exprAt (partAt hb (c .variables) stmt)
+
+module _ (hb pb work : List ℕ) (c : Counts) (ready : Ready hb pb work c) (at stmt : ℕ) (own : Named.Names) (code expr : ℕ)
+    (site : Site hb pb c at stmt own code expr) where
+  abbrev d : Derivation
+  d = nodeIn (wholeNode pb (c .sets) (c .relations) at)
+
+  abbrev S : Stmt
+  S = stmtIn (Stmts.wholeStmt hb (c .variables) stmt)
+
+  abbrev T : Tables
+  T = tablesOf hb pb (c .variables) (c .states) (c .sets)
+
+  abbrev h : Names
+  h = record { P = site .P; R = site .R; G = site .G; Q = site .Q }
+
+  abbrev owes : Own
+  owes = ownOf (firstBroken (owed T d S))
+
+  N-is : T .machine .states ≡ c .states
+  N-is = sym (sized hb pb work c ready .total)
+
+  part-is : partAt hb (c .variables) stmt ≡ partOf stmt S
+  part-is = Parts.part-known hb (c .variables) stmt S (site .S-stands)
+
+  code-of-S : code ≡ codeOf S
+  code-of-S = site .code-is ∙ ap codeAt part-is ∙ code-of stmt S
+
+  own-words : wordSpec (c .states) work own ≡ specOf T (namesOf d)
+  own-words = ap (wordSpec (c .states) work) (site .own-is) ∙ words-of hb pb work c ready d at (site .next) (site .d-stands)
+
+  own-here : wordSpec (machineHere hb .states) work own ≡ specOf T (namesOf d)
+  own-here = words-here hb pb work c ready own ∙ own-words
+
+  -- The expression that an assignment, an if or a while has.
+  expr-is : (codeOf S ≡ 0 → ⊥) → (codeOf S ≡ 2 → ⊥) → (codeOf S ≡ 3 → ⊥) → exprHere hb expr ≡ exprOf S
+  expr-is no-nil no-seq no-par =
+      ap (exprHere hb) (site .expr-is ∙ ap exprAt part-is)
+      ∙ expr-of hb pb work c ready stmt S (Parts.parts hb (c .variables) stmt S (site .S-stands)) no-nil no-seq no-par
+
+  pub skip-owes : site .rule ≡ 0 → guarded (skipOwes (bare (c .states)) (eqb code 0) (wordSpec (c .states) work own)) Holds ≡ owes
+  skip-owes e =
+      let leaf = Placement.leaf-alone pb (c .sets) (c .relations) d at (site .next) (site .d-stands) (site .rule) (site .P) (site .R) (site .G) (site .Q) (site .K) (site .W) (site .first) (site .read) (omega arith) .0 in
+      ap (λ L. guarded L Holds)
+      (bare-skip (T .machine) (c .states) N-is (eqb code 0) (wordSpec (c .states) work own)
+      ∙ (λ i. skipOwes (T .machine) (eqb (code-of-S i) 0) (own-words i))
+      ∙ as-skip T S d h (leaf ∙ rw (eq-eqb (site .rule) 0 e)))
+      ∙ sym (first-guarded (owed T d S))
+
+  pub assignment-owes : (v : ℕ) → v ≡ targetAt (partAt hb (c .variables) stmt) → site .rule ≡ 1
+      → guarded (assignmentOwes (machineHere hb) (eqb code 1) (wordSpec (machineHere hb .states) work own) v (exprHere hb expr)) Holds ≡ owes
+  unfolding holds must
+  assignment-owes v v-is e =
+      let leaf = Placement.leaf-alone pb (c .sets) (c .relations) d at (site .next) (site .d-stands) (site .rule) (site .P) (site .R) (site .G) (site .Q) (site .K) (site .W) (site .first) (site .read) (omega arith) .0 in
+      (λ i. guarded (assignmentOwes (here hb pb work c ready i) (eqb (code-of-S i) 1) (own-here i) ((v-is ∙ ap targetAt part-is ∙ target-of stmt S) i) (exprHere hb expr)) Holds)
+      ∙ on-fit (eqb (codeOf S) 1) (λ fits e. guarded (assignmentOwes (T .machine) fits (specOf T (namesOf d)) (targetOf S) e) Holds) (λ e e′. refl) (exprHere hb expr) (exprOf S)
+      (λ fit. let k = eqb-true (codeOf S) 1 fit in expr-is (λ z. omega arith) (λ z. omega arith) (λ z. omega arith))
+      ∙ ap (λ L. guarded L Holds) (as-assignment T S d h (leaf ∙ rw (ne-eqb (site .rule) 0 (λ z. omega arith))))
+      ∙ sym (first-guarded (owed T d S))
+
+  -- Two children: the right one stands where the left one ends.
+  module _ (left right : Named.Names) (left-is : left ≡ namesAt (nodeHead pb (c .sets) (c .relations) 24 0 (site .first)))
+      (right-is : right ≡ namesAt (nodeHead pb (c .sets) (c .relations) 24 0 (nextAt (endOf (wholeNode pb (c .sets) (c .relations) (site .first))))))
+      (no-skip : site .rule ≡ 0 → ⊥) (no-assignment : site .rule ≡ 1 → ⊥) (under : site .rule < 4) where
+    two : Placement.TwoBelow pb (c .sets) (c .relations) (site .rule) h (site .first) d (site .next)
+    two = Placement.children-of-two pb (c .sets) (c .relations) d at (site .next) (site .d-stands) (site .rule) (site .P) (site .R) (site .G) (site .Q) (site .K) (site .W) (site .first) (site .read) (omega arith) under
+
+    ends : nextAt (endOf (wholeNode pb (c .sets) (c .relations) (site .first))) ≡ two .middle
+    unfolding endOf
+    ends = ap (λ r. nextAt (endOf r)) (two .left-stands)
+
+    left-words : wordSpec (c .states) work left ≡ specOf T (namesOf (two .left))
+    left-words = ap (wordSpec (c .states) work) left-is ∙ words-of hb pb work c ready (two .left) (site .first) (two .middle) (two .left-stands)
+
+    right-words : wordSpec (c .states) work right ≡ specOf T (namesOf (two .right))
+    right-words =
+        ap (wordSpec (c .states) work) (right-is ∙ ap (λ m. namesAt (nodeHead pb (c .sets) (c .relations) 24 0 m)) ends)
+        ∙ words-of hb pb work c ready (two .right) (two .middle) (site .next) (two .right-stands)
+
+    pub sequence-owes : site .rule ≡ 2
+        → guarded (sequenceOwes (bare (c .states)) (eqb code 2) (wordSpec (c .states) work own) (wordSpec (c .states) work left) (wordSpec (c .states) work right)) Holds ≡ owes
+    sequence-owes e =
+        ap (λ L. guarded L Holds)
+        (bare-sequence (T .machine) (c .states) N-is (eqb code 2) (wordSpec (c .states) work own) (wordSpec (c .states) work left) (wordSpec (c .states) work right)
+        ∙ (λ i. sequenceOwes (T .machine) (eqb (code-of-S i) 2) (own-words i) (left-words i) (right-words i))
+        ∙ as-sequence T S d h (two .left) (two .right) (two .is ∙ rw (eq-eqb (site .rule) 2 e)))
+        ∙ sym (first-guarded (owed T d S))
+
+    pub parallel-owes : (site .rule ≡ 2 → ⊥)
+        → guarded (parallelOwes (bare (c .states)) (eqb code 3) (wordSpec (c .states) work own) (wordSpec (c .states) work left) (wordSpec (c .states) work right)) Holds ≡ owes
+    parallel-owes e =
+        ap (λ L. guarded L Holds)
+        (bare-parallel (T .machine) (c .states) N-is (eqb code 3) (wordSpec (c .states) work own) (wordSpec (c .states) work left) (wordSpec (c .states) work right)
+        ∙ (λ i. parallelOwes (T .machine) (eqb (code-of-S i) 3) (own-words i) (left-words i) (right-words i))
+        ∙ as-parallel T S d h (two .left) (two .right) (two .is ∙ rw (ne-eqb (site .rule) 2 e)))
+        ∙ sym (first-guarded (owed T d S))
+
+  -- One child.
+  module _ (child : Named.Names) (child-is : child ≡ namesAt (nodeHead pb (c .sets) (c .relations) 24 0 (site .first))) (over : 4 ≤ site .rule) where
+    below : Placement.OneBelow pb (c .sets) (c .relations) (site .rule) h (site .K) (site .W) (site .first) d (site .next)
+    below = Placement.child-of-one pb (c .sets) (c .relations) d at (site .next) (site .d-stands) (site .rule) (site .P) (site .R) (site .G) (site .Q) (site .K) (site .W) (site .first) (site .read) over
+
+    child-words : wordSpec (c .states) work child ≡ specOf T (namesOf (below .child))
+    child-words = ap (wordSpec (c .states) work) child-is ∙ words-of hb pb work c ready (below .child) (site .first) (site .next) (below .child-stands)
+
+    child-here : wordSpec (machineHere hb .states) work child ≡ specOf T (namesOf (below .child))
+    child-here = words-here hb pb work c ready child ∙ child-words
+
+    pub if-owes : site .rule ≡ 4
+        → guarded (ifOwes (machineHere hb) (eqb code 4) (wordSpec (machineHere hb .states) work own) (exprHere hb expr) (wordSpec (machineHere hb .states) work child)) Holds ≡ owes
+    unfolding holds must
+    if-owes e =
+        (λ i. guarded (ifOwes (here hb pb work c ready i) (eqb (code-of-S i) 4) (own-here i) (exprHere hb expr) (child-here i)) Holds)
+        ∙ on-fit (eqb (codeOf S) 4) (λ fits e. guarded (ifOwes (T .machine) fits (specOf T (namesOf d)) e (specOf T (namesOf (below .child)))) Holds) (λ e e′. refl) (exprHere hb expr) (exprOf S)
+        (λ fit. let k = eqb-true (codeOf S) 4 fit in expr-is (λ z. omega arith) (λ z. omega arith) (λ z. omega arith))
+        ∙ ap (λ L. guarded L Holds) (as-if T S d h (below .child) (below .is ∙ rw (eq-eqb (site .rule) 4 e)))
+        ∙ sym (first-guarded (owed T d S))
+
+    pub while-owes : site .rule ≡ 5
+        → guarded (whileOwes (machineHere hb) (eqb code 5) (wordSpec (machineHere hb .states) work own) (exprHere hb expr) (wordSet (machineHere hb .states) work (site .K))
+          (wordRelation (machineHere hb .states) work (site .W)) (wordSpec (machineHere hb .states) work child)) Holds ≡ owes
+    unfolding holds must
+    while-owes e =
+        let known = node-within pb (c .sets) (c .relations) 24 0 at (site .rule) (site .P) (site .R) (site .G) (site .Q) (site .K) (site .W) (site .first) (site .read) in
+        let states = ap (λ m. m .states) (here hb pb work c ready) ∙ N-is in
+        let few = sized hb pb work c ready .most in
+        let K-words = ap (λ n. wordSet n work (site .K)) states ∙ set-loaded hb pb work c ready few N-is (site .K) (known .K-below e) in
+        let W-words = ap (λ n. wordRelation n work (site .W)) states ∙ relation-loaded hb pb work c ready few N-is (site .W) (known .W-below e) in
+        (λ i. guarded (whileOwes (here hb pb work c ready i) (eqb (code-of-S i) 5) (own-here i) (exprHere hb expr) (K-words i) (W-words i) (child-here i)) Holds)
+        ∙ on-fit (eqb (codeOf S) 5) (λ fits e. guarded (whileOwes (T .machine) fits (specOf T (namesOf d)) e (setOf T (site .K)) (relationOf T (site .W)) (specOf T (namesOf (below .child)))) Holds) (λ e e′. refl) (exprHere hb expr) (exprOf S)
+        (λ fit. let k = eqb-true (codeOf S) 5 fit in expr-is (λ z. omega arith) (λ z. omega arith) (λ z. omega arith))
+        ∙ ap (λ L. guarded L Holds) (as-while T S d h (site .K) (site .W) (below .child) (below .is ∙ rw (ne-eqb (site .rule) 4 (λ z. omega arith), eq-eqb (site .rule) 5 e)))
+        ∙ sym (first-guarded (owed T d S))
+
+    pub weaken-owes : (site .rule ≡ 4 → ⊥) → (site .rule ≡ 5 → ⊥)
+        → guarded (weakenOwes (bare (c .states)) (wordSpec (c .states) work own) (wordSpec (c .states) work child)) Holds ≡ owes
+    weaken-owes other e =
+        ap (λ L. guarded L Holds)
+        (bare-weaken (T .machine) (c .states) N-is (wordSpec (c .states) work own) (wordSpec (c .states) work child)
+        ∙ (λ i. weakenOwes (T .machine) (own-words i) (child-words i))
+        ∙ as-weaken T S d h (below .child) (below .is ∙ rw (ne-eqb (site .rule) 4 other, ne-eqb (site .rule) 5 e)))
+        ∙ sym (first-guarded (owed T d S))

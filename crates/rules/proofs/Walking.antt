@@ -1,0 +1,262 @@
+-- What the walk knows at a node, in plain numbers: that its own call and its children's are of what was read, and how what
+-- they find makes up what is found at the node.
+use Prim.Native.Nat.{ℕ, zero, suc, _+_, _-_, _≤_, _<_}
+use mathlib.Core.Path.{_≡_, refl, sym, _∙_, ap, subst}
+use mathlib.Core.Bool.{Bool, true, false, cond, false≢true}
+use mathlib.Core.List.{List}
+use mathlib.Core.Option.{Option, none, some, Option·none-ne-some}
+use native.Mathlib.Omega.{arith}
+use lib.Dec.{ltb, eqb}
+use borrow.Author.Tests.{ne-eqb, eqb-false, ltb-true, ltb-false}
+use native.Mathlib.Numerals.{add-one}
+use Rattle.semantics.specs.Language.{Stmt, nil, assign, seq, par, if, while}
+use Rattle.semantics.specs.Derivations.{Derivation, Tables, nodes}
+use Rattle.semantics.specs.Conditions.{codeOf, firstOf, secondOf}
+use Rattle.semantics.specs.Checking as Checking
+use Rattle.semantics.specs.Checking.{firstBroken, owed, firstFault}
+use Rattle.handler.specs.Statements as Stmts
+use Rattle.handler.specs.Shapes.{partAt}
+use Rattle.handler.proofs.Parts.{Stands, parts, part-known}
+use Rattle.derivation.specs.declared.NodeHead.the-variants.{Node, Fault}
+use Rattle.derivation.specs.Nodes.{NodeRead, whole, fault, alone, overTwo, overOne, nodeHead, nodeAt, wholeNode}
+use Rattle.derivation.proofs.Heads.{node-within}
+use Rattle.derivation.proofs.Placement as Placement
+use Rattle.derivation.proofs.Placement.{Child, Children}
+use Rattle.rules.specs.declared.Counts.{Counts}
+use Rattle.rules.specs.declared.Own.{Own}
+use Rattle.rules.specs.declared.Own.the-variants.{Holds, Breaks}
+use Rattle.rules.specs.declared.Walked.{Walked}
+use Rattle.rules.specs.declared.Walked.the-variants.{Through, Broken}
+use Rattle.rules.specs.Verdicts.{tablesOf}
+use Rattle.rules.specs.Walks.{stmtIn, isStmt, nodeIn, isNode, ownOf, wayOf, walkOn, firstAt, secondAt}
+use Rattle.rules.proofs.Faults.{thenWalk, under, own-first, fits-two, fits-one, read-alone, read-two, read-one, walk-alone, walk-two, walk-one}
+
+-- A reading that found something, taken apart.
+pub record Found (r : NodeRead) : Type 0 where
+  pub d : Derivation
+  pub after : ℕ
+  pub next : ℕ
+  pub read : r ≡ whole d after next
+
+pub found : (r : NodeRead) → isNode r ≡ true → Found r
+found (whole d after next) e = record { d = d; after = after; next = next; read = refl }
+found (fault k place) e = absurd (false≢true e)
+
+pub stands : (hb : List ℕ) (count s : ℕ) → isStmt (Stmts.wholeStmt hb count s) ≡ true → Stands hb count s (stmtIn (Stmts.wholeStmt hb count s))
+stands hb count s = by (Stmts.wholeStmt hb count s) refl
+  where
+    by : (r : Stmts.StmtRead) → Stmts.wholeStmt hb count s ≡ r → isStmt r ≡ true → Stands hb count s (stmtIn (Stmts.wholeStmt hb count s))
+    by (Stmts.whole S after next) e h = record { after = after; next = next; read = rw e }
+    by (Stmts.fault k place) e h = absurd (false≢true h)
+
+-- A statement that stands at a place, as the code asks for it.
+pub record Placed (hb : List ℕ) (count s : ℕ) (S : Stmt) : Type 0 where
+  pub there : isStmt (Stmts.wholeStmt hb count s) ≡ true
+  pub is : stmtIn (Stmts.wholeStmt hb count s) ≡ S
+
+placed : (hb : List ℕ) (count s : ℕ) (S : Stmt) → Stands hb count s S → Placed hb count s S
+placed hb count s S x = record { there = rw (x .read); is = rw (x .read) }
+
+-- The parts of a statement with a code stand where the code looks for them.
+pub first-placed : (hb : List ℕ) (count s : ℕ) (S : Stmt) → Stands hb count s S → 2 ≤ codeOf S → Placed hb count (firstAt s (partAt hb count s)) (firstOf S)
+first-placed hb count s nil x over = absurd (omega arith)
+first-placed hb count s (assign v e) x over = absurd (omega arith)
+first-placed hb count s (seq l r) x over = rw (part-known hb count s (seq l r) x) (placed hb count _ l (parts hb count s (seq l r) x .0))
+first-placed hb count s (par l r) x over = rw (part-known hb count s (par l r) x) (placed hb count _ l (parts hb count s (par l r) x .0))
+first-placed hb count s (if e b) x over = rw (part-known hb count s (if e b) x) (placed hb count _ b (parts hb count s (if e b) x .1))
+first-placed hb count s (while e b) x over = rw (part-known hb count s (while e b) x) (placed hb count _ b (parts hb count s (while e b) x .1))
+
+pub second-placed : (hb : List ℕ) (count s : ℕ) (S : Stmt) → Stands hb count s S → 2 ≤ codeOf S → codeOf S < 4 → Placed hb count (secondAt s (partAt hb count s)) (secondOf S)
+second-placed hb count s nil x over low = absurd (omega arith)
+second-placed hb count s (assign v e) x over low = absurd (omega arith)
+second-placed hb count s (seq l r) x over low = rw (part-known hb count s (seq l r) x) (placed hb count _ r (parts hb count s (seq l r) x .1))
+second-placed hb count s (par l r) x over low = rw (part-known hb count s (par l r) x) (placed hb count _ r (parts hb count s (par l r) x .1))
+second-placed hb count s (if e b) x over low = absurd (omega arith)
+second-placed hb count s (while e b) x over low = absurd (omega arith)
+
+own-some : (o : Option ℕ) (k : ℕ) → ownOf o ≡ Breaks k → o ≡ some k
+own-some none k e = absurd (let z : _≡_ {A = ℕ} 0 1 = cc in omega arith)
+own-some (some j) k e = let same : j ≡ k = cc in ap some same
+
+own-none : (o : Option ℕ) → ownOf o ≡ Holds → o ≡ none
+own-none none e = refl
+own-none (some k) e = absurd (let z : _≡_ {A = ℕ} 0 1 = cc in omega arith)
+
+module _ (hb pb : List ℕ) (c : Counts) where
+  abbrev T : Tables
+  T = tablesOf hb pb (c .variables) (c .states) (c .sets)
+
+  abbrev N : ℕ → ℕ → ℕ → NodeRead
+  N levels n at = nodeAt levels pb (c .sets) (c .relations) n at
+
+  abbrev S : ℕ → Stmt
+  S s = stmtIn (Stmts.wholeStmt hb (c .variables) s)
+
+  -- A node that was read has levels left, and a head; it is the node that is read there from a fresh start.
+  module _ (n at levels s : ℕ) (d : Derivation) (after end : ℕ) (read : N levels n at ≡ whole d after end) (low : levels ≤ 25) where
+    pub more-levels : levels ≡ 0 → ⊥
+    unfolding nodeAt
+    more-levels z = let x = rw z at read in let y : _≡_ {A = ℕ} 0 1 = cc in omega arith
+
+    again : wholeNode pb (c .sets) (c .relations) at ≡ whole d (nodes d) end
+    again = Placement.fresh pb (c .sets) (c .relations) levels n at d after end read low
+
+    pub own-there : isNode (wholeNode pb (c .sets) (c .relations) at) ≡ true
+    own-there = rw again
+
+    same-level : nodeAt (suc (levels - 1)) pb (c .sets) (c .relations) n at ≡ whole d after end
+    same-level =
+        let more = more-levels in
+        let level : suc (levels - 1) ≡ levels = omega arith in
+        rw level read
+
+    pub no-fault : (k place : ℕ) → nodeHead pb (c .sets) (c .relations) (levels - 1) n at ≡ Fault k place → ⊥
+    unfolding nodeAt
+    no-fault k place h = let x = rw h at same-level in let y : _≡_ {A = ℕ} 0 1 = cc in omega arith
+
+    -- The node's own first breach is what the walk finds.
+    module _ (own : Own) (owes : own ≡ ownOf (firstBroken (owed T (nodeIn (wholeNode pb (c .sets) (c .relations) at)) (S s)))) where
+      owes-d : own ≡ ownOf (firstBroken (owed T d (S s)))
+      owes-d = rw again at owes
+
+      pub breach : (k : ℕ) → own ≡ Breaks k → Broken k n ≡ walkOn T (N levels n at) (S s) n
+      breach k b = rw (read, own-first T d (S s) n k (own-some _ k (sym owes-d ∙ b)))
+
+-- What is known at a node past its own conditions.
+pub record Seen (hb pb : List ℕ) (c : Counts) (n at levels s rule next : ℕ) : Type 0 where
+  pub d : Derivation
+  pub after : ℕ
+  pub end : ℕ
+  pub read : nodeAt levels pb (c .sets) (c .relations) n at ≡ whole d after end
+  pub low : levels ≤ 25
+  pub own : Own
+  pub owes : own ≡ ownOf (firstBroken (owed (tablesOf hb pb (c .variables) (c .states) (c .sets))
+      (nodeIn (wholeNode pb (c .sets) (c .relations) at)) (stmtIn (Stmts.wholeStmt hb (c .variables) s))))
+  pub holds : own ≡ Holds
+  pub P : ℕ
+  pub R : ℕ
+  pub G : ℕ
+  pub Q : ℕ
+  pub K : ℕ
+  pub W : ℕ
+  pub head : nodeHead pb (c .sets) (c .relations) (levels - 1) n at ≡ Node rule P R G Q K W next
+  pub standing : isStmt (Stmts.wholeStmt hb (c .variables) s) ≡ true
+
+module _ {hb pb : List ℕ} {c : Counts} {n at levels s rule next : ℕ} (x : Seen hb pb c n at levels s rule next) where
+  open Seen x using (d, after, end, read, low, own, owes, holds, P, R, G, Q, K, W, head, standing)
+
+  abbrev t : Tables
+  t = tablesOf hb pb (c .variables) (c .states) (c .sets)
+
+  abbrev node : ℕ → ℕ → ℕ → NodeRead
+  node levels n at = nodeAt levels pb (c .sets) (c .relations) n at
+
+  abbrev stmt : ℕ → Stmt
+  stmt s = stmtIn (Stmts.wholeStmt hb (c .variables) s)
+
+  level : nodeAt (suc (levels - 1)) pb (c .sets) (c .relations) n at ≡ whole d after end
+  level = same-level hb pb c n at levels s d after end read low
+
+  clear : firstBroken (owed t d (stmt s)) ≡ none
+  clear = own-none _ (sym (owes-d hb pb c n at levels s d after end read low own owes) ∙ holds)
+
+  up : node levels n at ≡ nodeAt (suc (levels - 1)) pb (c .sets) (c .relations) n at
+  up = read ∙ sym level
+
+  pub low-rule : rule < 7
+  low-rule = node-within pb (c .sets) (c .relations) (levels - 1) n at rule P R G Q K W next head .rule-below
+
+  pub leaf : rule < 2 → Through (n + 1) next ≡ walkOn t (node levels n at) (stmt s) n
+  leaf low =
+      let alone-is = sym level ∙ read-alone t pb (c .sets) (c .relations) (stmt s) (levels - 1) n at rule P R G Q K W next head low in
+      let d-is : d ≡ alone rule (record { P = P; R = R; G = G; Q = Q }) = cc in
+      rw (up, add-one, walk-alone t pb (c .sets) (c .relations) (stmt s) (levels - 1) n at rule P R G Q K W next head low (rw d-is at clear))
+
+  -- The statement that the first child is about.
+  pub first-stands : 2 ≤ rule → Placed hb (c .variables) (cond (eqb rule 6) s (firstAt s (partAt hb (c .variables) s))) (under rule (stmt s))
+  first-stands over = by (eqb rule 6) refl
+    where
+      whole-stmt : Stands hb (c .variables) s (stmt s)
+      whole-stmt = stands hb (c .variables) s standing
+
+      fits : (rule ≡ 6 → ⊥) → codeOf (stmt s) ≡ rule
+      fits other = two-or-one (ltb rule 4) refl
+        where
+          two-or-one : (b : Bool) → ltb rule 4 ≡ b → codeOf (stmt s) ≡ rule
+          two-or-one true e =
+              let kids = read-two t pb (c .sets) (c .relations) (stmt s) (levels - 1) n at rule P R G Q K W next head over (ltb-true rule 4 e) d after end level in
+              fits-two t (stmt s) rule _ (kids .left) (kids .right) over (ltb-true rule 4 e) (rw (kids .is) at clear)
+          two-or-one false e =
+              let past = ltb-false rule 4 e in
+              let kid = read-one t pb (c .sets) (c .relations) (stmt s) (levels - 1) n at rule P R G Q K W next head past d after end level in
+              fits-one t (stmt s) rule _ K W (kid .child) past (let l = low-rule in omega arith) (rw (kid .is) at clear)
+
+      by : (b : Bool) → eqb rule 6 ≡ b → Placed hb (c .variables) (cond b s (firstAt s (partAt hb (c .variables) s))) (cond b (stmt s) (firstOf (stmt s)))
+      by true e = placed hb (c .variables) s (stmt s) whole-stmt
+      by false e = first-placed hb (c .variables) s (stmt s) whole-stmt (let f = fits (eqb-false rule 6 e) in omega arith)
+
+  -- Which of the two a node with children is.
+  two-kids : 2 ≤ rule → rule < 4 → Children (overTwo rule (record { P = P; R = R; G = G; Q = Q })) (node (levels - 1) (suc n) next) (node (levels - 1)) d after end
+  two-kids over low = read-two t pb (c .sets) (c .relations) (stmt s) (levels - 1) n at rule P R G Q K W next head over low d after end level
+
+  one-kid : 4 ≤ rule → Child (overOne rule (record { P = P; R = R; G = G; Q = Q }) K W) (node (levels - 1) (suc n) next) d after end
+  one-kid over = read-one t pb (c .sets) (c .relations) (stmt s) (levels - 1) n at rule P R G Q K W next head over d after end level
+
+  pub first-node : 2 ≤ rule → isNode (node (levels - 1) (n + 1) next) ≡ true
+  first-node over = rw add-one (by (ltb rule 4) refl)
+    where
+      by : (b : Bool) → ltb rule 4 ≡ b → isNode (node (levels - 1) (suc n) next) ≡ true
+      by true e = rw (two-kids over (ltb-true rule 4 e) .left-read)
+      by false e = rw (one-kid (ltb-false rule 4 e) .read)
+
+  -- What is found at the first child, of the statement that stands there.
+  module _ (over : 2 ≤ rule) (first : ℕ) (first-is : stmt first ≡ under rule (stmt s)) (r : Walked)
+      (walked : r ≡ walkOn t (node (levels - 1) (n + 1) next) (stmt first) (n + 1)) where
+    walked-under : r ≡ walkOn t (node (levels - 1) (suc n) next) (under rule (stmt s)) (suc n)
+    walked-under = rw (add-one, first-is) at walked
+
+    first-of : rule < 4 → under rule (stmt s) ≡ firstOf (stmt s)
+    first-of low = rw (ne-eqb rule 6 (λ e. omega arith))
+
+    from-two : rule < 4 → walkOn t (node levels n at) (stmt s) n ≡ thenWalk r (λ a e. walkOn t (node (levels - 1) a e) (secondOf (stmt s)) a)
+    from-two low =
+        let r-is : r ≡ walkOn t (node (levels - 1) (suc n) next) (firstOf (stmt s)) (suc n) = rw (first-of low) at walked-under in
+        rw (up, r-is) (walk-two t pb (c .sets) (c .relations) (stmt s) (levels - 1) n at rule P R G Q K W next head over low d after end level clear)
+
+    from-one : 4 ≤ rule → walkOn t (node levels n at) (stmt s) n ≡ r
+    from-one past = rw up (walk-one t pb (c .sets) (c .relations) (stmt s) (levels - 1) n at rule P R G Q K W next head past low-rule d after end level clear ∙ sym walked-under)
+
+    pub stops : (k place : ℕ) → r ≡ Broken k place → Broken k place ≡ walkOn t (node levels n at) (stmt s) n
+    stops k place is = by (ltb rule 4) refl
+      where
+        by : (b : Bool) → ltb rule 4 ≡ b → Broken k place ≡ walkOn t (node levels n at) (stmt s) n
+        by true e = sym (rw is at (from-two (ltb-true rule 4 e)))
+        by false e = sym (from-one (ltb-false rule 4 e) ∙ is)
+
+    pub ends : (a e : ℕ) → r ≡ Through a e → 4 ≤ rule → Through a e ≡ walkOn t (node levels n at) (stmt s) n
+    ends a e is past = sym (from-one past ∙ is)
+
+    -- The second child, where the first one ended.
+    pub second-node : (a e : ℕ) → r ≡ Through a e → rule < 4 → isNode (node (levels - 1) a e) ≡ true
+    second-node a e is low =
+        let kids = two-kids over low in
+        let way = rw (kids .left-read) at (sym walked-under ∙ is) in
+        by (firstFault t (kids .left) (under rule (stmt s)) (suc n)) kids way
+      where
+        by : (o : Option Checking.Broken) (kids : Children (overTwo rule (record { P = P; R = R; G = G; Q = Q })) (node (levels - 1) (suc n) next) (node (levels - 1)) d after end)
+            → wayOf o (kids .between) (kids .middle) ≡ Through a e → isNode (node (levels - 1) a e) ≡ true
+        by none kids way =
+            let a-is : kids .between ≡ a = cc in
+            let e-is : kids .middle ≡ e = cc in
+            rw (← a-is, ← e-is, kids .right-read)
+        by (some b) kids way = absurd (let y : _≡_ {A = ℕ} 0 1 = cc in omega arith)
+
+    pub second-stands : rule < 4 → Placed hb (c .variables) (secondAt s (partAt hb (c .variables) s)) (secondOf (stmt s))
+    second-stands low =
+        let kids = two-kids over low in
+        let fits = fits-two t (stmt s) rule _ (kids .left) (kids .right) over low (rw (kids .is) at clear) in
+        second-placed hb (c .variables) s (stmt s) (stands hb (c .variables) s standing) (omega arith) (omega arith)
+
+    pub goes-on : (a e : ℕ) → r ≡ Through a e → rule < 4 → (second : ℕ) → stmt second ≡ secondOf (stmt s) → (q : Walked)
+        → q ≡ walkOn t (node (levels - 1) a e) (stmt second) a → q ≡ walkOn t (node levels n at) (stmt s) n
+    goes-on a e is low second second-is q q-is = rw second-is at q-is ∙ sym (rw is at (from-two low))

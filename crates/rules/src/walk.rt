@@ -1,0 +1,123 @@
+// The walk over the derivation's nodes in file order. Statement and node are positions in their files, read again where they
+// stand; sequence and parallel find their right parts by where the left ones end, and weaken keeps its statement.
+use crate::{Counts, Own, Walked};
+use derivation::NodeHead;
+use crate::nodes::{assignment_fault, code_of, expr_of, if_fault, names_of, next_of, parallel_fault, sequence_fault, skip_fault, target_of, weaken_fault, while_fault};
+use derivation::nodes::{node_end, node_head_at};
+use handler::Part;
+use handler::reading::part_at;
+ghost use mathlib.Core.Path.{_≡_};
+ghost use mathlib.Core.Bool.{true, cond};
+ghost use lib.Dec.{eqb};
+ghost use Rattle.handler.specs.Statements.{wholeStmt};
+ghost use Rattle.handler.specs.Shapes.{partAt};
+ghost use Rattle.semantics.specs.Checking.{firstBroken, owed};
+ghost use Rattle.derivation.specs.Nodes.{nodeAt, wholeNode};
+ghost use Rattle.rules.specs.Verdicts.{tablesOf};
+ghost use Rattle.rules.specs.Walks.{stmtIn, isStmt, nodeIn, isNode, ownOf, walkOn, Ready, Walkable, firstAt, secondAt};
+
+// The first bit of the part that a node's first child is about: the left part or the body; under a weaken, the same statement.
+fn first_part(handler: &[u8], variables: u32, rule: u32, stmt: usize) -> usize
+    ensures { λ r. ⌜ r ≡ cond (eqb rule 6) stmt (firstAt stmt (partAt (now (handler .entry)) variables stmt)) ⌝ }
+{
+    if rule == 6 {
+        return stmt;
+    }
+    match part_at(handler, variables, stmt) {
+        Part::Nil => stmt,
+        Part::Assign(_, _) => stmt,
+        Part::Pair(_, left, _) => left,
+        Part::Test(_, _, body) => body,
+        Part::Nothing => stmt,
+    }
+}
+
+// The first bit of the right part.
+fn second_part(handler: &[u8], variables: u32, stmt: usize) -> usize
+    ensures { λ r. ⌜ r ≡ secondAt stmt (partAt (now (handler .entry)) variables stmt) ⌝ }
+{
+    match part_at(handler, variables, stmt) {
+        Part::Nil => stmt,
+        Part::Assign(_, _) => stmt,
+        Part::Pair(_, _, right) => right,
+        Part::Test(_, _, _) => stmt,
+        Part::Nothing => stmt,
+    }
+}
+
+// The first condition that the node at a bit breaks of its own over the statement at a bit.
+fn own_fault(handler: &[u8], proof: &[u8], work: &[u64], c: Counts, at: usize, stmt: usize) -> Own
+    requires { ⌜ Ready (now handler) (now proof) (now work) c ⌝ }
+    requires { ⌜ isNode (wholeNode (now proof) (c .sets) (c .relations) at) ≡ true ⌝ }
+    requires { ⌜ isStmt (wholeStmt (now handler) (c .variables) stmt) ≡ true ⌝ }
+    ensures { λ r.
+        ⌜ r ≡ ownOf (firstBroken (owed (tablesOf (now (handler .entry)) (now (proof .entry)) (c .variables) (c .states) (c .sets))
+            (nodeIn (wholeNode (now (proof .entry)) (c .sets) (c .relations) at))
+            (stmtIn (wholeStmt (now (handler .entry)) (c .variables) stmt)))) ⌝ }
+{
+    let head = node_head_at(proof, c.sets, c.relations, 24, 0, at);
+    let own = names_of(head);
+    let NodeHead::Node(rule, _, _, _, _, k, w, first) = head else {
+        return Own::Holds;
+    };
+    let part = part_at(handler, c.variables, stmt);
+    let code = code_of(part);
+    let expr = expr_of(part);
+    if rule == 0 {
+        return skip_fault(c.states, work, own, code == 0);
+    }
+    if rule == 1 {
+        return assignment_fault(handler, work, own, code == 1, target_of(part), expr);
+    }
+    let child = names_of(node_head_at(proof, c.sets, c.relations, 24, 0, first));
+    if rule < 4 {
+        let middle = next_of(node_end(proof, c.sets, c.relations, first));
+        let right = names_of(node_head_at(proof, c.sets, c.relations, 24, 0, middle));
+        if rule == 2 {
+            return sequence_fault(c.states, work, own, child, right, code == 2);
+        }
+        return parallel_fault(c.states, work, own, child, right, code == 3);
+    }
+    if rule == 4 {
+        return if_fault(handler, work, own, child, code == 4, expr);
+    }
+    if rule == 5 {
+        return while_fault(handler, work, own, k, w, child, code == 5, expr);
+    }
+    weaken_fault(c.states, work, own, child)
+}
+
+// The derivation at a node over a statement: the node's own conditions, then its children's.
+pub(crate) fn walk(handler: &[u8], proof: &[u8], work: &[u64], c: Counts, levels: u32, node: u32, at: usize, stmt: usize) -> Walked
+    requires { ⌜ Walkable (now handler) (now proof) (now work) c levels node at stmt ⌝ }
+    ensures { λ r.
+        ⌜ r ≡ walkOn (tablesOf (now (handler .entry)) (now (proof .entry)) (c .variables) (c .states) (c .sets))
+            (nodeAt levels (now (proof .entry)) (c .sets) (c .relations) node at)
+            (stmtIn (wholeStmt (now (handler .entry)) (c .variables) stmt)) node ⌝ }
+{
+    if levels == 0 {
+        return Walked::Broken(0, node);
+    }
+    match node_head_at(proof, c.sets, c.relations, levels - 1, node, at) {
+        NodeHead::Fault(_, _) => Walked::Broken(0, node),
+        NodeHead::Node(rule, _, _, _, _, _, _, next) => {
+            if let Own::Breaks(number) = own_fault(handler, proof, work, c, at, stmt) {
+                return Walked::Broken(number, node);
+            }
+            if rule < 2 {
+                return Walked::Through(node + 1, next);
+            }
+            let first = first_part(handler, c.variables, rule, stmt);
+            match walk(handler, proof, work, c, levels - 1, node + 1, next, first) {
+                Walked::Broken(number, place) => Walked::Broken(number, place),
+                Walked::Through(so_far, end) => {
+                    if rule < 4 {
+                        let second = second_part(handler, c.variables, stmt);
+                        return walk(handler, proof, work, c, levels - 1, so_far, end, second);
+                    }
+                    Walked::Through(so_far, end)
+                }
+            }
+        }
+    }
+}
