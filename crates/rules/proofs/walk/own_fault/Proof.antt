@@ -4,7 +4,8 @@ use borrow.Author.Needs.{needs}
 use Rattle.derivation.specs.Nodes.{nodeHead}
 use Rattle.derivation.proofs.Placement.{head-sound}
 use Rattle.rules.specs.Owing.{codeAt, targetAt, exprAt, namesAt, nextAt}
-use Rattle.rules.proofs.Owed.{node-stands, stmt-stands, Site, skip-owes, assignment-owes, sequence-owes, parallel-owes, if-owes, while-owes, weaken-owes}
+use Rattle.rules.proofs.Owed.{node-stands, Site, skip-owes, assignment-owes, sequence-owes, parallel-owes, if-owes, while-owes, weaken-owes}
+use Rattle.rules.proofs.Walking.{stands}
 use Rattle.rules.proofs.walk.own_fault.Statement.{statement}
 use Rattle.rules.proofs.walk.own_fault.Tie as tie
 
@@ -16,11 +17,11 @@ site c =
     let head = c .before .before .before .before .before .before .before .node-head-at .ensures in
     let told = c .before .before .before .before .head .given in
     let part = c .before .before .part-at .ensures in
-    let stands = node-stands _ _ _ _ (pre .0) (a .at) (pre .1 .0) in
+    let node = node-stands _ _ _ _ (pre .0) (a .at) (pre .1 .0) in
     record {
-      next = stands .0;
-      d-stands = stands .1;
-      S-stands = stmt-stands _ _ _ _ (pre .0) (a .stmt) (pre .1 .1);
+      next = node .0;
+      d-stands = node .1;
+      S-stands = stands _ _ (a .stmt) (pre .1 .1);
       rule = told .0 .0;
       P = told .0 .1 .0;
       R = told .0 .1 .1 .0;
@@ -39,8 +40,8 @@ returns : tie.Need-returns
 returns c =
     let a = c .before .before .before .before .before .before .before .args in
     let pre = c .before .before .before .before .before .before .before .pre in
-    let stands = node-stands _ _ _ _ (pre .0) (a .at) (pre .1 .0) in
-    absurd (head-sound _ _ _ _ _ _ (stands .1) _ _ (sym (c .before .before .before .node-head-at .ensures) ∙ c .enum-told .given .1))
+    let node = node-stands _ _ _ _ (pre .0) (a .at) (pre .1 .0) in
+    absurd (head-sound _ _ _ _ _ _ (node .1) _ _ (sym (c .before .before .before .node-head-at .ensures) ∙ c .enum-told .given .1))
 
 returns-2 : tie.Need-returns-2
 returns-2 c =
@@ -55,7 +56,7 @@ returns-3 c =
 returns-4 : tie.Need-returns-4
 returns-4 c =
     let b = c .before .before .before .before .before .before .before .before .before .before .before in
-    c .sequence-fault .ensures ∙ sequence-owes _ _ _ _ (b .before .before .before .before .before .before .before .before .before .before .before .pre .0) _ _ _ _ _ (site b) 
+    c .sequence-fault .ensures ∙ sequence-owes _ _ _ _ (b .before .before .before .before .before .before .before .before .before .before .before .pre .0) _ _ _ _ _ (site b)
     _ _ (c .before .before .before .before .before .before .before .names-of2 .ensures ∙ ap namesAt (c .before .before .before .before .before .before .before .before .node-head-at2 .ensures))
     (c .before .before .names-of3 .ensures ∙ ap namesAt (c .before .before .before .node-head-at3 .ensures ∙ ap (nodeHead _ _ _ 24 0) (c .before .before .before .before .next-of .ensures ∙ ap nextAt (c .before .before .before .before .before .node-end .ensures))))
     (c .before .before .before .before .before .before .before .before .before .before .if1 .left) (c .before .before .before .before .before .before .before .before .before .if2 .left) (c .before .before .before .before .before .before .if3 .taken) (c .before .if4 .taken)
@@ -63,7 +64,7 @@ returns-4 c =
 returns-5 : tie.Need-returns-5
 returns-5 c =
     let b = c .before .before .before .before .before .before .before .before .before .before .before in
-    c .parallel-fault .ensures ∙ parallel-owes _ _ _ _ (b .before .before .before .before .before .before .before .before .before .before .before .pre .0) _ _ _ _ _ (site b) 
+    c .parallel-fault .ensures ∙ parallel-owes _ _ _ _ (b .before .before .before .before .before .before .before .before .before .before .before .pre .0) _ _ _ _ _ (site b)
     _ _ (c .before .before .before .before .before .before .before .names-of2 .ensures ∙ ap namesAt (c .before .before .before .before .before .before .before .before .node-head-at2 .ensures))
     (c .before .before .names-of3 .ensures ∙ ap namesAt (c .before .before .before .node-head-at3 .ensures ∙ ap (nodeHead _ _ _ 24 0) (c .before .before .before .before .next-of .ensures ∙ ap nextAt (c .before .before .before .before .before .node-end .ensures))))
     (c .before .before .before .before .before .before .before .before .before .before .if1 .left) (c .before .before .before .before .before .before .before .before .before .if2 .left) (c .before .before .before .before .before .before .if3 .taken) (c .before .if4 .left)
@@ -71,19 +72,19 @@ returns-5 c =
 returns-6 : tie.Need-returns-6
 returns-6 c =
     let b = c .before .before .before .before .before .before .before in
-    c .if-fault .ensures ∙ if-owes _ _ _ _ (b .before .before .before .before .before .before .before .before .before .before .before .pre .0) _ _ _ _ _ (site b) 
+    c .if-fault .ensures ∙ if-owes _ _ _ _ (b .before .before .before .before .before .before .before .before .before .before .before .pre .0) _ _ _ _ _ (site b)
     _ (c .before .before .before .names-of2 .ensures ∙ ap namesAt (c .before .before .before .before .node-head-at2 .ensures)) (c .before .before .if3 .left) (c .before .if5 .taken)
 
 returns-7 : tie.Need-returns-7
 returns-7 c =
     let b = c .before .before .before .before .before .before .before .before in
-    c .while-fault .ensures ∙ while-owes _ _ _ _ (b .before .before .before .before .before .before .before .before .before .before .before .pre .0) _ _ _ _ _ (site b) 
+    c .while-fault .ensures ∙ while-owes _ _ _ _ (b .before .before .before .before .before .before .before .before .before .before .before .pre .0) _ _ _ _ _ (site b)
     _ (c .before .before .before .before .names-of2 .ensures ∙ ap namesAt (c .before .before .before .before .before .node-head-at2 .ensures)) (c .before .before .before .if3 .left) (c .before .if6 .taken)
 
 returns-8 : tie.Need-returns-8
 returns-8 c =
     let b = c .before .before .before .before .before .before .before .before in
-    c .weaken-fault .ensures ∙ weaken-owes _ _ _ _ (b .before .before .before .before .before .before .before .before .before .before .before .pre .0) _ _ _ _ _ (site b) 
+    c .weaken-fault .ensures ∙ weaken-owes _ _ _ _ (b .before .before .before .before .before .before .before .before .before .before .before .pre .0) _ _ _ _ _ (site b)
     _ (c .before .before .before .before .names-of2 .ensures ∙ ap namesAt (c .before .before .before .before .before .node-head-at2 .ensures)) (c .before .before .before .if3 .left) (c .before .before .if5 .left) (c .before .if6 .left)
 
 pub own-fault-spec : {M : Type 1} → statement M
