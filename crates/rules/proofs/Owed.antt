@@ -183,7 +183,8 @@ module _ (hb pb work : List ℕ) (c : Counts) (ready : Ready hb pb work c) where
       by (fault k place) e read = absurd (false≢true read)
 
 -- What the code has read at a node and at its statement.
-pub record Site (hb pb : List ℕ) (c : Counts) (at stmt : ℕ) (own : Named.Names) (code expr : ℕ) : Type 0 where
+pub record Site (hb pb work : List ℕ) (c : Counts) (at stmt : ℕ) (own : Named.Names) (code expr : ℕ) : Type 0 where
+  pub ready : Ready hb pb work c
   pub next : ℕ
   pub d-stands : Placement.Stands pb (c .sets) (c .relations) (nodeIn (wholeNode pb (c .sets) (c .relations) at)) at next
   pub S-stands : Parts.Stands hb (c .variables) stmt (stmtIn (Stmts.wholeStmt hb (c .variables) stmt))
@@ -200,8 +201,11 @@ pub record Site (hb pb : List ℕ) (c : Counts) (at stmt : ℕ) (own : Named.Nam
   pub code-is : code ≡ codeAt (partAt hb (c .variables) stmt)
   pub expr-is : expr ≡ exprAt (partAt hb (c .variables) stmt)
 
-module _ (hb pb work : List ℕ) (c : Counts) (ready : Ready hb pb work c) (at stmt : ℕ) (own : Named.Names) (code expr : ℕ)
-    (site : Site hb pb c at stmt own code expr) where
+module _ (hb pb work : List ℕ) (c : Counts) (at stmt : ℕ) (own : Named.Names) (code expr : ℕ)
+    (site : Site hb pb work c at stmt own code expr) where
+  abbrev ready : Ready hb pb work c
+  ready = site .ready
+
   abbrev d : Derivation
   d = nodeIn (wholeNode pb (c .sets) (c .relations) at)
 
