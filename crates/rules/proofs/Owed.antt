@@ -28,7 +28,7 @@ use Rattle.rules.specs.declared.Own.the-variants.{Holds}
 use Rattle.rules.specs.Words.{bare, wordSet, wordRelation, wordSpec}
 use Rattle.rules.specs.Places.{machineHere, exprHere}
 use Rattle.rules.specs.Verdicts.{tablesOf}
-use Rattle.rules.specs.Walks.{stmtIn, isStmt, nodeIn, isNode, ownOf, guarded, Ready}
+use Rattle.rules.specs.Walks.{stmtIn, nodeIn, isNode, ownOf, guarded, Ready}
 use Rattle.rules.specs.Owing.{codeAt, targetAt, exprAt, namesAt, nextAt}
 use Rattle.rules.proofs.Bare.{bare-skip, bare-sequence, bare-parallel, bare-weaken}
 use Rattle.rules.proofs.Guards.{first-guarded, on-fit}
@@ -172,7 +172,7 @@ module _ (hb pb work : List ℕ) (c : Counts) (ready : Ready hb pb work c) where
   words-here : (h : Named.Names) → wordSpec (machineHere hb .states) work h ≡ wordSpec (c .states) work h
   words-here h = ap (λ k. wordSpec k work h) (ap (λ m. m .states) here ∙ sym (sized .total))
 
-  -- A derivation and a statement that were read stand in their places.
+  -- A derivation that was read stands in its place.
   pub node-stands : (at : ℕ) → isNode (wholeNode pb (c .sets) (c .relations) at) ≡ true
       → (next : ℕ) × Stands (nodeIn (wholeNode pb (c .sets) (c .relations) at)) at next
   unfolding wholeNode
@@ -182,16 +182,9 @@ module _ (hb pb work : List ℕ) (c : Counts) (ready : Ready hb pb work c) where
       by (whole d after next) e read = (next, Placement.fresh pb (c .sets) (c .relations) 25 0 at d after next e (omega arith))
       by (fault k place) e read = absurd (false≢true read)
 
-  pub stmt-stands : (at : ℕ) → isStmt (Stmts.wholeStmt hb (c .variables) at) ≡ true
-      → Parts.Stands hb (c .variables) at (stmtIn (Stmts.wholeStmt hb (c .variables) at))
-  stmt-stands at = by (Stmts.wholeStmt hb (c .variables) at) refl
-    where
-      by : (r : Stmts.StmtRead) → Stmts.wholeStmt hb (c .variables) at ≡ r → isStmt r ≡ true → Parts.Stands hb (c .variables) at (stmtIn r)
-      by (Stmts.whole S after next) e read = record { after = after; next = next; read = e }
-      by (Stmts.fault k place) e read = absurd (false≢true read)
-
 -- What the code has read at a node and at its statement.
-pub record Site (hb pb : List ℕ) (c : Counts) (at stmt : ℕ) (own : Named.Names) (code expr : ℕ) : Type 0 where
+pub record Site (hb pb work : List ℕ) (c : Counts) (at stmt : ℕ) (own : Named.Names) (code expr : ℕ) : Type 0 where
+  pub ready : Ready hb pb work c
   pub next : ℕ
   pub d-stands : Placement.Stands pb (c .sets) (c .relations) (nodeIn (wholeNode pb (c .sets) (c .relations) at)) at next
   pub S-stands : Parts.Stands hb (c .variables) stmt (stmtIn (Stmts.wholeStmt hb (c .variables) stmt))
@@ -208,8 +201,11 @@ pub record Site (hb pb : List ℕ) (c : Counts) (at stmt : ℕ) (own : Named.Nam
   pub code-is : code ≡ codeAt (partAt hb (c .variables) stmt)
   pub expr-is : expr ≡ exprAt (partAt hb (c .variables) stmt)
 
-module _ (hb pb work : List ℕ) (c : Counts) (ready : Ready hb pb work c) (at stmt : ℕ) (own : Named.Names) (code expr : ℕ)
-    (site : Site hb pb c at stmt own code expr) where
+module _ (hb pb work : List ℕ) (c : Counts) (at stmt : ℕ) (own : Named.Names) (code expr : ℕ)
+    (site : Site hb pb work c at stmt own code expr) where
+  abbrev ready : Ready hb pb work c
+  ready = site .ready
+
   abbrev d : Derivation
   d = nodeIn (wholeNode pb (c .sets) (c .relations) at)
 
@@ -326,7 +322,7 @@ module _ (hb pb work : List ℕ) (c : Counts) (ready : Ready hb pb work c) (at s
 
     pub while-owes : site .rule ≡ 5
         → guarded (whileOwes (machineHere hb) (eqb code 5) (wordSpec (machineHere hb .states) work own) (exprHere hb expr) (wordSet (machineHere hb .states) work (site .K))
-          (wordRelation (machineHere hb .states) work (site .W)) (wordSpec (machineHere hb .states) work child)) Holds ≡ owes
+        (wordRelation (machineHere hb .states) work (site .W)) (wordSpec (machineHere hb .states) work child)) Holds ≡ owes
     unfolding holds must
     while-owes e =
         let known = node-within pb (c .sets) (c .relations) 24 0 at (site .rule) (site .P) (site .R) (site .G) (site .Q) (site .K) (site .W) (site .first) (site .read) in

@@ -1,6 +1,7 @@
 // What a node owes, by its rule: its conditions in the order of their numbers, each put in front of those behind it. All are
 // looked at; the first that is broken is the answer.
-use crate::{Names, Own};
+use crate::Names;
+use crate::Own;
 use crate::conditions::carries_back;
 use crate::conditions::carries_on;
 use crate::conditions::guarantee_within;
@@ -70,31 +71,37 @@ pub fn skip_fault(n: u32, work: &[u64], own: Names, fits: bool) -> Own
     common(n, work, own, fits, rest)
 }
 
-pub fn sequence_fault(n: u32, work: &[u64], own: Names, left: Names, right: Names, fits: bool) -> Own
+pub fn sequence_fault(
+    n: u32,
+    work: &[u64],
+    own: Names,
+    left: Names,
+    right: Names,
+    fits: bool,
+) -> Own
     ensures { λ r.
         ⌜ r ≡ guarded (sequenceOwes (bare n) fits (wordSpec n (now (work .entry)) own) (wordSpec n (now (work .entry)) left)
         (wordSpec n (now (work .entry)) right)) Holds ⌝ }
 {
-    let rest = unless(
-        sequence_post(n, work, own, left, right),
-        61,
-        Own::Holds,
-    );
+    let rest = unless(sequence_post(n, work, own, left, right), 61, Own::Holds);
     let rest = unless(left_meets_right(n, work, own, left, right), 60, rest);
     let rest = unless(sequence_tables(n, work, own, left, right), 34, rest);
     common(n, work, own, fits, rest)
 }
 
-pub fn parallel_fault(n: u32, work: &[u64], own: Names, left: Names, right: Names, fits: bool) -> Own
+pub fn parallel_fault(
+    n: u32,
+    work: &[u64],
+    own: Names,
+    left: Names,
+    right: Names,
+    fits: bool,
+) -> Own
     ensures { λ r.
         ⌜ r ≡ guarded (parallelOwes (bare n) fits (wordSpec n (now (work .entry)) own) (wordSpec n (now (work .entry)) left)
         (wordSpec n (now (work .entry)) right)) Holds ⌝ }
 {
-    let rest = unless(
-        parallel_post(n, work, own, left, right),
-        66,
-        Own::Holds,
-    );
+    let rest = unless(parallel_post(n, work, own, left, right), 66, Own::Holds);
     let rest = unless(guarantees_within(n, work, own, left, right), 65, rest);
     let rest = unless(parallel_tables(n, work, own, left, right), 34, rest);
     common(n, work, own, fits, rest)
@@ -122,25 +129,35 @@ fn states_of(handler: &[u8]) -> u32
     }
 }
 
-pub fn assignment_fault(handler: &[u8], work: &[u64], own: Names, fits: bool, v: u32, expr: usize) -> Own
+pub fn assignment_fault(
+    handler: &[u8],
+    work: &[u64],
+    own: Names,
+    fits: bool,
+    v: u32,
+    expr: usize,
+) -> Own
     ensures { λ r.
         ⌜ r ≡ guarded (assignmentOwes (machineHere (now (handler .entry))) fits
         (wordSpec (machineHere (now (handler .entry)) .states) (now (work .entry)) own) v (exprHere (now (handler .entry)) expr)) Holds ⌝ }
 {
     let n = states_of(handler);
     let after = after_rows(handler, v, expr);
-    let rest = unless(
-        store_in_guarantee(n, work, own, &after),
-        43,
-        Own::Holds,
-    );
+    let rest = unless(store_in_guarantee(n, work, own, &after), 43, Own::Holds);
     let rest = unless(store_in_post(n, work, own, &after), 42, rest);
     let rest = unless(unmoved(handler, moved(handler, work, own), expr), 41, rest);
     let rest = unless(in_range(n, work, own, &after), 40, rest);
     common(n, work, own, fits, rest)
 }
 
-pub fn if_fault(handler: &[u8], work: &[u64], own: Names, child: Names, fits: bool, expr: usize) -> Own
+pub fn if_fault(
+    handler: &[u8],
+    work: &[u64],
+    own: Names,
+    child: Names,
+    fits: bool,
+    expr: usize,
+) -> Own
     ensures { λ r.
         ⌜ r ≡ guarded (ifOwes (machineHere (now (handler .entry))) fits
         (wordSpec (machineHere (now (handler .entry)) .states) (now (work .entry)) own) (exprHere (now (handler .entry)) expr)
@@ -155,7 +172,16 @@ pub fn if_fault(handler: &[u8], work: &[u64], own: Names, child: Names, fits: bo
     common(n, work, own, fits, rest)
 }
 
-pub fn while_fault(handler: &[u8], work: &[u64], own: Names, k: u32, w: u32, child: Names, fits: bool, expr: usize) -> Own
+pub fn while_fault(
+    handler: &[u8],
+    work: &[u64],
+    own: Names,
+    k: u32,
+    w: u32,
+    child: Names,
+    fits: bool,
+    expr: usize,
+) -> Own
     ensures { λ r.
         ⌜ r ≡ guarded (whileOwes (machineHere (now (handler .entry))) fits
         (wordSpec (machineHere (now (handler .entry)) .states) (now (work .entry)) own) (exprHere (now (handler .entry)) expr)
@@ -172,7 +198,11 @@ pub fn while_fault(handler: &[u8], work: &[u64], own: Names, k: u32, w: u32, chi
     let rest = unless(keeps_k(n, work, own, k), 53, rest);
     let rest = unless(enters_k(n, work, own, k, truth), 52, rest);
     let rest = unless(strict_order(n, work, w), 51, rest);
-    let rest = unless(read_once(handler, moved(handler, work, own), expr), 50, rest);
+    let rest = unless(
+        read_once(handler, moved(handler, work, own), expr),
+        50,
+        rest,
+    );
     let rest = unless(while_tables(n, work, own, k, w, child), 34, rest);
     common(n, work, own, fits, rest)
 }
@@ -222,7 +252,12 @@ pub fn names_of(head: NodeHead) -> Names
 {
     match head {
         NodeHead::Node(_, p, r, g, q, _, _, _) => Names { p, r, g, q },
-        NodeHead::Fault(_, _) => Names { p: 0, r: 0, g: 0, q: 0 },
+        NodeHead::Fault(_, _) => Names {
+            p: 0,
+            r: 0,
+            g: 0,
+            q: 0,
+        },
     }
 }
 
