@@ -45,9 +45,11 @@ accepted-files hb pb words bound e = by (ltb words 1040) (ltb 16384 (length hb) 
     by false false s t e = rw (s, t) at e
 
 pub upheld : (hb pb : List ℕ) (words : ℕ) → Upheld hb pb (answer hb pb words .verdict)
-upheld hb pb words = record { upheld = λ bound e count n at S h sets relations root d p.
-    let through = accepted-files hb pb words bound e in
-    let (clear, is) = accepted-fault (firstFault (tablesOf hb pb count n sets) d S 0) (steps n S) bound _ (rw (h, p) at through) in
-    subst (Promise (machineOf (sizesOf hb count)) S (specOf (tablesOf hb pb count n sets) (namesOf d)))
-    (ap (λ N. steps N S) (states-are hb count n at S h) ∙ is)
-    (soundness (tablesOf hb pb count n sets) d S 0 clear (kinds-fit hb count n at S h)) }
+upheld hb pb words = record {
+  upheld = λ bound e count n at S h sets relations root d p.
+      let through = accepted-files hb pb words bound e in
+      let (clear, is) = accepted-fault (firstFault (tablesOf hb pb count n sets) d S 0) (steps n S) bound _ (rw (h, p) at through) in
+      subst (Promise (machineOf (sizesOf hb count)) S (specOf (tablesOf hb pb count n sets) (namesOf d)))
+      (ap (λ N. steps N S) (states-are hb count n at S h) ∙ is)
+      (soundness (tablesOf hb pb count n sets) d S 0 clear (kinds-fit hb count n at S h));
+}

@@ -120,7 +120,7 @@ module _ (t : Tables) (pb : List ℕ) (sets relations : ℕ) (S : Stmt) (levels 
   pub walk-two : 2 ≤ rule → rule < 4 → (d : Derivation) (after end : ℕ) → here ≡ whole d after end → firstBroken (owed t d S) ≡ none
       → walkOn t here S node
       ≡ thenWalk (walkOn t (nodeAt levels pb sets relations (suc node) next) (firstOf S) (suc node))
-        (λ a e. walkOn t (nodeAt levels pb sets relations a e) (secondOf S) a)
+      (λ a e. walkOn t (nodeAt levels pb sets relations a e) (secondOf S) a)
   walk-two over low d after end e clear =
       let c = read-two over low d after end e in
       let counted : c .between ≡ suc node + nodes (c .left) = placed pb sets relations levels (suc node) next (c .left) (c .between) (c .middle) (c .left-read) .counted in

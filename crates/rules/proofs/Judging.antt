@@ -57,10 +57,11 @@ module _ (hb pb : List ℕ) (variables states stmt k : ℕ) (h : Handled hb vari
     walkable before work enough words =
         let s = stages hb variables states stmt (h .S) (h .reads) in
         record {
-            ready = record { first = stmt; root = root; derivation = d; before = before; header = s .header; reads = e; enough = enough; words = words };
-            shallow = omega arith;
-            derivation = rw (node-read .2);
-            statement = rw (s .statement) }
+          ready = record { first = stmt; root = root; derivation = d; before = before; header = s .header; reads = e; enough = enough; words = words };
+          shallow = omega arith;
+          derivation = rw (node-read .2);
+          statement = rw (s .statement);
+        }
 
     pub judged : (v : Verdict) → v ≡ decided (walkOn (tablesOf hb pb variables states sets) (nodeAt 25 pb sets relations 0 root) (stmtIn (wholeStmt hb variables stmt)) 0) k
         → v ≡ onHandler hb pb (readHandler hb) .verdict
@@ -68,7 +69,7 @@ module _ (hb pb : List ℕ) (variables states stmt k : ℕ) (h : Handled hb vari
         let s = stages hb variables states stmt (h .S) (h .reads) in
         let o = firstFault (tablesOf hb pb variables states sets) d (h .S) 0 in
         let found : walkOn (tablesOf hb pb variables states sets) (nodeAt 25 pb sets relations 0 root) (stmtIn (wholeStmt hb variables stmt)) 0
-            ≡ wayOf o (node-read .0) (node-read .1) = rw (node-read .2, s .statement) in
+        ≡ wayOf o (node-read .0) (node-read .1) = rw (node-read .2, s .statement) in
         is ∙ ap (λ w. decided w k) found ∙ ap (decided (wayOf o (node-read .0) (node-read .1))) (h .counted)
         ∙ decided-answer o (node-read .0) (node-read .1) (steps states (h .S)) (tableWord pb states sets relations) ∙ sym (ap (λ a. a .verdict) on-read)
 

@@ -63,7 +63,8 @@ module _ (hb pb work : List ℕ) (c : Counts) (ready : Ready hb pb work c) (few 
 
   pub spec-loaded : (h : Named.Names) → Known c h → wordSpec (c .states) work h ≡ specOf t (names h)
   spec-loaded h k = λ i. record {
-      P = set-loaded (h .p) (k .P-known) i;
-      R = relation-loaded (h .r) (k .R-known) i;
-      G = relation-loaded (h .g) (k .G-known) i;
-      Q = relation-loaded (h .q) (k .Q-known) i }
+    P = set-loaded (h .p) (k .P-known) i;
+    R = relation-loaded (h .r) (k .R-known) i;
+    G = relation-loaded (h .g) (k .G-known) i;
+    Q = relation-loaded (h .q) (k .Q-known) i;
+  }

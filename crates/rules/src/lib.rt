@@ -19,8 +19,8 @@ ghost use Rattle.rules.specs.Walks.{stmtIn, walkOn, decided, Walkable, H
 pub mod conditions;
 pub mod nodes;
 pub mod tables;
-pub mod walk;
 pub mod tests;
+pub mod walk;
 
 // The tables that a node names, by number: P a set, R, G and Q relations.
 pub struct Names {
@@ -104,18 +104,34 @@ fn decide(way: Walked, steps: u64) -> Verdict
 }
 
 // The nodes of a proof file whose tables are in the work words, over the handler file's statement.
-fn judge(handler: &[u8], proof: &[u8], work: &[u64], c: Counts, root: usize, stmt: usize, steps: u64) -> Verdict
+fn judge(
+    handler: &[u8],
+    proof: &[u8],
+    work: &[u64],
+    c: Counts,
+    root: usize,
+    stmt: usize,
+    steps: u64,
+) -> Verdict
     requires { ⌜ Walkable (now handler) (now proof) (now work) c 25 0 root stmt ⌝ }
     ensures { λ r.
         ⌜ r ≡ decided (walkOn (tablesOf (now (handler .entry)) (now (proof .entry)) (c .variables) (c .states) (c .sets))
-            (nodeAt 25 (now (proof .entry)) (c .sets) (c .relations) 0 root)
-            (stmtIn (wholeStmt (now (handler .entry)) (c .variables) stmt)) 0) steps ⌝ }
+        (nodeAt 25 (now (proof .entry)) (c .sets) (c .relations) 0 root)
+        (stmtIn (wholeStmt (now (handler .entry)) (c .variables) stmt)) 0) steps ⌝ }
 {
     decide(walk(handler, proof, work, c, 25, 0, root, stmt), steps)
 }
 
 // The proof file over a handler file that was read: its tables stay in the work words only if the pair is accepted.
-fn check_proof(handler: &[u8], proof: &[u8], work: &mut [u64], variables: u32, states: u32, stmt: usize, steps: u64) -> Verdict
+fn check_proof(
+    handler: &[u8],
+    proof: &[u8],
+    work: &mut [u64],
+    variables: u32,
+    states: u32,
+    stmt: usize,
+    steps: u64,
+) -> Verdict
     requires { ⌜ Handled (now handler) variables states stmt steps ⌝ }
     requires { ⌜ 1040 ≤ length (now work) ⌝ }
     ensures verdict { λ r. ⌜ r ≡ onHandler (now (handler .entry)) (now (proof .entry)) (readHandler (now (handler .entry))) .verdict ⌝ }
@@ -163,6 +179,14 @@ pub fn check(handler: &[u8], proof: &[u8], work: &mut [u64]) -> Verdict
             clear(work);
             at_bit(number, place)
         }
-        HandlerFile::Handler(variables, states, stmt, steps) => check_proof(handler, proof, work, variables, states, stmt, steps),
+        HandlerFile::Handler(variables, states, stmt, steps) => check_proof(
+            handler,
+            proof,
+            work,
+            variables,
+            states,
+            stmt,
+            steps,
+        ),
     }
 }

@@ -1,9 +1,23 @@
 // The walk over the derivation's nodes in file order. Statement and node are positions in their files, read again where they
 // stand; sequence and parallel find their right parts by where the left ones end, and weaken keeps its statement.
-use crate::{Counts, Own, Walked};
+use crate::Counts;
+use crate::Own;
+use crate::Walked;
+use crate::nodes::assignment_fault;
+use crate::nodes::code_of;
+use crate::nodes::expr_of;
+use crate::nodes::if_fault;
+use crate::nodes::names_of;
+use crate::nodes::next_of;
+use crate::nodes::parallel_fault;
+use crate::nodes::sequence_fault;
+use crate::nodes::skip_fault;
+use crate::nodes::target_of;
+use crate::nodes::weaken_fault;
+use crate::nodes::while_fault;
 use derivation::NodeHead;
-use crate::nodes::{assignment_fault, code_of, expr_of, if_fault, names_of, next_of, parallel_fault, sequence_fault, skip_fault, target_of, weaken_fault, while_fault};
-use derivation::nodes::{node_end, node_head_at};
+use derivation::nodes::node_end;
+use derivation::nodes::node_head_at;
 use handler::Part;
 use handler::reading::part_at;
 ghost use mathlib.Core.Path.{_≡_};
@@ -52,8 +66,8 @@ fn own_fault(handler: &[u8], proof: &[u8], work: &[u64], c: Counts, at: usize, s
     requires { ⌜ isStmt (wholeStmt (now handler) (c .variables) stmt) ≡ true ⌝ }
     ensures { λ r.
         ⌜ r ≡ ownOf (firstBroken (owed (tablesOf (now (handler .entry)) (now (proof .entry)) (c .variables) (c .states) (c .sets))
-            (nodeIn (wholeNode (now (proof .entry)) (c .sets) (c .relations) at))
-            (stmtIn (wholeStmt (now (handler .entry)) (c .variables) stmt)))) ⌝ }
+        (nodeIn (wholeNode (now (proof .entry)) (c .sets) (c .relations) at))
+        (stmtIn (wholeStmt (now (handler .entry)) (c .variables) stmt)))) ⌝ }
 {
     let head = node_head_at(proof, c.sets, c.relations, 24, 0, at);
     let own = names_of(head);
@@ -88,12 +102,21 @@ fn own_fault(handler: &[u8], proof: &[u8], work: &[u64], c: Counts, at: usize, s
 }
 
 // The derivation at a node over a statement: the node's own conditions, then its children's.
-pub(crate) fn walk(handler: &[u8], proof: &[u8], work: &[u64], c: Counts, levels: u32, node: u32, at: usize, stmt: usize) -> Walked
+pub(crate) fn walk(
+    handler: &[u8],
+    proof: &[u8],
+    work: &[u64],
+    c: Counts,
+    levels: u32,
+    node: u32,
+    at: usize,
+    stmt: usize,
+) -> Walked
     requires { ⌜ Walkable (now handler) (now proof) (now work) c levels node at stmt ⌝ }
     ensures { λ r.
         ⌜ r ≡ walkOn (tablesOf (now (handler .entry)) (now (proof .entry)) (c .variables) (c .states) (c .sets))
-            (nodeAt levels (now (proof .entry)) (c .sets) (c .relations) node at)
-            (stmtIn (wholeStmt (now (handler .entry)) (c .variables) stmt)) node ⌝ }
+        (nodeAt levels (now (proof .entry)) (c .sets) (c .relations) node at)
+        (stmtIn (wholeStmt (now (handler .entry)) (c .variables) stmt)) node ⌝ }
 {
     if levels == 0 {
         return Walked::Broken(0, node);

@@ -51,10 +51,11 @@ returns-3 c =
     let r = read (j .before .before .before) in
     let v = judged (a .handler .now) (a .proof .now) (a .variables) (a .states) (a .stmt) (a .steps) (s .pre .0) _ _ _ (r .0) (r .1) (j .judge .result) (j .judge .ensures) in
     let no = sym (c .before .before .before .before .before .fault .given .1) ∙ v in
-    let none-left = no-words (a .handler .now) (a .proof .now) (a .variables) (a .states) (a .stmt) (a .steps) (s .pre .0) _ _ _ (r .0) (r .1) _ (sym no) in
-    (no,
-    c .before .before .clear .ensures ∙ ap (written (λ j. 0)) (l .load .ensures .1) ∙ written-twice (λ j. 0) _ (a .work .now)
-    ∙ ap (λ f. written f (a .work .now)) (sym none-left))
+    let none-left = no-words (a .handler .now) (a .proof .now) (a .variables) (a .states) (a .stmt) (a .steps) (s .pre .0) _ _ _ (r .0) (r .1) _ (sym no) in (
+      no,
+      c .before .before .clear .ensures ∙ ap (written (λ j. 0)) (l .load .ensures .1) ∙ written-twice (λ j. 0) _ (a .work .now)
+          ∙ ap (λ f. written f (a .work .now)) (sym none-left),
+    )
 
 pub check-proof-spec : {M : Type 1} → statement M
 check-proof-spec =

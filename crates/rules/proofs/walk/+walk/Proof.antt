@@ -32,9 +32,18 @@ abbrev below : ℕ → In 3 walk-kinds.ps
 below t = and 3 walk-kinds.ps (falls 3 walk-kinds.ps _<_ μ-walk t) walk.Pre
 
 abbrev callees : ℕ → lts.Claims
-callees t =
-    (node-head-at-reads.Asked, node-head-at-reads.Learnt, own-fault-reads.Asked, own-fault-reads.Learnt, first-part-reads.Asked,
-    first-part-reads.Learnt, below t, walk.Post, second-part-reads.Asked, second-part-reads.Learnt)
+callees t = (
+  node-head-at-reads.Asked,
+  node-head-at-reads.Learnt,
+  own-fault-reads.Asked,
+  own-fault-reads.Learnt,
+  first-part-reads.Asked,
+  first-part-reads.Learnt,
+  below t,
+  walk.Post,
+  second-part-reads.Asked,
+  second-part-reads.Learnt,
+)
 
 -- The derivation that was read at the node.
 here : (t : ℕ) (c : lts.Start (callees t) (given t) walk.Post) → let a = c .args in
@@ -68,11 +77,24 @@ seen t c =
     let rule = o .before .before .rule .given in
     let h = o .before .before .before .before in
     let s = h .before .before .before .before .before in let f = here t s in
-    record { d = f .d; after = f .after; end = f .next; read = f .read; low = s .pre .1 .shallow;
-        own = o .own-fault .result; owes = o .own-fault .ensures; holds = c .enum-told2 .given .1;
-        P = rule .0 .1 .0; R = rule .0 .1 .1 .0; G = rule .0 .1 .1 .1 .0; Q = rule .0 .1 .1 .1 .1 .0;
-        K = rule .0 .1 .1 .1 .1 .1 .0; W = rule .0 .1 .1 .1 .1 .1 .1 .0;
-        head = sym (h .node-head-at .ensures) ∙ rule .1; standing = s .pre .1 .statement }
+    record {
+      d = f .d;
+      after = f .after;
+      end = f .next;
+      read = f .read;
+      low = s .pre .1 .shallow;
+      own = o .own-fault .result;
+      owes = o .own-fault .ensures;
+      holds = c .enum-told2 .given .1;
+      P = rule .0 .1 .0;
+      R = rule .0 .1 .1 .0;
+      G = rule .0 .1 .1 .1 .0;
+      Q = rule .0 .1 .1 .1 .1 .0;
+      K = rule .0 .1 .1 .1 .1 .1 .0;
+      W = rule .0 .1 .1 .1 .1 .1 .1 .0;
+      head = sym (h .node-head-at .ensures) ∙ rule .1;
+      standing = s .pre .1 .statement;
+    }
 
 -- A node that was read has fewer than 127 before it.
 few : (t : ℕ) (c : lts.After-enum-told2 (callees t) (given t) walk.Post) → c .before .before .before .before .before .before .before .before .before .before .before .args .node < 127
@@ -87,9 +109,10 @@ walk-requires t c κs =
     let x = seen t (c .before .before) in
     let s = c .before .before .before .before .before .before .before .before .before .before .before .before .before in
     let more : 0 < s .args .levels = search needs in
-    let part = first-stands x (over t (c .before)) in
-    (omega arith,
-    record { ready = s .pre .1 .ready; shallow = omega (arith, x .low); derivation = first-node x (over t (c .before)); statement = rw (c .first-part .ensures) (part .there) })
+    let part = first-stands x (over t (c .before)) in (
+      omega arith,
+      record { ready = s .pre .1 .ready; shallow = omega (arith, x .low); derivation = first-node x (over t (c .before)); statement = rw (c .first-part .ensures) (part .there) },
+    )
 
 -- The statement at the first child, by the law of where it stands.
 first-is : (t : ℕ) (c : lts.After-first-part (callees t) (given t) walk.Post) →
@@ -103,11 +126,15 @@ walk-requires-2 t c κs =
     let w = c .before .before .before .before .before in
     let x = seen t (w .before .before .before) in
     let o = over t (w .before .before) in
-    let s = w .before .before .before .before .before .before .before .before .before .before .before .before .before .before in
-    (omega (arith, s .pre .0, w .before .before .before .before .before .before .before .before .before .before .if1 .left),
-    record { ready = s .pre .1 .ready; shallow = omega (arith, x .low);
+    let s = w .before .before .before .before .before .before .before .before .before .before .before .before .before .before in (
+      omega (arith, s .pre .0, w .before .before .before .before .before .before .before .before .before .before .if1 .left),
+      record {
+        ready = s .pre .1 .ready;
+        shallow = omega (arith, x .low);
         derivation = second-node x o _ (first-is t (w .before)) (w .walk .result) (w .walk .ensures) _ _ (c .before .before .before .so-far .given .1) (c .before .if3 .taken);
-        statement = rw (c .second-part .ensures) (second-stands x o _ (first-is t (w .before)) (w .walk .result) (w .walk .ensures) (c .before .if3 .taken) .there) })
+        statement = rw (c .second-part .ensures) (second-stands x o _ (first-is t (w .before)) (w .walk .result) (w .walk .ensures) (c .before .if3 .taken) .there);
+      },
+    )
 
 returns-4 : (t : ℕ) → lts.Need-returns-4 (callees t) (given t) walk.Post
 returns-4 t c =
