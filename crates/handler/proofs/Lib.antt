@@ -7,8 +7,3 @@ pub mod Parts
 pub mod Fitting
 pub mod Cases
 pub mod Heads
-pub mod Sizes
-pub mod Integers
-pub mod Worths
-pub mod ValueLaws
-pub mod ValueCases

@@ -5,4 +5,3 @@ pub mod Statements
 pub mod Kinds
 pub mod Reading
 pub mod Shapes
-pub mod Values

@@ -3,7 +3,6 @@ pub mod expressions;
 pub mod head;
 pub mod reading;
 pub mod statements;
-pub mod values;
 
 // What the head of the file finds: how many variables, N and the statement's first bit; or the fault and its place.
 pub enum Header {
@@ -64,23 +63,4 @@ pub enum Part {
     Pair(u32, usize, usize),
     Test(u32, usize, usize),
     Nothing,
-}
-
-// What an expression is worth at a state: an integer, a truth value, or nothing where the kinds do not fit.
-pub enum Worth {
-    Integer(i64),
-    Truth(bool),
-    Nothing,
-}
-
-// What walking an expression at a state finds: its worth, the number of its nodes so far and the cursor behind it; or a fault.
-pub enum WorthRead {
-    Whole(Worth, u32, usize),
-    Fault(u32, usize),
-}
-
-// The state after a store, or that the value is no integer or out of the variable's range.
-pub enum After {
-    State(u32),
-    OutOfRange,
 }

@@ -1,16 +1,9 @@
--- The laws that the conditions' proofs share, and the theorem of the bytes.
-pub mod Searches
-pub mod Words
+-- What the nodes of a derivation owe, the walk over them, and the theorem of the bytes.
 pub mod Demand
 pub mod Faults
 pub mod Loaded
 pub mod Walking
 pub mod Stages
 pub mod Judging
-pub mod Bare
-pub mod TestsPlaces
-pub mod TestsRows
-pub mod TestsStores
-pub mod TestsMoved
 pub mod Guards
 pub mod Owed

@@ -16,8 +16,8 @@ use Rattle.handler.specs.Header.{sizesOf}
 use Rattle.derivation.specs.Tables.{inSetOf, inRelationOf}
 use Rattle.derivation.proofs.Membership.{set-member, pair-member}
 use Rattle.rules.specs.declared.Counts.{Counts}
-use Rattle.rules.specs.declared.Names as Named
-use Rattle.rules.specs.Words.{wordSet, wordRelation, wordSpec}
+use Rattle.conditions.specs.declared.Names as Named
+use Rattle.conditions.specs.Words.{wordSet, wordRelation, wordSpec}
 use Rattle.rules.specs.Verdicts.{tablesOf}
 use Rattle.rules.specs.Walks.{Ready}
 

@@ -22,15 +22,15 @@ use Rattle.derivation.specs.Nodes.{NodeRead, whole, fault, alone, overTwo, over
 use Rattle.derivation.proofs.Heads.{node-within}
 use Rattle.derivation.proofs.Placement as Placement
 use Rattle.rules.specs.declared.Counts.{Counts}
-use Rattle.rules.specs.declared.Names as Named
+use Rattle.conditions.specs.declared.Names as Named
 use Rattle.rules.specs.declared.Own.{Own}
 use Rattle.rules.specs.declared.Own.the-variants.{Holds}
-use Rattle.rules.specs.Words.{bare, wordSet, wordRelation, wordSpec}
-use Rattle.rules.specs.Places.{machineHere, exprHere}
+use Rattle.conditions.specs.Words.{bare, wordSet, wordRelation, wordSpec}
+use Rattle.effects.specs.Places.{machineHere, exprHere}
 use Rattle.rules.specs.Verdicts.{tablesOf}
 use Rattle.rules.specs.Walks.{stmtIn, nodeIn, isNode, ownOf, guarded, Ready}
 use Rattle.rules.specs.Owing.{codeAt, targetAt, exprAt, namesAt, nextAt}
-use Rattle.rules.proofs.Bare.{bare-skip, bare-sequence, bare-parallel, bare-weaken}
+use Rattle.conditions.proofs.Bare.{bare-skip, bare-sequence, bare-parallel, bare-weaken}
 use Rattle.rules.proofs.Guards.{first-guarded, on-fit}
 use Rattle.rules.proofs.Loaded.{names, Known, set-loaded, relation-loaded, spec-loaded}
 

@@ -1,6 +1,4 @@
--- The tables as the work words hold them, what stands in a handler file, and the verdict on two files.
-pub mod Words
-pub mod Places
+-- The verdict on two files, and what the walk over the nodes finds.
 pub mod Verdicts
 pub mod Walks
 pub mod Owing

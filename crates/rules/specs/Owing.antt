@@ -7,7 +7,7 @@ use Rattle.derivation.specs.declared.NodeHead.{NodeHead}
 use Rattle.derivation.specs.declared.NodeHead.the-variants.{Node, Fault}
 use Rattle.derivation.specs.declared.NodeEnd.{NodeEnd}
 use Rattle.derivation.specs.declared.NodeEnd.the-variants as End
-use Rattle.rules.specs.declared.Names.{Names}
+use Rattle.conditions.specs.declared.Names.{Names}
 
 abbrev pub codeAt : Part → ℕ
 codeAt Nil = 0

@@ -16,19 +16,8 @@ ghost use Rattle.rules.specs.declared.Place.the-variants.{Bit, Node};
 ghost use Rattle.rules.specs.Verdicts.{refusedAt, tablesOf, onHandler, answer, workAfter, Upheld};
 ghost use Rattle.rules.specs.Walks.{stmtIn, walkOn, decided, Walkable, Handled};
 
-pub mod conditions;
 pub mod nodes;
-pub mod tables;
-pub mod tests;
 pub mod walk;
-
-// The tables that a node names, by number: P a set, R, G and Q relations.
-pub struct Names {
-    pub p: u32,
-    pub r: u32,
-    pub g: u32,
-    pub q: u32,
-}
 
 // How many variables and states the handler file has, and how many sets and relations the proof file.
 pub struct Counts {

@@ -1,12 +1,12 @@
 -- 30 to 33, then 40 to 43; the file's N is the machine's.
 use mathlib.Core.Path.{_∙_, refl, sym}
 use borrow.Author.Needs.{needs}
-use Rattle.rules.specs.Words.{wordSpec}
-use Rattle.rules.specs.Places.{exprHere}
-use Rattle.rules.proofs.Bare.{bare-31, bare-32, bare-33}
+use Rattle.conditions.specs.Words.{wordSpec}
+use Rattle.effects.specs.Places.{exprHere}
+use Rattle.conditions.proofs.Bare.{bare-31, bare-32, bare-33}
 use Rattle.rules.proofs.Guards.{after-common, link}
-use Rattle.rules.proofs.TestsMoved.{unmoved-41}
-use Rattle.rules.proofs.TestsStores.{in-range-40, store-in-post-42, store-in-guarantee-43}
+use Rattle.effects.proofs.Moving.{unmoved-41}
+use Rattle.effects.proofs.Stores.{in-range-40, store-in-post-42, store-in-guarantee-43}
 use Rattle.rules.proofs.nodes.assignment_fault.Statement.{statement}
 use Rattle.rules.proofs.nodes.assignment_fault.Tie as tie
 

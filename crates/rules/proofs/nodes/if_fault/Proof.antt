@@ -1,11 +1,11 @@
 -- 30 to 33, then 34, 45 and 46; the file's N is the machine's.
 use mathlib.Core.Path.{_∙_, refl, sym, fun-ext}
 use borrow.Author.Needs.{needs}
-use Rattle.rules.specs.Places.{exprHere}
-use Rattle.rules.proofs.Bare.{bare-31, bare-32, bare-33, bare-34if, bare-46}
+use Rattle.effects.specs.Places.{exprHere}
+use Rattle.conditions.proofs.Bare.{bare-31, bare-32, bare-33, bare-34if, bare-46}
 use Rattle.rules.proofs.Guards.{after-common, link}
-use Rattle.rules.proofs.TestsPlaces.{true-here, false-here}
-use Rattle.rules.proofs.TestsMoved.{unmoved-41}
+use Rattle.effects.proofs.Places.{true-here, false-here}
+use Rattle.effects.proofs.Moving.{unmoved-41}
 use Rattle.rules.proofs.nodes.if_fault.Statement.{statement}
 use Rattle.rules.proofs.nodes.if_fault.Tie as tie
 

@@ -1,8 +1,8 @@
 -- The machine has as many states as the head says.
 use mathlib.Core.Path.{_∙_, sym, ap}
 use borrow.Author.Needs.{needs}
-use Rattle.handler.specs.Values.{statesOf}
-use Rattle.rules.proofs.TestsPlaces.{states-total}
+use Rattle.values.specs.Values.{statesOf}
+use Rattle.effects.proofs.Places.{states-total}
 use Rattle.rules.proofs.nodes.states_of.Statement.{statement}
 use Rattle.rules.proofs.nodes.states_of.Tie as tie
 

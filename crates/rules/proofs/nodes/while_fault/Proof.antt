@@ -1,12 +1,12 @@
 -- 30 to 33, then 34 and 50 to 56; the file's N is the machine's.
 use mathlib.Core.Path.{_∙_, refl, sym, fun-ext}
 use borrow.Author.Needs.{needs}
-use Rattle.rules.specs.Words.{wordSpec}
-use Rattle.rules.specs.Places.{exprHere}
-use Rattle.rules.proofs.Bare.{bare-31, bare-32, bare-33, bare-34while, bare-51, bare-52, bare-53, bare-54, bare-55, bare-56}
+use Rattle.conditions.specs.Words.{wordSpec}
+use Rattle.effects.specs.Places.{exprHere}
+use Rattle.conditions.proofs.Bare.{bare-31, bare-32, bare-33, bare-34while, bare-51, bare-52, bare-53, bare-54, bare-55, bare-56}
 use Rattle.rules.proofs.Guards.{after-common, link}
-use Rattle.rules.proofs.TestsPlaces.{true-here, false-here}
-use Rattle.rules.proofs.TestsMoved.{read-once-50}
+use Rattle.effects.proofs.Places.{true-here, false-here}
+use Rattle.effects.proofs.Moving.{read-once-50}
 use Rattle.rules.proofs.nodes.while_fault.Statement.{statement}
 use Rattle.rules.proofs.nodes.while_fault.Tie as tie
 

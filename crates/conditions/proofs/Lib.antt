@@ -1,0 +1,4 @@
+-- The laws that the conditions' proofs share.
+pub mod Searches
+pub mod Words
+pub mod Bare

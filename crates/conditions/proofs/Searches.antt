@@ -1,0 +1,113 @@
+-- Whether a search over states finds nothing, as bounded quantifiers: a search through a set answers for each of its members, and
+-- where every member is below two bounds either bound will do.
+use Prim.Native.Nat.{ℕ, _+_, _<_, _≤_}
+use native.Mathlib.Nat.{le-antisymm}
+use native.Mathlib.Numerals.{add-one}
+use mathlib.Core.Path.{_≡_, refl, sym, ap, _∙_}
+use mathlib.Core.Logic.{_⊎_, inl, inr}
+use mathlib.Core.Bool.{Bool, true, false, _&&_}
+use lib.Dec.{ltb}
+use borrow.Author.Tests.{lt-ltb}
+use Rattle.states.specs.Search.{implies, all, any, Search, must, given, named, each, holds}
+use Rattle.states.proofs.Search.{and-left, and-right, and-both, implies-intro, implies-at, implies-false, bool-ext, true-or-false, all-intro, all-at, all-cong, any-intro, any-true, holds-must, holds-given, holds-named, holds-orElse, holds-each, each-cong}
+use Rattle.semantics.specs.Conditions.{inSet}
+use Rattle.conditions.specs.Words.{bare}
+
+-- The step and the end of a loop that counts the states up.
+pub holds-next : (s : ℕ) (f : ℕ → Search) → (holds (each s f) && holds (f s)) ≡ holds (each (s + 1) f)
+unfolding each
+holds-next s f = rw add-one (sym (holds-orElse (each s f) (named s (f s)) ∙ ap (λ b. holds (each s f) && b) (holds-named s (f s))))
+
+pub each-done : (s n : ℕ) (f : ℕ → Search) → s ≤ n → n ≤ s → holds (each s f) ≡ holds (each n f)
+each-done s n f up down = ap (λ k. holds (each k f)) (le-antisymm up down)
+
+-- Where a breach is below both bounds, either bound will do.
+pub all-bounds : (j k : ℕ) (p : ℕ → Bool) → ((t : ℕ) → p t ≡ false → (t < j) × (t < k)) → all j p ≡ all k p
+all-bounds j k p low =
+    bool-ext _ _ (λ h. all-intro k p (λ t l. at j (λ e. low t e .0) h (true-or-false (p t))))
+    (λ h. all-intro j p (λ t l. at k (λ e. low t e .1) h (true-or-false (p t))))
+  where
+    at : {t : ℕ} (i : ℕ) → (p t ≡ false → t < i) → all i p ≡ true → (p t ≡ true) ⊎ (p t ≡ false) → p t ≡ true
+    at i below h (inl e) = e
+    at {t} i below h (inr e) = all-at i p h t (below e)
+
+-- A search through the members of a set.
+module _ (n : ℕ) (p : ℕ → Bool) (f : ℕ → Search) where
+  pub holds-inSet : holds (inSet (bare n) p f) ≡ all n (λ s. implies (p s) (holds (f s)))
+  unfolding inSet
+  holds-inSet = holds-each _ _ ∙ all-cong _ _ _ (λ s l. holds-given (p s) (f s))
+
+  pub inSet-intro : ((s : ℕ) → s < n → p s ≡ true → holds (f s) ≡ true) → holds (inSet (bare n) p f) ≡ true
+  inSet-intro h = holds-inSet ∙ all-intro n _ (λ s l. implies-intro _ _ (h s l))
+
+  pub inSet-at : holds (inSet (bare n) p f) ≡ true → (s : ℕ) → s < n → p s ≡ true → holds (f s) ≡ true
+  inSet-at h s l = implies-at _ _ (all-at n _ (sym holds-inSet ∙ h) s l)
+
+-- Every member is a state below n that a word can hold.
+abbrev pub Small : ℕ → (ℕ → Bool) → Type 0
+Small n p = (t : ℕ) → p t ≡ true → (t < 64) × (t < n)
+
+pub within : (n : ℕ) (p q : ℕ → Bool) → all n (λ t. implies (p t) (q t)) ≡ holds (inSet (bare n) p (λ t. must (q t)))
+within n p q = sym (holds-inSet n p _ ∙ all-cong n _ _ (λ t l. ap (implies (p t)) (holds-must (q t))))
+
+-- Ends of pairs that start in a set, each in another set.
+pub ends-within : (n : ℕ) (p : ℕ → Bool) (r : ℕ → ℕ → Bool) (q : ℕ → Bool)
+    → all n (λ t. implies (any n (λ s. p s && r s t)) (q t)) ≡ holds (inSet (bare n) p (λ s. inSet (bare n) (r s) (λ t. must (q t))))
+ends-within n p r q =
+    bool-ext _ _
+    (λ h. inSet-intro n p _ (λ s l ps. sym (within n (r s) q) ∙ all-intro n _ (λ t k. implies-intro _ _ (λ st.
+    implies-at _ _ (all-at n _ h t k) (any-intro n _ s l (and-both _ _ ps st))))))
+    (λ h. all-intro n _ (λ t k. implies-intro _ _ (λ e. from h t k (any-true n _ e))))
+  where
+    from : holds (inSet (bare n) p (λ s. inSet (bare n) (r s) (λ t. must (q t)))) ≡ true → (t : ℕ) → t < n
+        → (s : ℕ) × (s < n) × ((p s && r s t) ≡ true) → q t ≡ true
+    from h t k w =
+        let ps = and-left (p (w .0)) _ (w .2) in
+        let st = and-right (p (w .0)) (r (w .0) t) (w .2) in
+        sym (holds-must (q t)) ∙ inSet-at n _ _ (inSet-at n p _ h (w .0) (w .1) ps) t k st
+
+-- Chains of two pairs that start in a set, each in a relation; the chains are held in 64 rows.
+pub chains-within : (n : ℕ) (p : ℕ → Bool) (a b c ab : ℕ → ℕ → Bool) → Small n p
+    → ((s t : ℕ) → ab s t ≡ (ltb s 64 && any n (λ u. a s u && b u t)))
+    → all n (λ s. implies (p s) (all n (λ t. implies (ab s t) (c s t))))
+    ≡ holds (inSet (bare n) p (λ s. inSet (bare n) (a s) (λ t. inSet (bare n) (b t) (λ u. must (c s u)))))
+chains-within n p a b c ab small chains =
+    all-cong n _ _
+    (λ s l. implies-cong (p s) _ _ (λ ps.
+    all-cong n _ _ (λ t k. ap (λ x. implies x (c s t)) (rw (lt-ltb s 64 (small s ps .0)) at (chains s t))) ∙ ends-within n (a s) b (c s)))
+    ∙ sym (holds-inSet n p _)
+  where
+    implies-cong : (x y z : Bool) → (x ≡ true → y ≡ z) → implies x y ≡ implies x z
+    implies-cong x y z h =
+        bool-ext _ _ (λ e. implies-intro x z (λ i. sym (h i) ∙ implies-at x y e i)) (λ e. implies-intro x y (λ i. h i ∙ implies-at x z e i))
+
+-- So a comparison of words answers for the n states.
+pub small-all : (n : ℕ) (p q : ℕ → Bool) → Small n p → all 64 (λ t. implies (p t) (q t)) ≡ all n (λ t. implies (p t) (q t))
+small-all n p q small = all-bounds 64 n _ (λ t e. small t (implies-false (p t) (q t) e .0))
+
+pub small-within : (n : ℕ) (p q : ℕ → Bool) → Small n p
+    → all 64 (λ t. implies (p t) (q t)) ≡ holds (inSet (bare n) p (λ t. must (q t)))
+small-within n p q small = small-all n p q small ∙ within n p q
+
+-- A search at a state that may not be a member.
+pub at-member : (b : Bool) (x : Search) → b ≡ true → holds x ≡ holds (given b x)
+unfolding given
+at-member b x e = rw e
+
+pub at-other : (b : Bool) (x : Search) → b ≡ false → true ≡ holds (given b x)
+unfolding given holds
+at-other b x e = rw e
+
+pub given-cong : (b : Bool) (x y : Search) → (b ≡ true → x ≡ y) → given b x ≡ given b y
+unfolding given
+given-cong true x y h = h refl
+given-cong false x y h = refl
+
+pub inSet-and : (n : ℕ) (p q : ℕ → Bool) (f : ℕ → Search)
+    → inSet (bare n) (λ s. p s && q s) f ≡ inSet (bare n) p (λ s. given (q s) (f s))
+unfolding inSet given
+inSet-and n p q f = each-cong n _ _ (λ s l. nested (p s) (q s) (f s))
+  where
+    nested : (a b : Bool) (x : Search) → given (a && b) x ≡ given a (given b x)
+    nested true b x = refl
+    nested false b x = refl

@@ -1,0 +1,2 @@
+-- The tables as the work words hold them.
+pub mod Words

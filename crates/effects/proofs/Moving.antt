@@ -1,0 +1,107 @@
+-- What R moves: a variable is moved where a row of R, from a state of P, leaves the states that agree in it.
+use Prim.Native.Nat.{ℕ, _%_, _^_, _≤_, _<_}
+use native.Mathlib.Nat.{zero-div}
+use native.Mathlib.Decide.{decLt}
+use native.Mathlib.Omega.{arith}
+use mathlib.Core.Path.{_≡_, refl, sym, ap, _∙_, fun-ext}
+use mathlib.Core.Bool.{Bool, true, false, not, _&&_, _||_, and-false}
+use mathlib.Core.List.{List}
+use lib.Dec.{leb, ltb, eqb}
+use borrow.Author.Tests.{lt-ltb, le-ltb}
+use Rattle.states.specs.Search.{implies, all, any, holds}
+use Rattle.states.proofs.Search.{all-cong, all-not, any-cong, any-none, holds-must}
+use Rattle.semantics.specs.Language.{Expr, eqZ}
+use Rattle.semantics.specs.States.{Machine, valueOf}
+use Rattle.semantics.specs.Derivations.{Spec}
+use Rattle.semantics.specs.Conditions.{occurrences, moves, c41, c50}
+use Rattle.semantics.specs.declared.Kind.{Kind}
+use Rattle.handler.specs.declared.Header.the-variants.{Sizes, Fault}
+use Rattle.handler.specs.declared.ExprShape.{ExprShape}
+use Rattle.handler.specs.declared.ExprShape.the-variants as shape
+use Rattle.handler.specs.Header.{headerAt, sizesOf}
+use Rattle.handler.specs.Expressions.{ExprRead, good, bad}
+use Rattle.handler.specs.Shapes.{inMask, exprShape}
+use Rattle.values.specs.Values.{agreeAt}
+use Rattle.values.proofs.Sizes.{size-past}
+use Rattle.values.proofs.Laws.{agree-here}
+use Rattle.conditions.specs.declared.Names.{Names}
+use Rattle.conditions.specs.Words.{wordSet, wordRelation, wordSpec}
+use Rattle.effects.specs.Places.{machineHere, exprRead, movedFrom}
+use Rattle.effects.proofs.Places.{states-here}
+use Rattle.effects.proofs.Rows.{any-itself}
+
+-- 41, 45 and 50 by any property of variables that says what R moves.
+module _ (m : Machine) (c : Spec) (p : ℕ → Bool) (same : (v : ℕ) → p v ≡ moves m c v) (e : Expr) where
+  counted : occurrences p e ≡ occurrences (moves m c) e
+  counted = ap (λ q. occurrences q e) (fun-ext same)
+
+  pub unmoved-41 : eqb (occurrences p e) 0 ≡ holds (c41 m c e)
+  unfolding c41
+  unmoved-41 = ap (λ k. eqb k 0) counted ∙ sym (holds-must _)
+
+  pub read-once-50 : leb (occurrences p e) 1 ≡ holds (c50 m c e)
+  unfolding c50
+  read-once-50 = ap (λ k. leb k 1) counted ∙ sym (holds-must _)
+
+-- Some member of a set is not in another where not every one is.
+pub not-within : (n : ℕ) (a b : ℕ → Bool) → not (all n (λ t. implies (a t) (b t))) ≡ any n (λ t. a t && not (b t))
+unfolding implies
+not-within n a b = ap not (all-cong n _ _ (λ t l. turned (a t) (b t)) ∙ all-not n _) ∙ twice _
+  where
+    turned : (x y : Bool) → (not x || y) ≡ not (x && not y)
+    turned true true = refl
+    turned true false = refl
+    turned false y = refl
+
+    twice : (x : Bool) → not (not x) ≡ x
+    twice true = refl
+    twice false = refl
+
+module _ (bytes : List ℕ) (count n first : ℕ) (head : headerAt bytes ≡ Sizes count n first) (work : List ℕ) (own : Names) where
+  agree : (v s t : ℕ) → s < n → t < n → agreeAt bytes v s t ≡ eqZ (machineHere bytes .get s v) (machineHere bytes .get t v)
+  unfolding machineHere
+  agree v s t l k = agree-here bytes count n first head v s t ∙ rw (lt-ltb s n l, lt-ltb t n k, head)
+
+  -- What the words say of a variable is what the states say.
+  moves-here : (v : ℕ) → any n (movedFrom bytes n work own v) ≡ moves (machineHere bytes) (wordSpec (machineHere bytes .states) work own) v
+  unfolding moves movedFrom
+  moves-here v =
+      rw (states-here bytes count n first head)
+      (any-cong n _ _ (λ s l. ap (λ b. wordSet n work (own .p) s && b)
+      (any-cong n _ _ (λ t k. ap (λ b. wordRelation n work (own .r) s t && not b) (agree v s t l k)))))
+
+  -- What is no variable has one value, and nothing moves it.
+  moves-past : (c : Spec) (v : ℕ) → count ≤ v → moves (machineHere bytes) c v ≡ false
+  unfolding moves machineHere
+  moves-past c v h =
+      rw head (any-none _ _ (λ s l. ap (λ b. c .P s && b) (any-none _ _ (λ t k. rw (nought s, nought t) (and-false (c .R s t)))) ∙ and-false (c .P s)))
+    where
+      nought : (s : ℕ) → valueOf (sizesOf bytes count) s v ≡ 0
+      nought s = rw (size-past bytes count v h) (omega arith)
+
+  -- The variables found moved are those that R moves.
+  pub mask-moves : (v : ℕ) → any count (λ u. any n (movedFrom bytes n work own u) && eqb u v)
+      ≡ moves (machineHere bytes) (wordSpec (machineHere bytes .states) work own) v
+  mask-moves v = any-itself count (λ u. any n (movedFrom bytes n work own u)) v ∙ at (decLt v count)
+    where
+      at : Dec (v < count) → (ltb v count && any n (movedFrom bytes n work own v)) ≡ moves (machineHere bytes) (wordSpec (machineHere bytes .states) work own) v
+      at (yes l) = rw (lt-ltb v count l) (moves-here v)
+      at (no l) = rw (le-ltb v count (omega arith)) (sym (moves-past _ v (omega arith)))
+
+-- A file whose head is faulty has no state, so nothing moves.
+pub moves-none : (bytes : List ℕ) (k place : ℕ) → headerAt bytes ≡ Fault k place → (c : Spec) (v : ℕ) → moves (machineHere bytes) c v ≡ false
+unfolding moves machineHere any
+moves-none bytes k place head c v = rw head
+
+pub mask-none : (v : ℕ) → inMask 0 v ≡ false
+mask-none v = ap (λ x. eqb (x % 2) 1) (zero-div (2 ^ v))
+
+-- How many occurrences of masked variables the shape of an expression counts.
+abbrev pub occursIn : ExprShape → ℕ
+occursIn (shape.Whole m e occurs nodes next) = occurs
+occursIn (shape.Fault k place) = 0
+
+pub occurs-here : (wanted : Kind) (mask at : ℕ) (read : ExprRead) → occursIn (exprShape wanted mask at read) ≡ occurrences (inMask mask) (exprRead read)
+unfolding exprShape
+occurs-here wanted mask at (good e nodes next) = refl
+occurs-here wanted mask at (bad k place) = refl

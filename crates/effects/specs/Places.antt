@@ -1,0 +1,57 @@
+-- What stands in a handler file, total: the variables that its head declares, the expression at a cursor, and where a store of
+-- it leads.
+use Prim.Native.Nat.{ℕ}
+use mathlib.Core.Bool.{Bool, false, not, _&&_}
+use mathlib.Core.List.{List}
+use mathlib.Core.Option.{Option, none, some}
+use lib.Dec.{ltb, eqb}
+use lib.IntN.{pos}
+use Rattle.states.specs.Search.{any}
+use Rattle.semantics.specs.Language.{Expr, lit, op, int}
+use Rattle.semantics.specs.States.{Machine, machineOf}
+use Rattle.semantics.specs.Conditions.{afterStore}
+use Rattle.handler.specs.declared.Header.{Header}
+use Rattle.handler.specs.declared.Header.the-variants.{Sizes, Fault}
+use Rattle.handler.specs.Header.{headerAt, sizesOf}
+use Rattle.handler.specs.Expressions.{ExprRead, good, bad, wholeExpr}
+use Rattle.values.specs.Values.{agreeAt}
+use Rattle.conditions.specs.declared.Names.{Names}
+use Rattle.conditions.specs.Words.{bare, wordSet, wordRelation}
+
+-- No state where the head is faulty.
+abbrev pub machineUnder : List ℕ → Header → Machine
+machineUnder bytes (Sizes count n first) = machineOf (sizesOf bytes count)
+machineUnder bytes (Fault k place) = bare 0
+
+unfoldable pub machineHere : List ℕ → Machine
+machineHere bytes = machineUnder bytes (headerAt bytes)
+
+-- Where no expression stands, one that has no variable and no value: operation 7 is unused.
+abbrev pub unread : Expr
+unread = op 7 (lit (int (pos 0))) (lit (int (pos 0)))
+
+abbrev pub exprRead : ExprRead → Expr
+exprRead (good e nodes next) = e
+exprRead (bad k place) = unread
+
+abbrev pub exprUnder : List ℕ → ℕ → Header → Expr
+exprUnder bytes at (Sizes count n first) = exprRead (wholeExpr bytes count at)
+exprUnder bytes at (Fault k place) = unread
+
+unfoldable pub exprHere : List ℕ → ℕ → Expr
+exprHere bytes at = exprUnder bytes at (headerAt bytes)
+
+-- Whether a store leads to t; one that is out of range leads nowhere.
+abbrev pub leadsTo : Option ℕ → ℕ → Bool
+leadsTo none t = false
+leadsTo (some s′) t = eqb s′ t
+
+-- Whether t is the state after a store, at s, of the expression at a cursor in variable v.
+unfoldable pub afterHere : List ℕ → ℕ → ℕ → ℕ → ℕ → Bool
+afterHere bytes v at s t =
+    ltb s (machineHere bytes .states) && leadsTo (afterStore (machineHere bytes) v (exprHere bytes at) s) t
+
+-- Whether s is in P and R leads from it to a state that differs in variable v.
+unfoldable pub movedFrom : List ℕ → ℕ → List ℕ → Names → ℕ → ℕ → Bool
+movedFrom bytes n work own v s =
+    wordSet n work (own .p) s && any n (λ t. wordRelation n work (own .r) s t && not (agreeAt bytes v s t))

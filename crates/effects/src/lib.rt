@@ -1,0 +1,238 @@
+// The conditions of document 01 that look at expressions. What an expression says of the states comes as sets and rows, which
+// are computed once for a node: the states where a test is true, those where it is false, and where a store leads.
+use conditions::Names;
+use conditions::tables::leads_into;
+use conditions::tables::row_at;
+use conditions::tables::rows_of;
+use conditions::tables::set_at;
+use handler::ExprShape;
+use handler::Header;
+use handler::expressions::expr_shape;
+use handler::head::read_header;
+use semantics::Kind;
+use states::StateSet;
+use states::relations::compose;
+use states::relations::included_from;
+use states::relations::row;
+use states::relations::union_of;
+use values::After;
+use values::agreeing;
+use values::successor;
+ghost use mathlib.Core.Path.{_≡_};
+ghost use mathlib.Core.Bool.{_&&_, _||_};
+ghost use Prim.Native.Nat.{ℕ, _<_};
+ghost use lib.Dec.{leb, ltb, eqb};
+ghost use Rattle.states.specs.Search.{any, must, given, holds};
+ghost use Rattle.states.specs.Sets.{has};
+ghost use Rattle.states.specs.Relations.{rel};
+ghost use Rattle.semantics.specs.Conditions.{occurrences, inSet, moves, c46, c52, c54, c56};
+ghost use Rattle.handler.specs.Shapes.{inMask};
+ghost use Rattle.conditions.specs.Words.{bare, wordSet, wordRelation, wordSpec};
+ghost use Rattle.effects.specs.Places.{machineHere, exprHere, afterHere, movedFrom};
+
+// The pairs (s,s) of the states of a set.
+fn diagonal(set: StateSet) -> [u64; 64]
+    ensures { λ out. ⌜ ((n s t : ℕ) → rel n out s t ≡ (ltb s n && (has set s && eqb s t))) ⌝ }
+{
+    let mut rows = [0u64; 64];
+    for s in 0..64 {
+        let one = set.meet(StateSet::single(s));
+        rows[s as usize] = one.bits;
+    }
+    rows
+}
+
+// The pairs of a relation and the pairs (s,s) of all states.
+fn or_still(n: u32, rows: &[u64]) -> [u64; 64]
+    ensures { λ out. ⌜ ((s t : ℕ) → rel n out s t ≡ (ltb s 64 && (ltb s n && eqb t s || rel n (now (rows .entry)) s t))) ⌝ }
+{
+    let still = diagonal(StateSet::below(n));
+    union_of(n, &still, rows)
+}
+
+// 46: s in P, test false: (s,s) in Q.
+pub fn skips(n: u32, work: &[u64], own: Names, falsity: StateSet) -> bool
+    ensures { λ out. ⌜ out ≡ holds (c46 (bare n) (wordSpec n (now (work .entry)) own) (has falsity)) ⌝ }
+{
+    let still = diagonal(falsity);
+    included_from(n, set_at(n, work, own.p), &still, rows_of(work, own.q))
+}
+
+// 52: s in P, test true: s in K.
+pub fn enters_k(n: u32, work: &[u64], own: Names, k: u32, truth: StateSet) -> bool
+    ensures { λ out.
+        ⌜ out ≡ holds (c52 (bare n) (wordSpec n (now (work .entry)) own) (has truth) (wordSet n (now (work .entry)) k)) ⌝ }
+{
+    set_at(n, work, own.p)
+        .meet(truth)
+        .included(set_at(n, work, k))
+}
+
+// 54: s in P, test false, (s,t) in R: test false at t.
+pub fn stays_false(n: u32, work: &[u64], own: Names, falsity: StateSet) -> bool
+    ensures { λ out. ⌜ out ≡ holds (c54 (bare n) (wordSpec n (now (work .entry)) own) (has falsity)) ⌝ }
+{
+    leads_into(
+        n,
+        work,
+        set_at(n, work, own.p).meet(falsity),
+        own.r,
+        falsity,
+    )
+}
+
+// 56: s in P, t = s or (s,t) in W, t in P, test false at t: (s,t) in Q.
+pub fn leaves(n: u32, work: &[u64], own: Names, w: u32, falsity: StateSet) -> bool
+    ensures { λ out.
+        ⌜ out ≡ holds (c56 (bare n) (wordSpec n (now (work .entry)) own) (has falsity) (wordRelation n (now (work .entry)) w)) ⌝ }
+{
+    let p = set_at(n, work, own.p);
+    let rounds = or_still(n, rows_of(work, w));
+    let ends = diagonal(p.meet(falsity));
+    let exits = compose(n, &rounds, &ends);
+    included_from(n, p, &exits, rows_of(work, own.q))
+}
+
+// Whether s has an end, where it is in P.
+fn in_range_at(n: u32, p: StateSet, after: &[u64], s: u32) -> bool
+    ensures { λ out. ⌜ out ≡ holds (given (has p s) (must (any n (rel n (now (after .entry)) s)))) ⌝ }
+{
+    if p.holds_state(s) {
+        if row(n, after, s).is_empty() {
+            return false;
+        }
+    }
+    true
+}
+
+// 40, by the rows that say where a store leads: every s in P has an end.
+pub fn in_range(n: u32, work: &[u64], own: Names, after: &[u64]) -> bool
+    ensures { λ out.
+        ⌜ out ≡ holds (inSet (bare n) (wordSet n (now (work .entry)) (own .p)) (λ s. must (any n (rel n (now (after .entry)) s)))) ⌝ }
+{
+    let p = set_at(n, work, own.p);
+    let mut held = true;
+    for s in 0..n {
+        held = held & in_range_at(n, p, after, s);
+    }
+    held
+}
+
+// 42, by the same rows: s in P, s′ its end: (s,s′) in Q.
+pub fn store_in_post(n: u32, work: &[u64], own: Names, after: &[u64]) -> bool
+    ensures { λ out.
+        ⌜ out ≡ holds (inSet (bare n) (wordSet n (now (work .entry)) (own .p)) (λ s. inSet (bare n) (rel n (now (after .entry)) s)
+        (λ t. must (wordRelation n (now (work .entry)) (own .q) s t)))) ⌝ }
+{
+    included_from(n, set_at(n, work, own.p), after, rows_of(work, own.q))
+}
+
+// 43, by the same rows: s in P, s′ its end: s′ = s or (s,s′) in G.
+pub fn store_in_guarantee(n: u32, work: &[u64], own: Names, after: &[u64]) -> bool
+    ensures { λ out.
+        ⌜ out ≡ holds (inSet (bare n) (wordSet n (now (work .entry)) (own .p)) (λ s. inSet (bare n) (rel n (now (after .entry)) s)
+        (λ t. must (eqb t s || wordRelation n (now (work .entry)) (own .g) s t)))) ⌝ }
+{
+    let allowed = or_still(n, rows_of(work, own.g));
+    included_from(n, set_at(n, work, own.p), after, &allowed)
+}
+
+// Where a store at s leads: the one state, or none where the value is out of range.
+fn after_row(src: &[u8], v: u32, at: usize, s: u32) -> StateSet
+    ensures { λ out. ⌜ ((t : ℕ) → has out t ≡ afterHere (now (src .entry)) v at s t) ⌝ }
+{
+    match successor(src, v, at, s) {
+        After::State(t) => StateSet::single(t),
+        After::OutOfRange => StateSet::empty(),
+    }
+}
+
+// Where a store in variable v of the expression at a cursor leads from each state.
+pub fn after_rows(src: &[u8], v: u32, at: usize) -> [u64; 64]
+    ensures { λ out. ⌜ ((n s t : ℕ) → rel n out s t ≡ (ltb s n && ltb t n && afterHere (now (src .entry)) v at s t)) ⌝ }
+{
+    let mut rows = [0u64; 64];
+    for s in 0..64 {
+        let ends = after_row(src, v, at, s);
+        rows[s as usize] = ends.bits;
+    }
+    rows
+}
+
+// Whether R leads from s, a state of P, to one that differs in variable v.
+fn moves_at(src: &[u8], n: u32, work: &[u64], own: Names, v: u32, s: u32) -> bool
+    ensures { λ out. ⌜ out ≡ movedFrom (now (src .entry)) n (now (work .entry)) own v s ⌝ }
+{
+    if set_at(n, work, own.p).holds_state(s) {
+        if row_at(n, work, own.r, s).included(agreeing(src, v, s)) {
+            false
+        } else {
+            true
+        }
+    } else {
+        false
+    }
+}
+
+// Whether R leads from any state of P to one that differs in variable v.
+fn moves_variable(src: &[u8], n: u32, work: &[u64], own: Names, v: u32) -> bool
+    ensures { λ out. ⌜ out ≡ any n (movedFrom (now (src .entry)) n (now (work .entry)) own v) ⌝ }
+{
+    let mut found = false;
+    for s in 0..n {
+        found = found | moves_at(src, n, work, own, v, s);
+    }
+    found
+}
+
+// The mask with variable v too, where it is one of those looked for.
+fn with_variable(mask: u32, v: u32, one: bool) -> u32
+    requires { ⌜ v < 32 ⌝ }
+    ensures { λ out. ⌜ ((u : ℕ) → inMask out u ≡ (inMask mask u || one && eqb v u)) ⌝ }
+{
+    if one { mask | (1 << v) } else { mask }
+}
+
+// The mask of the variables that R moves, over the states that the file declares.
+pub fn moved(src: &[u8], work: &[u64], own: Names) -> u32
+    ensures { λ out.
+        ⌜ ((v : ℕ) → inMask out v ≡ moves (machineHere (now (src .entry)))
+        (wordSpec (machineHere (now (src .entry)) .states) (now (work .entry)) own) v) ⌝ }
+{
+    let Header::Sizes(count, n, _) = read_header(src) else {
+        return 0;
+    };
+    let mut mask = 0;
+    for v in 0..count {
+        mask = with_variable(mask, v, moves_variable(src, n, work, own, v));
+    }
+    mask
+}
+
+// How many variable occurrences in the expression at a cursor are of the variables in a mask.
+fn occurrences_of(src: &[u8], mask: u32, at: usize) -> u32
+    ensures { λ out. ⌜ out ≡ occurrences (inMask mask) (exprHere (now (src .entry)) at) ⌝ }
+{
+    let Header::Sizes(count, _, _) = read_header(src) else {
+        return 0;
+    };
+    let ExprShape::Whole(_, _, occurs, _, _) = expr_shape(src, count, Kind::Integer, mask, at)
+    else {
+        return 0;
+    };
+    occurs
+}
+
+// 41 and 45, by the mask of the variables that R moves: the expression has none of them.
+pub fn unmoved(src: &[u8], mask: u32, at: usize) -> bool
+    ensures { λ out. ⌜ out ≡ eqb (occurrences (inMask mask) (exprHere (now (src .entry)) at)) 0 ⌝ }
+{
+    occurrences_of(src, mask, at) == 0
+}
+
+// 50, by the same mask: at most one variable occurrence in the test is of one of them.
+pub fn read_once(src: &[u8], mask: u32, at: usize) -> bool
+    ensures { λ out. ⌜ out ≡ leb (occurrences (inMask mask) (exprHere (now (src .entry)) at)) 1 ⌝ }
+{
+    occurrences_of(src, mask, at) <= 1
+}
