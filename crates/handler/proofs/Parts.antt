@@ -16,7 +16,7 @@ use Rattle.handler.specs.declared.Part.the-variants as part
 use Rattle.handler.specs.Expressions.{ExprRead, good, bad, wholeExpr}
 use Rattle.handler.specs.Statements.{markHead, stmtHead, StmtRead, whole, fault, onAssigned, onBody, onTest, onRight, onLeft, onStmtHead, stmtAt, wholeStmt}
 use Rattle.handler.specs.Kinds.{width, stmtWidth}
-use Rattle.handler.specs.Shapes.{partOf, partRead, partAt}
+use Rattle.handler.specs.Shapes.{pairPart, testPart, headPart, partAt}
 use Rattle.handler.proofs.StmtFolds.{Marked, marked, whole-ends, stmt-read}
 
 -- Where there is room, a head does not depend on how much.
@@ -111,21 +111,14 @@ PartsOf bytes count at (par l r) = Stands bytes count (at + 3) l × Stands bytes
 PartsOf bytes count at (if e b) = StandsExpr bytes count (at + 3) e × Stands bytes count (at + 3 + width e) b
 PartsOf bytes count at (while e b) = StandsExpr bytes count (at + 3) e × Stands bytes count (at + 3 + width e) b
 
--- What the code makes of a head: the right side stands where the left one ends, the body where the test ends.
-abbrev pub pairPart : ℕ → ℕ → StmtRead → Part
-pairPart code next (whole l after behind) = part.Pair code next behind
-pairPart code next (fault k place) = part.Nothing
-
-abbrev pub testPart : ℕ → ℕ → ExprRead → Part
-testPart code next (good e nodes behind) = part.Test code next behind
-testPart code next (bad k place) = part.Nothing
-
-abbrev pub headPart : List ℕ → ℕ → StmtHead → Part
-headPart bytes count (Nil next) = part.Nil
-headPart bytes count (Assign v next) = part.Assign v next
-headPart bytes count (Pair code next) = pairPart code next (wholeStmt bytes count next)
-headPart bytes count (Test code next) = testPart code next (wholeExpr bytes count next)
-headPart bytes count (Fault k place) = part.Nothing
+-- The parts of a statement by their places: a part's is the whole's plus the widths before it.
+abbrev pub partOf : ℕ → Stmt → Part
+partOf at nil = part.Nil
+partOf at (assign v e) = part.Assign v (at + 5)
+partOf at (seq l r) = part.Pair 2 (at + 3) (at + 3 + stmtWidth l)
+partOf at (par l r) = part.Pair 3 (at + 3) (at + 3 + stmtWidth l)
+partOf at (if e b) = part.Test 4 (at + 3) (at + 3 + width e)
+partOf at (while e b) = part.Test 5 (at + 3) (at + 3 + width e)
 
 module _ (bytes : List ℕ) (count at : ℕ) where
   abbrev Apart : Part → StmtRead → Type 0
@@ -208,13 +201,7 @@ module _ (bytes : List ℕ) (count at : ℕ) where
   unfolding wholeStmt
   parts S s = rw (s .read) at apart .1
 
-  -- What stands at a whole statement is what its head says.
-  pub head-part : (S : Stmt) (after next : ℕ) (h : StmtHead) → wholeStmt bytes count at ≡ whole S after next → stmtHead bytes count 16 0 at ≡ h
-      → headPart bytes count h ≡ partAt bytes count at
-  unfolding wholeStmt partAt
-  head-part S after next h p e = rw (p, ← e) ((rw p at apart) .0)
-
   -- What stands at a known statement.
   pub part-known : (S : Stmt) → Stands bytes count at S → partAt bytes count at ≡ partOf at S
-  unfolding partAt
-  part-known S s = rw (s .read)
+  unfolding wholeStmt partAt
+  part-known S s = rw (s .read) at apart .0

@@ -9,7 +9,6 @@ use Rattle.bits.specs.Fields.{fillAt}
 use Rattle.bits.specs.declared.Fill.{Fill}
 use Rattle.bits.specs.declared.Fill.the-variants.{Ends, Wrong}
 use Rattle.semantics.specs.declared.Kind.{Kind}
-use Rattle.semantics.specs.Language.{Stmt, nil, assign, seq, par, if, while}
 use Rattle.semantics.specs.StepNumber.{E, steps}
 use Rattle.semantics.specs.Conditions.{occurrences}
 use Rattle.handler.specs.declared.Misfit.{Misfit}
@@ -20,11 +19,13 @@ use Rattle.handler.specs.declared.StmtShape.{StmtShape}
 use Rattle.handler.specs.declared.StmtShape.the-variants as stmt
 use Rattle.handler.specs.declared.HandlerFile.{HandlerFile}
 use Rattle.handler.specs.declared.HandlerFile.the-variants as file
+use Rattle.handler.specs.declared.StmtHead.{StmtHead}
+use Rattle.handler.specs.declared.StmtHead.the-variants as head
 use Rattle.handler.specs.declared.Part.{Part}
 use Rattle.handler.specs.declared.Part.the-variants.{Nil, Assign, Pair, Test, Nothing}
-use Rattle.handler.specs.Expressions.{ExprRead, good, bad}
-use Rattle.handler.specs.Statements.{StmtRead, whole, fault, wholeStmt}
-use Rattle.handler.specs.Kinds.{width, stmtWidth, misfit, stmtMisfit}
+use Rattle.handler.specs.Expressions.{ExprRead, good, bad, wholeExpr}
+use Rattle.handler.specs.Statements.{StmtRead, whole, fault, stmtHead, wholeStmt}
+use Rattle.handler.specs.Kinds.{misfit, stmtMisfit}
 use Rattle.handler.specs.Reading.{HandlerRead, handler, refused}
 
 abbrev pub asMisfit : Option ℕ → Misfit
@@ -86,18 +87,22 @@ abbrev pub judgedOf : List ℕ → ℕ → ℕ → ℕ → StmtShape → Handler
 judgedOf bytes count n at (stmt.Whole steps m before next) = filledOf count n at steps m (fillAt bytes next)
 judgedOf bytes count n at (stmt.Fault k place) = file.Fault k place
 
--- What stands at a statement's place, by its parts' places: a part's is the whole's plus the widths before it.
-abbrev pub partOf : ℕ → Stmt → Part
-partOf at nil = Nil
-partOf at (assign v e) = Assign v (at + 5)
-partOf at (seq l r) = Pair 2 (at + 3) (at + 3 + stmtWidth l)
-partOf at (par l r) = Pair 3 (at + 3) (at + 3 + stmtWidth l)
-partOf at (if e b) = Test 4 (at + 3) (at + 3 + width e)
-partOf at (while e b) = Test 5 (at + 3) (at + 3 + width e)
+-- What stands at a statement's place, by its head: the right side stands where the left one ends, the body where the test
+-- ends. It reads no further than that.
+abbrev pub pairPart : ℕ → ℕ → StmtRead → Part
+pairPart code next (whole l after behind) = Pair code next behind
+pairPart code next (fault k place) = Nothing
 
-abbrev pub partRead : ℕ → StmtRead → Part
-partRead at (whole S before next) = partOf at S
-partRead at (fault k place) = Nothing
+abbrev pub testPart : ℕ → ℕ → ExprRead → Part
+testPart code next (good e nodes behind) = Test code next behind
+testPart code next (bad k place) = Nothing
+
+abbrev pub headPart : List ℕ → ℕ → StmtHead → Part
+headPart bytes count (head.Nil next) = Nil
+headPart bytes count (head.Assign v next) = Assign v next
+headPart bytes count (head.Pair code next) = pairPart code next (wholeStmt bytes count next)
+headPart bytes count (head.Test code next) = testPart code next (wholeExpr bytes count next)
+headPart bytes count (head.Fault k place) = Nothing
 
 unfoldable pub partAt : List ℕ → ℕ → ℕ → Part
-partAt bytes count at = partRead at (wholeStmt bytes count at)
+partAt bytes count at = headPart bytes count (stmtHead bytes count 16 0 at)

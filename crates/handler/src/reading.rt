@@ -48,13 +48,10 @@ pub fn read_handler(src: &[u8]) -> HandlerFile
     }
 }
 
-// What stands at a statement's first bit, and where its parts begin.
+// What stands at a statement's first bit, and where its parts begin: only the first part is read, to find the second.
 pub fn part_at(src: &[u8], count: u32, at: usize) -> Part
     ensures { λ r. ⌜ r ≡ partAt (now (src .entry)) count at ⌝ }
 {
-    let StmtShape::Whole(_, _, _, _) = stmt_walk(src, count, 1, 17, 0, at) else {
-        return Part::Nothing;
-    };
     match stmt_head_at(src, count, 16, 0, at) {
         StmtHead::Nil(_) => Part::Nil,
         StmtHead::Assign(v, next) => Part::Assign(v, next),

@@ -13,7 +13,7 @@ use Rattle.semantics.specs.Derivations.{Names, Derivation, skip, assignment, se
 use Rattle.semantics.specs.Conditions.{codeOf, targetOf, exprOf}
 use Rattle.semantics.specs.Checking.{skipOwes, assignmentOwes, sequenceOwes, parallelOwes, ifOwes, whileOwes, weakenOwes, firstBroken, owed}
 use Rattle.handler.specs.Statements as Stmts
-use Rattle.handler.specs.Shapes.{partOf, partAt}
+use Rattle.handler.specs.Shapes.{partAt}
 use Rattle.handler.proofs.Heads.{Sized, head-read}
 use Rattle.handler.proofs.Parts as Parts
 use Rattle.derivation.specs.declared.NodeHead.{NodeHead}
@@ -58,7 +58,7 @@ names-one rule h K W d = by (eqb rule 4) (eqb rule 5)
     by false false = refl
 
 -- A statement by what stands at its place.
-code-of : (at : ℕ) (S : Stmt) → codeAt (partOf at S) ≡ codeOf S
+code-of : (at : ℕ) (S : Stmt) → codeAt (Parts.partOf at S) ≡ codeOf S
 code-of at nil = refl
 code-of at (assign v e) = refl
 code-of at (seq l r) = refl
@@ -66,7 +66,7 @@ code-of at (par l r) = refl
 code-of at (if e b) = refl
 code-of at (while e b) = refl
 
-target-of : (at : ℕ) (S : Stmt) → targetAt (partOf at S) ≡ targetOf S
+target-of : (at : ℕ) (S : Stmt) → targetAt (Parts.partOf at S) ≡ targetOf S
 target-of at nil = refl
 target-of at (assign v e) = refl
 target-of at (seq l r) = refl
@@ -161,7 +161,7 @@ module _ (hb pb work : List ℕ) (c : Counts) (ready : Ready hb pb work c) where
   expr-here at e s = rw (ready .header, s .read)
 
   expr-of : (at : ℕ) (S : Stmt) → Parts.PartsOf hb (c .variables) at S → (codeOf S ≡ 0 → ⊥) → (codeOf S ≡ 2 → ⊥) → (codeOf S ≡ 3 → ⊥)
-      → exprHere hb (exprAt (partOf at S)) ≡ exprOf S
+      → exprHere hb (exprAt (Parts.partOf at S)) ≡ exprOf S
   expr-of at nil p no-nil no-seq no-par = absurd (no-nil refl)
   expr-of at (assign v e) p no-nil no-seq no-par = expr-here _ e p
   expr-of at (seq l r) p no-nil no-seq no-par = absurd (no-seq refl)
@@ -224,7 +224,7 @@ module _ (hb pb work : List ℕ) (c : Counts) (at stmt : ℕ) (own : Named.Names
   N-is : T .machine .states ≡ c .states
   N-is = sym (sized hb pb work c ready .total)
 
-  part-is : partAt hb (c .variables) stmt ≡ partOf stmt S
+  part-is : partAt hb (c .variables) stmt ≡ Parts.partOf stmt S
   part-is = Parts.part-known hb (c .variables) stmt S (site .S-stands)
 
   code-of-S : code ≡ codeOf S

@@ -30,14 +30,11 @@ ghost use Rattle.derivation.specs.Nodes.{nodeAt, wholeNode};
 ghost use Rattle.rules.specs.Verdicts.{tablesOf};
 ghost use Rattle.rules.specs.Walks.{stmtIn, isStmt, nodeIn, isNode, ownOf, walkOn, Ready, Walkable, firstAt, secondAt};
 
-// The first bit of the part that a node's first child is about: the left part or the body; under a weaken, the same statement.
-fn first_part(handler: &[u8], variables: u32, rule: u32, stmt: usize) -> usize
-    ensures { λ r. ⌜ r ≡ cond (eqb rule 6) stmt (firstAt stmt (partAt (now (handler .entry)) variables stmt)) ⌝ }
+// The first bit of the left part or the body.
+fn left_or_body(part: Part, stmt: usize) -> usize
+    ensures { λ r. ⌜ r ≡ firstAt stmt part ⌝ }
 {
-    if rule == 6 {
-        return stmt;
-    }
-    match part_at(handler, variables, stmt) {
+    match part {
         Part::Nil => stmt,
         Part::Assign(_, _) => stmt,
         Part::Pair(_, left, _) => left,
@@ -46,11 +43,21 @@ fn first_part(handler: &[u8], variables: u32, rule: u32, stmt: usize) -> usize
     }
 }
 
-// The first bit of the right part.
-fn second_part(handler: &[u8], variables: u32, stmt: usize) -> usize
-    ensures { λ r. ⌜ r ≡ secondAt stmt (partAt (now (handler .entry)) variables stmt) ⌝ }
+// The first bit of the part that a node's first child is about; under a weaken, the same statement.
+fn first_part(part: Part, rule: u32, stmt: usize) -> usize
+    ensures { λ r. ⌜ r ≡ cond (eqb rule 6) stmt (firstAt stmt part) ⌝ }
 {
-    match part_at(handler, variables, stmt) {
+    if rule == 6 {
+        return stmt;
+    }
+    left_or_body(part, stmt)
+}
+
+// The first bit of the right part.
+fn second_part(part: Part, stmt: usize) -> usize
+    ensures { λ r. ⌜ r ≡ secondAt stmt part ⌝ }
+{
+    match part {
         Part::Nil => stmt,
         Part::Assign(_, _) => stmt,
         Part::Pair(_, _, right) => right,
@@ -59,11 +66,20 @@ fn second_part(handler: &[u8], variables: u32, stmt: usize) -> usize
     }
 }
 
-// The first condition that the node at a bit breaks of its own over the statement at a bit.
-fn own_fault(handler: &[u8], proof: &[u8], work: &[u64], c: Counts, at: usize, stmt: usize) -> Own
+// The first condition that the node at a bit breaks of its own over the statement at a bit, whose parts were found.
+fn own_fault(
+    handler: &[u8],
+    proof: &[u8],
+    work: &[u64],
+    c: Counts,
+    at: usize,
+    stmt: usize,
+    part: Part,
+) -> Own
     requires { ⌜ Ready (now handler) (now proof) (now work) c ⌝ }
     requires { ⌜ isNode (wholeNode (now proof) (c .sets) (c .relations) at) ≡ true ⌝ }
     requires { ⌜ isStmt (wholeStmt (now handler) (c .variables) stmt) ≡ true ⌝ }
+    requires { ⌜ part ≡ partAt (now handler) (c .variables) stmt ⌝ }
     ensures { λ r.
         ⌜ r ≡ ownOf (firstBroken (owed (tablesOf (now (handler .entry)) (now (proof .entry)) (c .variables) (c .states) (c .sets))
         (nodeIn (wholeNode (now (proof .entry)) (c .sets) (c .relations) at))
@@ -74,7 +90,6 @@ fn own_fault(handler: &[u8], proof: &[u8], work: &[u64], c: Counts, at: usize, s
     let NodeHead::Node(rule, _, _, _, _, k, w, first) = head else {
         return Own::Holds;
     };
-    let part = part_at(handler, c.variables, stmt);
     let code = code_of(part);
     let expr = expr_of(part);
     if rule == 0 {
@@ -124,18 +139,19 @@ pub(crate) fn walk(
     match node_head_at(proof, c.sets, c.relations, levels - 1, node, at) {
         NodeHead::Fault(_, _) => Walked::Broken(0, node),
         NodeHead::Node(rule, _, _, _, _, _, _, next) => {
-            if let Own::Breaks(number) = own_fault(handler, proof, work, c, at, stmt) {
+            let part = part_at(handler, c.variables, stmt);
+            if let Own::Breaks(number) = own_fault(handler, proof, work, c, at, stmt, part) {
                 return Walked::Broken(number, node);
             }
             if rule < 2 {
                 return Walked::Through(node + 1, next);
             }
-            let first = first_part(handler, c.variables, rule, stmt);
+            let first = first_part(part, rule, stmt);
             match walk(handler, proof, work, c, levels - 1, node + 1, next, first) {
                 Walked::Broken(number, place) => Walked::Broken(number, place),
                 Walked::Through(so_far, end) => {
                     if rule < 4 {
-                        let second = second_part(handler, c.variables, stmt);
+                        let second = second_part(part, stmt);
                         return walk(handler, proof, work, c, levels - 1, so_far, end, second);
                     }
                     Walked::Through(so_far, end)

@@ -10,6 +10,7 @@ use Rattle.derivation.proofs.Heads.{head-few, node-sound}
 use Rattle.derivation.proofs.nodes.node_head_at.Reads as node-head-at-reads
 use Rattle.derivation.specs.Nodes.{nodeAt}
 use Rattle.handler.specs.Statements.{wholeStmt}
+use Rattle.handler.proofs.reading.part_at.Reads as part-at-reads
 use Rattle.rules.specs.Walks.{stmtIn}
 use Rattle.rules.proofs.Faults.{under}
 use Rattle.rules.proofs.Walking.{Found, found, Seen, more-levels, no-fault, own-there, breach, low-rule, leaf, first-stands, first-node, stops, ends, second-node, second-stands, goes-on}
@@ -35,6 +36,8 @@ abbrev callees : ℕ → lts.Claims
 callees t = (
   node-head-at-reads.Asked,
   node-head-at-reads.Learnt,
+  part-at-reads.Asked,
+  part-at-reads.Learnt,
   own-fault-reads.Asked,
   own-fault-reads.Learnt,
   first-part-reads.Asked,
@@ -57,25 +60,25 @@ walk-returns t c =
 
 own-fault-requires : (t : ℕ) → lts.Need-own-fault-requires (callees t) (given t) walk.Post
 own-fault-requires t c κs =
-    let s = c .before .before .before .before .before .before .before .before in let a = s .args in let f = here t s in
-    (s .pre .1 .ready, (own-there (a .handler .now) (a .proof .now) (a .c) (a .node) (a .at) (a .levels) (a .stmt) (f .d) (f .after) (f .next) (f .read) (s .pre .1 .shallow), s .pre .1 .statement))
+    let s = c .before .before .before .before .before .before .before .before .before in let a = s .args in let f = here t s in
+    (s .pre .1 .ready, (own-there (a .handler .now) (a .proof .now) (a .c) (a .node) (a .at) (a .levels) (a .stmt) (f .d) (f .after) (f .next) (f .read) (s .pre .1 .shallow), (s .pre .1 .statement, c .part-at .ensures)))
 
 returns-2 : (t : ℕ) → lts.Need-returns-2 (callees t) (given t) walk.Post
 returns-2 t c =
     let o = c .before .before .before in
-    let s = o .before .before .before .before .before .before .before .before .before in let a = s .args in let f = here t s in
+    let s = o .before .before .before .before .before .before .before .before .before .before in let a = s .args in let f = here t s in
     breach (a .handler .now) (a .proof .now) (a .c) (a .node) (a .at) (a .levels) (a .stmt) (f .d) (f .after) (f .next) (f .read) (s .pre .1 .shallow)
     (o .own-fault .result) (o .own-fault .ensures) _ (c .before .number .given .1)
 
 -- What is known once the node's own conditions hold.
 seen : (t : ℕ) (c : lts.After-enum-told2 (callees t) (given t) walk.Post) →
-    let rule = c .before .before .before .before .rule .given .0 in
-    let a = c .before .before .before .before .before .before .before .before .before .before .before .args in
+    let rule = c .before .before .before .before .before .rule .given .0 in
+    let a = c .before .before .before .before .before .before .before .before .before .before .before .before .args in
     Seen (a .handler .now) (a .proof .now) (a .c) (a .node) (a .at) (a .levels) (a .stmt) (rule .0) (rule .1 .1 .1 .1 .1 .1 .1 .0)
 seen t c =
     let o = c .before .before in
-    let rule = o .before .before .rule .given in
-    let h = o .before .before .before .before in
+    let rule = o .before .before .before .rule .given in
+    let h = o .before .before .before .before .before in
     let s = h .before .before .before .before .before in let f = here t s in
     record {
       d = f .d;
@@ -97,42 +100,42 @@ seen t c =
     }
 
 -- A node that was read has fewer than 127 before it.
-few : (t : ℕ) (c : lts.After-enum-told2 (callees t) (given t) walk.Post) → c .before .before .before .before .before .before .before .before .before .before .before .args .node < 127
+few : (t : ℕ) (c : lts.After-enum-told2 (callees t) (given t) walk.Post) → c .before .before .before .before .before .before .before .before .before .before .before .before .args .node < 127
 few t c = head-few _ _ _ _ _ _ (node-sound _ _ _ _ _ _ _ _ _ (seen t c .head)) .1
 
 -- What the first child's call asks, and what it found.
-over : (t : ℕ) (c : lts.Else2 (callees t) (given t) walk.Post) → 2 ≤ c .before .before .before .before .before .rule .given .0 .0
+over : (t : ℕ) (c : lts.Else2 (callees t) (given t) walk.Post) → 2 ≤ c .before .before .before .before .before .before .rule .given .0 .0
 over t c = c .if2 .left
 
 walk-requires : (t : ℕ) → lts.Need-walk-requires (callees t) (given t) walk.Post
 walk-requires t c κs =
     let x = seen t (c .before .before) in
-    let s = c .before .before .before .before .before .before .before .before .before .before .before .before .before in
+    let s = c .before .before .before .before .before .before .before .before .before .before .before .before .before .before in
     let more : 0 < s .args .levels = search needs in
     let part = first-stands x (over t (c .before)) in (
       omega arith,
-      record { ready = s .pre .1 .ready; shallow = omega (arith, x .low); derivation = first-node x (over t (c .before)); statement = rw (c .first-part .ensures) (part .there) },
+      record { ready = s .pre .1 .ready; shallow = omega (arith, x .low); derivation = first-node x (over t (c .before)); statement = rw (c .first-part .ensures, c .before .before .before .before .before .part-at .ensures) (part .there) },
     )
 
 -- The statement at the first child, by the law of where it stands.
 first-is : (t : ℕ) (c : lts.After-first-part (callees t) (given t) walk.Post) →
-    let a = c .before .before .before .before .before .before .before .before .before .before .before .before .before .args in
+    let a = c .before .before .before .before .before .before .before .before .before .before .before .before .before .before .args in
     stmtIn (wholeStmt (a .handler .now) (a .c .variables) (c .first-part .result))
-    ≡ under (c .before .before .before .before .before .before .rule .given .0 .0) (stmtIn (wholeStmt (a .handler .now) (a .c .variables) (a .stmt)))
-first-is t c = rw (c .first-part .ensures) (first-stands (seen t (c .before .before)) (over t (c .before)) .is)
+    ≡ under (c .before .before .before .before .before .before .before .rule .given .0 .0) (stmtIn (wholeStmt (a .handler .now) (a .c .variables) (a .stmt)))
+first-is t c = rw (c .first-part .ensures, c .before .before .before .before .before .part-at .ensures) (first-stands (seen t (c .before .before)) (over t (c .before)) .is)
 
 walk-requires-2 : (t : ℕ) → lts.Need-walk-requires-2 (callees t) (given t) walk.Post
 walk-requires-2 t c κs =
     let w = c .before .before .before .before .before in
     let x = seen t (w .before .before .before) in
     let o = over t (w .before .before) in
-    let s = w .before .before .before .before .before .before .before .before .before .before .before .before .before .before in (
-      omega (arith, s .pre .0, w .before .before .before .before .before .before .before .before .before .before .if1 .left),
+    let s = w .before .before .before .before .before .before .before .before .before .before .before .before .before .before .before in (
+      omega (arith, s .pre .0, w .before .before .before .before .before .before .before .before .before .before .before .if1 .left),
       record {
         ready = s .pre .1 .ready;
         shallow = omega (arith, x .low);
         derivation = second-node x o _ (first-is t (w .before)) (w .walk .result) (w .walk .ensures) _ _ (c .before .before .before .so-far .given .1) (c .before .if3 .taken);
-        statement = rw (c .second-part .ensures) (second-stands x o _ (first-is t (w .before)) (w .walk .result) (w .walk .ensures) (c .before .if3 .taken) .there);
+        statement = rw (c .second-part .ensures, w .before .before .before .before .before .before .part-at .ensures) (second-stands x o _ (first-is t (w .before)) (w .walk .result) (w .walk .ensures) (c .before .if3 .taken) .there);
       },
     )
 
@@ -144,7 +147,7 @@ returns-4 t c =
     let o = over t (w .before .before) in
     goes-on x o _ (first-is t (w .before)) (w .walk .result) (w .walk .ensures) _ _ (q .before .before .before .so-far .given .1) (q .before .if3 .taken)
     (q .second-part .result)
-    (rw (q .second-part .ensures) (second-stands x o _ (first-is t (w .before)) (w .walk .result) (w .walk .ensures) (q .before .if3 .taken) .is))
+    (rw (q .second-part .ensures, w .before .before .before .before .before .before .part-at .ensures) (second-stands x o _ (first-is t (w .before)) (w .walk .result) (w .walk .ensures) (q .before .if3 .taken) .is))
     (c .walk2 .result) (c .walk2 .ensures)
 
 returns-5 : (t : ℕ) → lts.Need-returns-5 (callees t) (given t) walk.Post
@@ -173,6 +176,7 @@ pub +walk-spec : {M : Type 1} → statement M
     (λ c κs. search needs)
     (λ c. search needs)
     (λ c. search needs)
+    (λ c κs. search needs)
     (own-fault-requires t)
     (λ c. search needs)
     (returns-2 t)

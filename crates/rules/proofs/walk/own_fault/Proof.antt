@@ -9,20 +9,20 @@ use Rattle.rules.proofs.Walking.{stands}
 use Rattle.rules.proofs.walk.own_fault.Statement.{statement}
 use Rattle.rules.proofs.walk.own_fault.Tie as tie
 
-abbrev site : (c : tie.After-expr-of) → let a = c .before .before .before .before .before .before .before .before .before .before .before .args in
-    Site (a .handler .now) (a .proof .now) (a .work .now) (a .c) (a .at) (a .stmt) (c .before .before .before .before .before .before .names-of .result) (c .before .code-of .result) (c .expr-of .result)
+abbrev site : (c : tie.After-expr-of) → let a = c .before .before .before .before .before .before .before .before .before .before .args in
+    Site (a .handler .now) (a .proof .now) (a .work .now) (a .c) (a .at) (a .stmt) (c .before .before .before .before .before .names-of .result) (c .before .code-of .result) (c .expr-of .result)
 site c =
-    let a = c .before .before .before .before .before .before .before .before .before .before .before .args in
-    let pre = c .before .before .before .before .before .before .before .before .before .before .before .pre in
-    let head = c .before .before .before .before .before .before .before .node-head-at .ensures in
-    let told = c .before .before .before .before .head .given in
-    let part = c .before .before .part-at .ensures in
+    let a = c .before .before .before .before .before .before .before .before .before .before .args in
+    let pre = c .before .before .before .before .before .before .before .before .before .before .pre in
+    let head = c .before .before .before .before .before .before .node-head-at .ensures in
+    let told = c .before .before .before .head .given in
+    let part = pre .1 .1 .1 in
     let node = node-stands _ _ _ _ (pre .0) (a .at) (pre .1 .0) in
     record {
       ready = pre .0;
       next = node .0;
       d-stands = node .1;
-      S-stands = stands _ _ (a .stmt) (pre .1 .1);
+      S-stands = stands _ _ (a .stmt) (pre .1 .1 .0);
       rule = told .0 .0;
       P = told .0 .1 .0;
       R = told .0 .1 .1 .0;
@@ -32,17 +32,17 @@ site c =
       W = told .0 .1 .1 .1 .1 .1 .1 .0;
       first = told .0 .1 .1 .1 .1 .1 .1 .1 .0;
       read = sym head ∙ told .1;
-      own-is = c .before .before .before .before .before .before .names-of .ensures ∙ ap namesAt head;
+      own-is = c .before .before .before .before .before .names-of .ensures ∙ ap namesAt head;
       code-is = c .before .code-of .ensures ∙ ap codeAt part;
       expr-is = c .expr-of .ensures ∙ ap exprAt part;
     }
 
 -- The names of the first child, and of the one that stands where it ends.
-first-child : (c : tie.After-names-of2) → let b = c .before .before .before .before in let a = b .before .before .before .before .before .before .before .before .before .before .before .args in
+first-child : (c : tie.After-names-of2) → let b = c .before .before .before .before in let a = b .before .before .before .before .before .before .before .before .before .before .args in
     c .names-of2 .result ≡ namesAt (nodeHead (a .proof .now) (a .c .sets) (a .c .relations) 24 0 (site b .first))
 first-child c = c .names-of2 .ensures ∙ ap namesAt (c .before .node-head-at2 .ensures)
 
-second-child : (c : tie.After-names-of3) → let b = c .before .before .before .before .before .before .before .before .before in let a = b .before .before .before .before .before .before .before .before .before .before .before .args in
+second-child : (c : tie.After-names-of3) → let b = c .before .before .before .before .before .before .before .before .before in let a = b .before .before .before .before .before .before .before .before .before .before .args in
     c .names-of3 .result
     ≡ namesAt (nodeHead (a .proof .now) (a .c .sets) (a .c .relations) 24 0 (nextAt (endOf (wholeNode (a .proof .now) (a .c .sets) (a .c .relations) (site b .first)))))
 second-child c =
@@ -63,7 +63,7 @@ returns-3 : tie.Need-returns-3
 returns-3 c =
     let b = c .before .before .before .before in
     c .assignment-fault .ensures
-    ∙ assignment-owes _ _ _ _ _ _ _ _ _ (site b) _ (c .before .target-of .ensures ∙ ap targetAt (b .before .before .part-at .ensures)) (c .before .before .if2 .taken)
+    ∙ assignment-owes _ _ _ _ _ _ _ _ _ (site b) _ (c .before .target-of .ensures ∙ ap targetAt (b .before .before .before .before .before .before .before .before .before .before .pre .1 .1 .1)) (c .before .before .if2 .taken)
 
 returns-4 : tie.Need-returns-4
 returns-4 c =
@@ -97,4 +97,4 @@ returns-8 c =
 pub own-fault-spec : {M : Type 1} → statement M
 own-fault-spec =
     tie.close
-    (tie.spec (λ c κs. search needs) (λ c κs. search needs) (λ c. search needs) (λ c. search needs) returns (λ c κs. search needs) (λ c κs. search needs) (λ c κs. search needs) (λ c κs. search needs) returns-2 (λ c κs. search needs) (λ c κs. search needs) returns-3 (λ c κs. search needs) (λ c κs. search needs) (λ c κs. search needs) (λ c κs. search needs) (λ c κs. search needs) (λ c κs. search needs) (λ c κs. search needs) returns-4 (λ c κs. search needs) returns-5 (λ c κs. search needs) returns-6 (λ c κs. search needs) returns-7 (λ c κs. search needs) returns-8)
+    (tie.spec (λ c κs. search needs) (λ c κs. search needs) (λ c. search needs) (λ c. search needs) returns (λ c κs. search needs) (λ c κs. search needs) (λ c κs. search needs) returns-2 (λ c κs. search needs) (λ c κs. search needs) returns-3 (λ c κs. search needs) (λ c κs. search needs) (λ c κs. search needs) (λ c κs. search needs) (λ c κs. search needs) (λ c κs. search needs) (λ c κs. search needs) returns-4 (λ c κs. search needs) returns-5 (λ c κs. search needs) returns-6 (λ c κs. search needs) returns-7 (λ c κs. search needs) returns-8)
