@@ -12,8 +12,6 @@ use Rattle.semantics.specs.Derivations.{Names, Derivation, nodes}
 use Rattle.derivation.specs.declared.NodeHead.{NodeHead}
 use Rattle.derivation.specs.declared.NodeHead.the-variants.{Node, Fault}
 use Rattle.derivation.specs.Nodes.{NodeRead, whole, fault, alone, overTwo, overOne, onChild, onLeft, onNodeHead, nodeHead, nodeAt, wholeNode}
-use Rattle.derivation.specs.Reading.{proof, readProof}
-use Rattle.derivation.proofs.Files.{Stages, stages}
 use Rattle.derivation.proofs.Heads.{names, Sound, head-few, head-same, node-sound}
 
 -- How many nodes each kind of node has.
@@ -243,11 +241,3 @@ module _ (bytes : List ℕ) (sets relations : ℕ) where
             child-stands = fresh 24 1 first (c .child) (nodes d) next (c .read) (omega arith);
             is = c .is;
           }
-
--- The root of a proof file that is read without fault.
-pub root-stands : (bytes : List ℕ) (n sets relations at : ℕ) (d : Derivation) → readProof bytes n ≡ proof sets relations at d
-    → (next : ℕ) × Stands bytes sets relations d at next
-unfolding wholeNode
-root-stands bytes n sets relations at d e =
-    let s = stages bytes n sets relations at d e in
-    (s .next, fresh bytes sets relations 25 0 at d (s .count) (s .next) (s .nodes-read) (omega arith))

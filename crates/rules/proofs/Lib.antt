@@ -2,8 +2,10 @@
 pub mod Demand
 pub mod Faults
 pub mod Loaded
+pub mod Standing
 pub mod Walking
 pub mod Stages
 pub mod Judging
 pub mod Guards
+pub mod Sites
 pub mod Owed

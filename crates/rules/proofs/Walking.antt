@@ -1,24 +1,24 @@
 -- What the walk knows at a node, in plain numbers: that its own call and its children's are of what was read, and how what
 -- they find makes up what is found at the node.
-use Prim.Native.Nat.{ℕ, zero, suc, _+_, _-_, _≤_, _<_}
-use mathlib.Core.Path.{_≡_, refl, sym, _∙_, ap, subst}
-use mathlib.Core.Bool.{Bool, true, false, cond, false≢true}
+use Prim.Native.Nat.{ℕ, suc, _+_, _-_, _≤_, _<_}
+use mathlib.Core.Path.{_≡_, refl, sym, _∙_, ap}
+use mathlib.Core.Bool.{Bool, true, false, cond}
 use mathlib.Core.List.{List}
-use mathlib.Core.Option.{Option, none, some, Option·none-ne-some}
+use mathlib.Core.Option.{Option, none, some}
 use native.Mathlib.Omega.{arith}
 use lib.Dec.{ltb, eqb}
 use borrow.Author.Tests.{ne-eqb, eqb-false, ltb-true, ltb-false}
 use native.Mathlib.Numerals.{add-one}
-use Rattle.semantics.specs.Language.{Stmt, nil, assign, seq, par, if, while}
+use Rattle.semantics.specs.Language.{Stmt}
 use Rattle.semantics.specs.Derivations.{Derivation, Tables, nodes}
 use Rattle.semantics.specs.Conditions.{codeOf, firstOf, secondOf}
 use Rattle.semantics.specs.Checking as Checking
 use Rattle.semantics.specs.Checking.{firstBroken, owed, firstFault}
 use Rattle.handler.specs.Statements as Stmts
 use Rattle.handler.specs.Shapes.{partAt}
-use Rattle.handler.proofs.Parts.{Stands, parts, part-known}
+use Rattle.handler.proofs.Parts.{Stands}
 use Rattle.derivation.specs.declared.NodeHead.the-variants.{Node, Fault}
-use Rattle.derivation.specs.Nodes.{NodeRead, whole, fault, alone, overTwo, overOne, nodeHead, nodeAt, wholeNode}
+use Rattle.derivation.specs.Nodes.{NodeRead, whole, alone, overTwo, overOne, nodeHead, nodeAt, wholeNode}
 use Rattle.derivation.proofs.Heads.{node-within}
 use Rattle.derivation.proofs.Placement as Placement
 use Rattle.derivation.proofs.Placement.{Child, Children}
@@ -29,50 +29,8 @@ use Rattle.rules.specs.declared.Walked.{Walked}
 use Rattle.rules.specs.declared.Walked.the-variants.{Through, Broken}
 use Rattle.rules.specs.Verdicts.{tablesOf}
 use Rattle.rules.specs.Walks.{stmtIn, isStmt, nodeIn, isNode, ownOf, wayOf, walkOn, firstAt, secondAt}
+use Rattle.rules.proofs.Standing.{Placed, placed, stands, first-placed, second-placed}
 use Rattle.rules.proofs.Faults.{thenWalk, under, own-first, fits-two, fits-one, read-alone, read-two, read-one, walk-alone, walk-two, walk-one}
-
--- A reading that found something, taken apart.
-pub record Found (r : NodeRead) : Type 0 where
-  pub d : Derivation
-  pub after : ℕ
-  pub next : ℕ
-  pub read : r ≡ whole d after next
-
-pub found : (r : NodeRead) → isNode r ≡ true → Found r
-found (whole d after next) e = record { d = d; after = after; next = next; read = refl }
-found (fault k place) e = absurd (false≢true e)
-
-pub stands : (hb : List ℕ) (count s : ℕ) → isStmt (Stmts.wholeStmt hb count s) ≡ true → Stands hb count s (stmtIn (Stmts.wholeStmt hb count s))
-stands hb count s = by (Stmts.wholeStmt hb count s) refl
-  where
-    by : (r : Stmts.StmtRead) → Stmts.wholeStmt hb count s ≡ r → isStmt r ≡ true → Stands hb count s (stmtIn (Stmts.wholeStmt hb count s))
-    by (Stmts.whole S after next) e h = record { after = after; next = next; read = rw e }
-    by (Stmts.fault k place) e h = absurd (false≢true h)
-
--- A statement that stands at a place, as the code asks for it.
-pub record Placed (hb : List ℕ) (count s : ℕ) (S : Stmt) : Type 0 where
-  pub there : isStmt (Stmts.wholeStmt hb count s) ≡ true
-  pub is : stmtIn (Stmts.wholeStmt hb count s) ≡ S
-
-placed : (hb : List ℕ) (count s : ℕ) (S : Stmt) → Stands hb count s S → Placed hb count s S
-placed hb count s S x = record { there = rw (x .read); is = rw (x .read) }
-
--- The parts of a statement with a code stand where the code looks for them.
-pub first-placed : (hb : List ℕ) (count s : ℕ) (S : Stmt) → Stands hb count s S → 2 ≤ codeOf S → Placed hb count (firstAt s (partAt hb count s)) (firstOf S)
-first-placed hb count s nil x over = absurd (omega arith)
-first-placed hb count s (assign v e) x over = absurd (omega arith)
-first-placed hb count s (seq l r) x over = rw (part-known hb count s (seq l r) x) (placed hb count _ l (parts hb count s (seq l r) x .0))
-first-placed hb count s (par l r) x over = rw (part-known hb count s (par l r) x) (placed hb count _ l (parts hb count s (par l r) x .0))
-first-placed hb count s (if e b) x over = rw (part-known hb count s (if e b) x) (placed hb count _ b (parts hb count s (if e b) x .1))
-first-placed hb count s (while e b) x over = rw (part-known hb count s (while e b) x) (placed hb count _ b (parts hb count s (while e b) x .1))
-
-pub second-placed : (hb : List ℕ) (count s : ℕ) (S : Stmt) → Stands hb count s S → 2 ≤ codeOf S → codeOf S < 4 → Placed hb count (secondAt s (partAt hb count s)) (secondOf S)
-second-placed hb count s nil x over low = absurd (omega arith)
-second-placed hb count s (assign v e) x over low = absurd (omega arith)
-second-placed hb count s (seq l r) x over low = rw (part-known hb count s (seq l r) x) (placed hb count _ r (parts hb count s (seq l r) x .1))
-second-placed hb count s (par l r) x over low = rw (part-known hb count s (par l r) x) (placed hb count _ r (parts hb count s (par l r) x .1))
-second-placed hb count s (if e b) x over low = absurd (omega arith)
-second-placed hb count s (while e b) x over low = absurd (omega arith)
 
 own-some : (o : Option ℕ) (k : ℕ) → ownOf o ≡ Breaks k → o ≡ some k
 own-some none k e = absurd (let z : _≡_ {A = ℕ} 0 1 = cc in omega arith)

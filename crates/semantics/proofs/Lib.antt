@@ -7,5 +7,6 @@ pub mod Rules
 pub mod Runs
 pub mod Values
 pub mod Conditions
+pub mod Clear
 pub mod Soundness
 pub mod Cases

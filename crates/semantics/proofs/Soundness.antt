@@ -1,91 +1,30 @@
 -- Demand 3. Each node's conditions make its statement safe for its step number, by induction on the derivation; a safe
 -- statement keeps the promise over every list of events.
 use Prim.Native.Nat.{ℕ, suc, _+_, _-_, _*_, _<_}
-use mathlib.Core.Path.{_≡_, refl, sym, _∙_, ap, subst}
+use mathlib.Core.Path.{_≡_, sym, _∙_, subst}
 use mathlib.Core.Bool.{Bool, true, _&&_, _||_}
-use mathlib.Core.List.{List, [], _∷_}
-use mathlib.Core.Logic.{⊎-elim}
-use mathlib.Core.Option.{Option, none, some, Option·none-ne-some}
+use mathlib.Core.Option.{none}
 use native.Mathlib.Omega.{arith}
 use native.Mathlib.Nat.{le-refl}
-use lib.ListN.{getD}
 use lib.Dec.{eqb}
-use borrow.Author.Tests.{eqb-true}
-use Rattle.states.specs.Search.{Search, must}
-use Rattle.states.proofs.Search.{and-left, and-right, and-both, or-left, or-right, or-cases, must-none, orElse-none}
+use Rattle.states.specs.Search.{must}
+use Rattle.states.proofs.Search.{and-left, and-right, and-both, or-left, or-right, must-none, orElse-none}
 use Rattle.states.proofs.Reach.{Between}
-use Rattle.semantics.specs.declared.Kind.the-variants.{Integer, Truth}
-use Rattle.semantics.specs.Language.{Expr, Stmt, nil, assign, seq, par, if, while, fits, kindsFit}
-use Rattle.semantics.specs.States.{Machine, value}
+use Rattle.semantics.specs.declared.Kind.the-variants.{Truth}
+use Rattle.semantics.specs.Language.{Expr, Stmt, seq, par, if, while, fits, kindsFit}
+use Rattle.semantics.specs.States.{Machine}
 use Rattle.semantics.specs.StepNumber.{E, steps}
-use Rattle.semantics.specs.Derivations.{Names, Derivation, skip, assignment, sequence, parallel, conditional, iteration, weaken, namesOf, nodes, Tables, Spec, setOf, relationOf, specOf}
-use Rattle.semantics.specs.Conditions.{codeOf, targetOf, exprOf, firstOf, secondOf, sameSet, sameRelation, isTrue, isFalse, moves, c31, c32, c33, c41, c46, c34if, c34while, c50, c51, c52, c53, c54, c55, c56, c34sequence, c60, c61, c34parallel, c65, c66, c70, c71, c72, c73, inSet}
-use Rattle.semantics.specs.Checking.{Condition, Broken, orNumber, firstBroken, orBroken, atNode, owed, firstFault}
+use Rattle.semantics.specs.Derivations.{Derivation, skip, assignment, sequence, parallel, conditional, iteration, weaken, namesOf, nodes, Tables, Spec, setOf, relationOf, specOf}
+use Rattle.semantics.specs.Conditions.{codeOf, targetOf, exprOf, firstOf, secondOf, sameSet, sameRelation, isTrue, isFalse, moves, c31, c32, c33, c41, c46, c34if, c34while, c50, c51, c52, c53, c54, c55, c56, c34sequence, c60, c61, c34parallel, c65, c66, c70, c71, c72, c73}
+use Rattle.semantics.specs.Checking.{owed, firstFault}
 use Rattle.semantics.specs.Promise.{Promise}
-use Rattle.semantics.proofs.Safe.{Star, stay, star-keeps, Safe, safe-weaken}
-use Rattle.semantics.proofs.Composition.{safe-nil, safe-seq, Joint, safe-par}
+use Rattle.semantics.proofs.Safe.{stay, star-keeps, Safe, safe-weaken}
+use Rattle.semantics.proofs.Composition.{safe-nil, safe-seq, safe-par}
 use Rattle.semantics.proofs.Rules.{Undisturbed, rule-assign, rule-if, rule-while}
 use Rattle.semantics.proofs.Values.{fits-truth}
-use Rattle.semantics.proofs.Conditions.{Within, within, relation-in, true-at, at-member, same-set, same-relation, lies-in, says31, says32, says33, says35, stable, stores, says41, says46, says50, says51, says52, says53, says54, says55, says56, says60, says61, says66}
+use Rattle.semantics.proofs.Conditions.{Within, within, relation-in, true-at, at-member, same-set, same-relation, lies-in, says32, says33, says35, stable, stores, says41, says46, says50, says51, says52, says53, says54, says55, says56, says60, says61, says66}
 use Rattle.semantics.proofs.Runs.{promise}
-
--- Every condition of a list holds.
-abbrev Clear : List Condition → Type 0
-Clear [] = Unit {0}
-Clear (c ∷ rest) = (c .breach ≡ none) × Clear rest
-
-clear : (cs : List Condition) → firstBroken cs ≡ none → Clear cs
-clear [] e = tt
-clear (c ∷ rest) e = (by (c .breach) e .0, clear rest (by (c .breach) e .1))
-  where
-    by : (x : Search) → orNumber (c .number) x (firstBroken rest) ≡ none → (x ≡ none) × (firstBroken rest ≡ none)
-    by none e = (refl, e)
-    by (some found) e = absurd (Option·none-ne-some _ (sym e))
-
-no-number : (n : ℕ) (o : Option ℕ) → atNode n o ≡ none → o ≡ none
-no-number n none e = refl
-no-number n (some k) e = absurd (Option·none-ne-some _ (sym e))
-
-neither : (a b : Option Broken) → orBroken a b ≡ none → (a ≡ none) × (b ≡ none)
-neither none b e = (refl, e)
-neither (some x) b e = absurd (Option·none-ne-some _ (sym e))
-
--- A statement is made of its code and its parts: condition 30 tells which it is.
-abbrev made : ℕ → Stmt → Stmt
-made k S =
-    getD (nil ∷ assign (targetOf S) (exprOf S) ∷ seq (firstOf S) (secondOf S) ∷ par (firstOf S) (secondOf S)
-    ∷ if (exprOf S) (firstOf S) ∷ while (exprOf S) (firstOf S) ∷ []) k nil
-
-made-whole : (S : Stmt) → made (codeOf S) S ≡ S
-made-whole nil = refl
-made-whole (assign v e) = refl
-made-whole (seq l r) = refl
-made-whole (par l r) = refl
-made-whole (if e b) = refl
-made-whole (while e b) = refl
-
-says30 : (S : Stmt) (k : ℕ) → must (eqb (codeOf S) k) ≡ none → made k S ≡ S
-says30 S k e = ap (λ x. made x S) (sym (eqb-true (codeOf S) k (must-none _ e))) ∙ made-whole S
-
-none-must : (b : Bool) → b ≡ true → must b ≡ none
-unfolding must
-none-must b h = rw h
-
-four : (a b c d : Bool) → must (a && b && c && d) ≡ none → (a ≡ true) × (b ≡ true) × (c ≡ true) × (d ≡ true)
-four a b c d e =
-    let h = must-none _ e in
-    let h3 = and-left (a && b && c) d h in
-    let h2 = and-left (a && b) c h3 in
-    (and-left a b h2, and-right a b h2, and-right (a && b) c h3, and-right (a && b && c) d h)
-
-five : (a b c d f : Bool) → must (a && b && c && d && f) ≡ none → (a ≡ true) × (b ≡ true) × (c ≡ true) × (d ≡ true) × (f ≡ true)
-five a b c d f e =
-    let h = must-none _ e in
-    let (one, two, three, fourth) = four a b c d (none-must _ (and-left (a && b && c && d) f h)) in
-    (one, two, three, fourth, and-right (a && b && c && d) f h)
-
-either : {N : ℕ} (r q : ℕ → ℕ → Bool) → Between N r → Between N q → Between N (λ a b. r a b || q a b)
-either r q r-in q-in a b h = ⊎-elim (r-in a b) (q-in a b) (or-cases (r a b) _ h)
+use Rattle.semantics.proofs.Clear.{clear, no-number, neither, made, says30, four, five, either}
 
 module _ (m : Machine) where
   -- A statement that is safe under a node's rely, guarantee and postcondition.

@@ -13,7 +13,8 @@ use Rattle.handler.specs.Statements.{wholeStmt}
 use Rattle.handler.proofs.reading.part_at.Reads as part-at-reads
 use Rattle.rules.specs.Walks.{stmtIn}
 use Rattle.rules.proofs.Faults.{under}
-use Rattle.rules.proofs.Walking.{Found, found, Seen, more-levels, no-fault, own-there, breach, low-rule, leaf, first-stands, first-node, stops, ends, second-node, second-stands, goes-on}
+use Rattle.rules.proofs.Standing.{Found, found}
+use Rattle.rules.proofs.Walking.{Seen, more-levels, no-fault, own-there, breach, low-rule, leaf, first-stands, first-node, stops, ends, second-node, second-stands, goes-on}
 use Rattle.rules.proofs.walk.walk.Reads as walk
 use Rattle.rules.proofs.walk.walk.Kinds as walk-kinds
 use Rattle.rules.proofs.walk.+walk.Lts-walk as lts
