@@ -19,16 +19,17 @@ use Rattle.derivation.proofs.Heads.{node-within}
 use Rattle.derivation.proofs.Placement as Placement
 use Rattle.rules.specs.declared.Counts.{Counts}
 use Rattle.conditions.specs.declared.Names as Named
-use Rattle.rules.specs.declared.Own.{Own}
-use Rattle.rules.specs.declared.Own.the-variants.{Holds}
+use Rattle.nodes.specs.declared.Own.{Own}
+use Rattle.nodes.specs.declared.Own.the-variants.{Holds}
 use Rattle.conditions.specs.Words.{bare, wordSet, wordRelation, wordSpec}
 use Rattle.effects.specs.Places.{machineHere, exprHere}
 use Rattle.rules.specs.Verdicts.{tablesOf}
-use Rattle.rules.specs.Walks.{stmtIn, nodeIn, ownOf, guarded, Ready}
-use Rattle.rules.specs.Owing.{codeAt, targetAt, exprAt, namesAt, nextAt}
+use Rattle.nodes.specs.Owing.{ownOf, guarded}
+use Rattle.rules.specs.Walks.{stmtIn, nodeIn, Ready}
+use Rattle.nodes.specs.Owing.{codeAt, targetAt, exprAt, namesAt, nextAt}
 use Rattle.conditions.proofs.Bare.{bare-skip, bare-sequence, bare-parallel, bare-weaken}
 use Rattle.rules.proofs.Sites.{Site, code-of, target-of, sized, here, words-of, expr-of, words-here}
-use Rattle.rules.proofs.Guards.{first-guarded, on-fit}
+use Rattle.nodes.proofs.Guards.{first-guarded, on-fit}
 use Rattle.rules.proofs.Loaded.{names, set-loaded, relation-loaded}
 
 -- What a node owes, by its names and its children's.

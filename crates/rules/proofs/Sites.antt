@@ -24,7 +24,7 @@ use Rattle.conditions.specs.Words.{wordSpec}
 use Rattle.effects.specs.Places.{machineHere, exprHere}
 use Rattle.rules.specs.Verdicts.{tablesOf}
 use Rattle.rules.specs.Walks.{stmtIn, nodeIn, isNode, Ready}
-use Rattle.rules.specs.Owing.{codeAt, targetAt, exprAt, namesAt}
+use Rattle.nodes.specs.Owing.{codeAt, targetAt, exprAt, namesAt}
 use Rattle.rules.proofs.Loaded.{names, Known, spec-loaded}
 
 -- The names of a node of each number of children.

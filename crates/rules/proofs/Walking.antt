@@ -23,12 +23,13 @@ use Rattle.derivation.proofs.Heads.{node-within}
 use Rattle.derivation.proofs.Placement as Placement
 use Rattle.derivation.proofs.Placement.{Child, Children}
 use Rattle.rules.specs.declared.Counts.{Counts}
-use Rattle.rules.specs.declared.Own.{Own}
-use Rattle.rules.specs.declared.Own.the-variants.{Holds, Breaks}
+use Rattle.nodes.specs.declared.Own.{Own}
+use Rattle.nodes.specs.declared.Own.the-variants.{Holds, Breaks}
 use Rattle.rules.specs.declared.Walked.{Walked}
 use Rattle.rules.specs.declared.Walked.the-variants.{Through, Broken}
 use Rattle.rules.specs.Verdicts.{tablesOf}
-use Rattle.rules.specs.Walks.{stmtIn, isStmt, nodeIn, isNode, ownOf, wayOf, walkOn, firstAt, secondAt}
+use Rattle.nodes.specs.Owing.{ownOf}
+use Rattle.rules.specs.Walks.{stmtIn, isStmt, nodeIn, isNode, wayOf, walkOn, firstAt, secondAt}
 use Rattle.rules.proofs.Standing.{Placed, placed, stands, first-placed, second-placed}
 use Rattle.rules.proofs.Faults.{thenWalk, under, own-first, fits-two, fits-one, read-alone, read-two, read-one, walk-alone, walk-two, walk-one}
 

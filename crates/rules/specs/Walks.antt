@@ -2,14 +2,13 @@
 use Prim.Native.Nat.{ℕ, _-_, _^_, _≤_, min}
 use mathlib.Core.Path.{_≡_}
 use mathlib.Core.Bool.{Bool, true, false, cond}
-use mathlib.Core.List.{List, [], _∷_}
+use mathlib.Core.List.{List}
 use mathlib.Core.Option.{Option, none, some}
 use lib.ListN.{length}
 use lib.Dec.{ltb}
 use Rattle.semantics.specs.Language.{Stmt, nil}
 use Rattle.semantics.specs.Derivations.{Derivation, skip, Tables}
-use Rattle.states.specs.Search.{holds}
-use Rattle.semantics.specs.Checking.{Condition, Broken, firstFault}
+use Rattle.semantics.specs.Checking.{Broken, firstFault}
 use Rattle.semantics.specs.StepNumber as StepNumber
 use Rattle.handler.specs.Reading.{handler, readHandler}
 use Rattle.handler.specs.Header.{headerAt}
@@ -21,8 +20,6 @@ use Rattle.derivation.specs.Tables.{written}
 use Rattle.derivation.specs.Reading.{proof, readProof, wordsOf}
 use Rattle.derivation.specs.Nodes.{NodeRead, whole, fault, nodeAt}
 use Rattle.rules.specs.declared.Counts.{Counts}
-use Rattle.rules.specs.declared.Own.{Own}
-use Rattle.rules.specs.declared.Own.the-variants.{Holds, Breaks}
 use Rattle.rules.specs.declared.Place.the-variants.{Node}
 use Rattle.rules.specs.declared.Verdict.{Verdict}
 use Rattle.rules.specs.declared.Verdict.the-variants.{Accepted}
@@ -46,15 +43,6 @@ nodeIn (fault k place) = skip (record { P = 0; R = 0; G = 0; Q = 0 })
 abbrev pub isNode : NodeRead → Bool
 isNode (whole d before next) = true
 isNode (fault k place) = false
-
-abbrev pub ownOf : Option ℕ → Own
-ownOf none = Holds
-ownOf (some k) = Breaks k
-
--- What a list of conditions makes of what comes behind them: the first that is broken, else that.
-abbrev pub guarded : List Condition → Own → Own
-guarded [] rest = rest
-guarded (c ∷ cs) rest = cond (holds (c .breach)) (guarded cs rest) (Breaks (c .number))
 
 abbrev pub wayOf : Option Broken → ℕ → ℕ → Walked
 wayOf none after next = Way.Through after next

@@ -16,7 +16,6 @@ ghost use Rattle.rules.specs.declared.Place.the-variants.{Bit, Node};
 ghost use Rattle.rules.specs.Verdicts.{refusedAt, tablesOf, onHandler, answer, workAfter, Upheld};
 ghost use Rattle.rules.specs.Walks.{stmtIn, walkOn, decided, Walkable, Handled};
 
-pub mod nodes;
 pub mod walk;
 
 // How many variables and states the handler file has, and how many sets and relations the proof file.
@@ -25,12 +24,6 @@ pub struct Counts {
     pub states: u32,
     pub sets: u32,
     pub relations: u32,
-}
-
-// What a node owes: its conditions hold, or the number of the first that is broken.
-pub enum Own {
-    Holds,
-    Breaks(u32),
 }
 
 // What walking a derivation finds: the number of the next node and its first bit, or the first fault's number and node.

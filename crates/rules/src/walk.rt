@@ -1,25 +1,25 @@
 // The walk over the derivation's nodes in file order. Statement and node are positions in their files, read again where they
 // stand; sequence and parallel find their right parts by where the left ones end, and weaken keeps its statement.
 use crate::Counts;
-use crate::Own;
 use crate::Walked;
-use crate::nodes::assignment_fault;
-use crate::nodes::code_of;
-use crate::nodes::expr_of;
-use crate::nodes::if_fault;
-use crate::nodes::names_of;
-use crate::nodes::next_of;
-use crate::nodes::parallel_fault;
-use crate::nodes::sequence_fault;
-use crate::nodes::skip_fault;
-use crate::nodes::target_of;
-use crate::nodes::weaken_fault;
-use crate::nodes::while_fault;
 use derivation::NodeHead;
 use derivation::nodes::node_end;
 use derivation::nodes::node_head_at;
 use handler::Part;
 use handler::reading::part_at;
+use nodes::Own;
+use nodes::assignment_fault;
+use nodes::code_of;
+use nodes::expr_of;
+use nodes::if_fault;
+use nodes::names_of;
+use nodes::next_of;
+use nodes::parallel_fault;
+use nodes::sequence_fault;
+use nodes::skip_fault;
+use nodes::target_of;
+use nodes::weaken_fault;
+use nodes::while_fault;
 ghost use mathlib.Core.Path.{_≡_};
 ghost use mathlib.Core.Bool.{true, cond};
 ghost use lib.Dec.{eqb};
@@ -28,7 +28,8 @@ ghost use Rattle.handler.specs.Shapes.{partAt};
 ghost use Rattle.semantics.specs.Checking.{firstBroken, owed};
 ghost use Rattle.derivation.specs.Nodes.{nodeAt, wholeNode};
 ghost use Rattle.rules.specs.Verdicts.{tablesOf};
-ghost use Rattle.rules.specs.Walks.{stmtIn, isStmt, nodeIn, isNode, ownOf, walkOn, Ready, Walkable, firstAt, secondAt};
+ghost use Rattle.nodes.specs.Owing.{ownOf};
+ghost use Rattle.rules.specs.Walks.{stmtIn, isStmt, nodeIn, isNode, walkOn, Ready, Walkable, firstAt, secondAt};
 
 // The first bit of the left part or the body.
 fn left_or_body(part: Part, stmt: usize) -> usize

@@ -3,7 +3,7 @@ use mathlib.Core.Path.{_≡_, _∙_, sym, ap}
 use borrow.Author.Needs.{needs}
 use Rattle.derivation.specs.Nodes.{nodeHead, wholeNode, endOf}
 use Rattle.derivation.proofs.Placement.{head-sound}
-use Rattle.rules.specs.Owing.{codeAt, targetAt, exprAt, namesAt, nextAt}
+use Rattle.nodes.specs.Owing.{codeAt, targetAt, exprAt, namesAt, nextAt}
 use Rattle.rules.proofs.Owed.{skip-owes, assignment-owes, sequence-owes, parallel-owes, if-owes, while-owes, weaken-owes}
 use Rattle.rules.proofs.Sites.{Site, node-stands}
 use Rattle.rules.proofs.Standing.{stands}

@@ -1,0 +1,2 @@
+-- What a node owes.
+pub mod Owing
