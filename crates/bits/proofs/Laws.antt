@@ -5,7 +5,7 @@ use mathlib.Core.List.{List}
 use mathlib.Core.Logic.{⊎-elim}
 use mathlib.Core.Option.{Option, none, some}
 use mathlib.Core.Path.{_≡_, refl, sym, _∙_}
-use native.Mathlib.Nat.{pow-suc, zero-div, lt-of-not-le, le-of-suc-le-suc, eq-or-lt-of-le}
+use native.Mathlib.Nat.{add-zero, add-suc, add-assoc, pow-suc, zero-div, lt-of-not-le, le-of-suc-le-suc, eq-or-lt-of-le}
 use native.Mathlib.Numerals.{add-one}
 use native.Mathlib.Omega.{arith}
 use borrow.Author.Tests.{leb-true, ltb-true, le-leb, lt-ltb, eqb-true, eqb-false}
@@ -39,6 +39,13 @@ bits-below s at (suc w) = omega (arith, pow-suc 2 w, bits-below s at w, bit-belo
 
 pub bits-fit : (s : List ℕ) (at w : ℕ) → w ≤ 64 → bitsAt s at w < 2 ^ 64
 bits-fit s at w most = omega (arith, bits-below s at w, pow-mono most)
+
+-- The bits of two fields that touch.
+pub bits-join : (s : List ℕ) (at w k : ℕ) → bitsAt s at (w + k) ≡ bitsAt s at w * 2 ^ k + bitsAt s (at + w) k
+unfolding bitsAt
+bits-join s at w zero = rw (add-zero w) (omega arith)
+bits-join s at w (suc k) =
+    rw (add-suc, pow-suc, ← add-assoc at w k) (omega (arith, bits-join s at w k))
 
 -- A number depends only on the bits that write it, wherever they stand.
 pub bits-agree : (s t : List ℕ) (a b w : ℕ) → ((k : ℕ) → k < w → bitAt s (a + k) ≡ bitAt t (b + k)) → bitsAt s a w ≡ bitsAt t b w

@@ -1,8 +1,8 @@
 // The packed reader: bits, fields of 1 to 64 bits and the fill of a file, most significant bit first. It takes any file,
 // cursor and width, and assumes nothing of its host.
 ghost use mathlib.Core.Path.{_≡_};
-ghost use Prim.Native.Nat.{_+_};
-ghost use Rattle.bits.specs.Fields.{bitLength, bitAt, isThere, fieldAt, furtherByte, fillAt};
+ghost use Prim.Native.Nat.{_+_, _*_, _^_, _≤_, _<_};
+ghost use Rattle.bits.specs.Fields.{bitLength, bitAt, bitsAt, isThere, fieldAt, furtherByte, fillAt};
 
 // The largest cursor.
 const LAST: usize = 18446744073709551615;
@@ -40,6 +40,13 @@ pub fn bit(src: &[u8], i: usize) -> u64
     }
 }
 
+// Byte i of the file; 0 past the end.
+fn byte(src: &[u8], i: usize) -> u64
+    ensures { λ r. ⌜ r ≡ bitsAt (now (src .entry)) (8 * i) 8 ⌝ }
+{
+    if i < src.len() { src[i] as u64 } else { 0 }
+}
+
 // Whether a field of `width` bits at a cursor is there in full. The byte of its last bit is tested, because 8 * len may not
 // fit.
 fn is_there(src: &[u8], at: usize, width: usize) -> bool
@@ -51,16 +58,38 @@ fn is_there(src: &[u8], at: usize, width: usize) -> bool
     (at + width - 1) / 8 < src.len()
 }
 
+// The 8 bits from a cursor on, the first of them the most significant; those past the end are 0.
+pub fn byte_at(src: &[u8], at: usize) -> u64
+    ensures { λ r. ⌜ r ≡ bitsAt (now (src .entry)) at 8 ⌝ }
+{
+    let first = byte(src, at / 8);
+    let second = byte(src, at / 8 + 1);
+    ((first * 256 + second) >> (8 - at % 8)) % 256
+}
+
+// The number that a field of `width` bits writes: whole bytes of it, then the bits that are left, at most 8.
+fn gather(src: &[u8], at: usize, width: usize) -> u64
+    requires { ⌜ (width ≤ 64) × (at + width < 2 ^ 64) ⌝ }
+    ensures { λ r. ⌜ r ≡ bitsAt (now (src .entry)) at width ⌝ }
+{
+    let mut value = 0;
+    let mut done = 0;
+    while width - done > 8 {
+        let next = byte_at(src, at + done);
+        value = value * 256 + next;
+        done += 8;
+    }
+    let left = width - done;
+    let last = byte_at(src, at + done) >> (8 - left);
+    (value << left) + last
+}
+
 // The field of `width` bits at a cursor, with the next cursor, or that it is missing.
 pub fn read(src: &[u8], at: usize, width: usize) -> Field
     ensures { λ r. ⌜ r ≡ fieldAt (now (src .entry)) at width ⌝ }
 {
     if is_there(src, at, width) {
-        let mut value = 0;
-        for k in 0..width {
-            let next = bit(src, at + k);
-            value = value * 2 + next;
-        }
+        let value = gather(src, at, width);
         return Field::Value(value, at + width);
     }
     Field::Missing

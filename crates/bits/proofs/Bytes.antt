@@ -1,0 +1,59 @@
+-- Whole bytes: a byte of the file is the 8 bits that it holds, and the 8 bits from any cursor on lie within two bytes.
+use Prim.Native.Nat.{ℕ, zero, suc, _+_, _-_, _*_, _/_, _%_, _^_, _≤_, _<_}
+use mathlib.Core.List.{List}
+use mathlib.Core.Path.{_≡_, sym, ap, _∙_}
+use native.Mathlib.Nat.{div-one}
+use native.Mathlib.Omega.{arith}
+use lib.ListN.{length, getD}
+use lib.Pow.{high, low, shr-shr, shl-exact}
+use Rattle.bits.specs.Fields.{bitAt, bitsAt}
+use Rattle.bits.proofs.Laws.{bits-join, bits-below}
+
+module _ (s : List ℕ) where
+  -- The first k bits of a byte are what a shift leaves of it.
+  byte-first : (i k : ℕ) → getD s i 0 < 256 → k ≤ 8 → bitsAt s (8 * i) k ≡ getD s i 0 / 2 ^ (8 - k)
+  unfolding bitsAt bitAt
+  byte-first i zero small within = omega arith
+  byte-first i (suc k) small within =
+      let byte : (8 * i + k) / 8 ≡ i = omega arith in
+      let place : 7 - (8 * i + k) % 8 ≡ 7 - k = omega arith in
+      let shorter : 8 - suc k ≡ 7 - k = omega arith in
+      let longer : 8 - k ≡ 7 - k + 1 = omega arith in
+      rw (byte, place, shorter, byte-first i k small (omega arith), longer, ← shr-shr) (omega arith)
+
+  -- A byte holds its 8 bits.
+  pub byte-bits : (i : ℕ) → getD s i 0 < 256 → bitsAt s (8 * i) 8 ≡ getD s i 0
+  byte-bits i small = byte-first i 8 small (omega arith) ∙ div-one (getD s i 0)
+
+  -- The first w bits of a longer field are what a shift leaves of it.
+  pub bits-first : (at w k : ℕ) → w ≤ k → bitsAt s at k / 2 ^ (k - w) ≡ bitsAt s at w
+  bits-first at w k within =
+      let whole : k ≡ w + (k - w) = omega arith in
+      let parts : bitsAt s at k ≡ bitsAt s at w * 2 ^ (k - w) + bitsAt s (at + w) (k - w) = ap (bitsAt s at) whole ∙ bits-join s at w (k - w) in
+      rw parts (high (bitsAt s at w) (k - w) (bits-below s (at + w) (k - w)))
+
+  -- The last k bits of a longer field are what a mask leaves of it.
+  pub bits-last : (at w k : ℕ) → bitsAt s at (w + k) % 2 ^ k ≡ bitsAt s (at + w) k
+  bits-last at w k = rw bits-join (low (bitsAt s at w) k (bits-below s (at + w) k))
+
+  -- The 8 bits from a cursor on lie within the byte of the cursor and the next.
+  pub window : (at : ℕ)
+      → (bitsAt s (8 * (at / 8)) 8 * 256 + bitsAt s (8 * (at / 8 + 1)) 8) / 2 ^ (8 - at % 8) % 256 ≡ bitsAt s at 8
+  window at =
+      let first = 8 * (at / 8) in
+      let next : 8 * (at / 8 + 1) ≡ first + 8 = omega arith in
+      let cursor : first + at % 8 ≡ at = omega arith in
+      let behind : 8 - at % 8 ≡ 16 - (at % 8 + 8) = omega arith in
+      rw (next, ← bits-join s first 8 8, behind, bits-first first (at % 8 + 8) 16 (omega arith))
+      (bits-last first (at % 8) 8 ∙ ap (λ here. bitsAt s here 8) cursor)
+
+  -- A field of at most 64 bits, of which at most 8 are left.
+  pub bits-left : (at done width : ℕ) → done ≤ width → width ≤ done + 8 → width ≤ 64
+      → bitsAt s at done * 2 ^ (width - done) % 2 ^ 64 + bitsAt s (at + done) 8 / 2 ^ (8 - (width - done)) ≡ bitsAt s at width
+  bits-left at done width within near most =
+      let whole : done + (width - done) ≡ width = omega arith in
+      rw (
+        shl-exact {a = bitsAt s at done} done (width - done) 64 (bits-below s at done) (omega arith),
+        bits-first (at + done) (width - done) 8 (omega arith),
+      )
+      (sym (bits-join s at done (width - done)) ∙ ap (bitsAt s at) whole)
