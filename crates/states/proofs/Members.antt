@@ -12,10 +12,10 @@ use lib.Dec.{ltb, eqb}
 use lib.Count.{trailingZeros, under}
 use borrow.Author.Tests.{eqb-true, eq-eqb, lt-ltb}
 use Rattle.states.specs.declared.StateSet.{StateSet}
-use Rattle.states.specs.Search.{any}
+use Rattle.states.specs.Search.{implies, all, any}
 use Rattle.states.specs.Sets.{mem, has}
 use Rattle.states.specs.Relations.{rel}
-use Rattle.states.proofs.Search.{and-left, and-right, and-both, or-left, or-right, or-cases, bool-ext, true-or-false, any-intro, any-true, any-cong, any-none}
+use Rattle.states.proofs.Search.{and-left, and-right, and-both, or-left, or-right, or-cases, implies-intro, implies-at, bool-ext, true-or-false, all-intro, all-at, any-intro, any-true, any-cong, any-none}
 use Rattle.states.proofs.Words.{mem-bit, mem-nought}
 use Rattle.states.proofs.Rows.{mem-below, rel-row}
 use Rattle.states.proofs.Reach.{count, count-more}
@@ -96,6 +96,41 @@ module _ (p q : ℕ → Bool) (k : ℕ) (one : Taken p q k) where
           let at = and-right (p (w .0)) (f (w .0)) (w .2) in
           ⊎-elim (λ e. or-left (f k) _ (rw e at)) (λ e. or-right (f k) _ (any-intro n _ (w .0) (w .1) (and-both _ _ e at)))
           (other (w .0) (and-left (p (w .0)) _ (w .2)))
+
+  -- And one that asks at each whether f holds.
+  pub all-taken : (n : ℕ) → k < n → (f : ℕ → Bool) → (f k && all n (λ s. implies (q s) (f s))) ≡ all n (λ s. implies (p s) (f s))
+  all-taken n l f = bool-ext _ _ (λ h. all-intro n _ (λ s m. implies-intro _ _ (λ e. at h s m (other s e)))) back
+    where
+      at : (f k && all n (λ s. implies (q s) (f s))) ≡ true → (s : ℕ) → s < n → (k ≡ s) ⊎ (q s ≡ true) → f s ≡ true
+      at h s m (inl e) = rw (← e) (and-left (f k) _ h)
+      at h s m (inr e) = implies-at _ _ (all-at n _ (and-right (f k) _ h) s m) e
+
+      back : all n (λ s. implies (p s) (f s)) ≡ true → (f k && all n (λ s. implies (q s) (f s))) ≡ true
+      back h =
+          and-both _ _ (implies-at _ _ (all-at n _ h k l) (one .there))
+          (all-intro n _ (λ s m. implies-intro _ _ (λ e. implies-at _ _ (all-at n _ h s m) (kept s e))))
+
+-- f holds of the states taken out of a set, and is still to be asked of those left in it: what a loop over the members keeps.
+pub record Passed (n : ℕ) (f : ℕ → Bool) (from rest : StateSet) (held : Bool) : Type 0 where
+  pub low : (s : ℕ) → has rest s ≡ true → s < n
+  pub same : (held && all n (λ s. implies (has rest s) (f s))) ≡ all n (λ s. implies (has from s) (f s))
+
+module _ (n : ℕ) (f : ℕ → Bool) (from : StateSet) where
+  pub passed-none : ((s : ℕ) → has from s ≡ true → s < n) → Passed n f from from true
+  passed-none low = record { low = low; same = refl }
+
+  pub passed-more : (rest left : StateSet) (held now : Bool) (k : ℕ) → Taken (has rest) (has left) k → now ≡ f k
+      → Passed n f from rest held → Passed n f from left (held && now)
+  passed-more rest left held now k one asked old = record {
+    low = λ s e. old .low s (and-left (has rest s) _ (sym (one .rest s) ∙ e));
+    same = and-assoc held now _ ∙ ap (λ b. held && (b && all n (λ s. implies (has left s) (f s)))) asked
+        ∙ ap (λ b. held && b) (all-taken (has rest) (has left) k one n (old .low k (one .there)) f) ∙ old .same;
+  }
+
+  pub passed-all : (rest : StateSet) (held : Bool) → rest .bits ≡ 0 → Passed n f from rest held → held ≡ all n (λ s. implies (has from s) (f s))
+  unfolding has implies
+  passed-all rest held e done =
+      sym (and-true held) ∙ ap (λ b. held && b) (sym (all-intro n (λ s. implies (has rest s) (f s)) (λ s l. rw (e, mem-nought s)))) ∙ done .same
 
 -- The rows of the states taken out of a set, with those of the states left in it, are the rows of all: what `image` keeps.
 pub record Gathered (n : ℕ) (rows : List ℕ) (from rest ends : StateSet) : Type 0 where
