@@ -5,11 +5,11 @@ use native.Mathlib.Nat.{le-antisymm}
 use native.Mathlib.Numerals.{add-one}
 use mathlib.Core.Path.{_≡_, refl, sym, ap, _∙_}
 use mathlib.Core.Logic.{_⊎_, inl, inr}
-use mathlib.Core.Bool.{Bool, true, false, _&&_}
+use mathlib.Core.Bool.{Bool, true, false, _&&_, Bool·beq, true≢false}
 use lib.Dec.{ltb}
 use borrow.Author.Tests.{lt-ltb}
 use Rattle.states.specs.Search.{implies, all, any, Search, must, given, named, each, holds}
-use Rattle.states.proofs.Search.{and-left, and-right, and-both, implies-intro, implies-at, implies-false, bool-ext, true-or-false, all-intro, all-at, all-cong, any-intro, any-true, holds-must, holds-given, holds-named, holds-orElse, holds-each, each-cong}
+use Rattle.states.proofs.Search.{and-left, and-right, and-both, implies-intro, implies-at, implies-false, bool-ext, beq-true, true-or-false, all-intro, all-at, all-cong, any-intro, any-true, any-at, holds-must, holds-given, holds-named, holds-orElse, holds-each, each-cong}
 use Rattle.semantics.specs.Conditions.{inSet}
 use Rattle.conditions.specs.Words.{bare}
 
@@ -66,20 +66,33 @@ ends-within n p r q =
         let st = and-right (p (w .0)) (r (w .0) t) (w .2) in
         sym (holds-must (q t)) ∙ inSet-at n _ _ (inSet-at n p _ h (w .0) (w .1) ps) t k st
 
--- Chains of two pairs that start in a set, each in a relation; the chains are held in 64 rows.
-pub chains-within : (n : ℕ) (p : ℕ → Bool) (a b c ab : ℕ → ℕ → Bool) → Small n p
-    → ((s t : ℕ) → ab s t ≡ (ltb s 64 && any n (λ u. a s u && b u t)))
-    → all n (λ s. implies (p s) (all n (λ t. implies (ab s t) (c s t))))
-    ≡ holds (inSet (bare n) p (λ s. inSet (bare n) (a s) (λ t. inSet (bare n) (b t) (λ u. must (c s u)))))
-chains-within n p a b c ab small chains =
-    all-cong n _ _
-    (λ s l. implies-cong (p s) _ _ (λ ps.
-    all-cong n _ _ (λ t k. ap (λ x. implies x (c s t)) (rw (lt-ltb s 64 (small s ps .0)) at (chains s t))) ∙ ends-within n (a s) b (c s)))
-    ∙ sym (holds-inSet n p _)
+-- Of a set those members will do at which a search may find something.
+pub inSet-part : (n : ℕ) (p d : ℕ → Bool) (f : ℕ → Search) → ((s : ℕ) → p s ≡ true → d s ≡ false → holds (f s) ≡ true)
+    → holds (inSet (bare n) (λ s. p s && d s) f) ≡ holds (inSet (bare n) p f)
+inSet-part n p d f clear =
+    bool-ext _ _ (λ h. inSet-intro n p f (λ s l e. at h s l e (true-or-false (d s))))
+    (λ h. inSet-intro n _ f (λ s l e. inSet-at n p f h s l (and-left (p s) _ e)))
   where
-    implies-cong : (x y z : Bool) → (x ≡ true → y ≡ z) → implies x y ≡ implies x z
-    implies-cong x y z h =
-        bool-ext _ _ (λ e. implies-intro x z (λ i. sym (h i) ∙ implies-at x y e i)) (λ e. implies-intro x y (λ i. h i ∙ implies-at x z e i))
+    at : holds (inSet (bare n) (λ s. p s && d s) f) ≡ true → (s : ℕ) → s < n → p s ≡ true → (d s ≡ true) ⊎ (d s ≡ false) → holds (f s) ≡ true
+    at h s l e (inl i) = inSet-at n _ f h s l (and-both _ _ e i)
+    at h s l e (inr o) = clear s e o
+
+-- Chains of two pairs through the states that start a pair of the second relation.
+pub chains-through : (n : ℕ) (a d : ℕ → Bool) (b : ℕ → ℕ → Bool) (f : ℕ → Search) → Small n a → ((t : ℕ) → d t ≡ (ltb t 64 && any n (b t)))
+    → holds (inSet (bare n) (λ t. a t && d t) (λ t. inSet (bare n) (b t) f)) ≡ holds (inSet (bare n) a (λ t. inSet (bare n) (b t) f))
+chains-through n a d b f small starts =
+    inSet-part n a d _ (λ t at out. inSet-intro n (b t) f (λ u l e. absurd (true≢false (sym e ∙ any-at n (b t) (none t at out) u l))))
+  where
+    none : (t : ℕ) → a t ≡ true → d t ≡ false → any n (b t) ≡ false
+    none t at out = rw (lt-ltb t 64 (small t at .0)) at (sym (starts t) ∙ out)
+
+-- Where a set holds all n states every pair ends in it.
+pub full-within : (n : ℕ) (p : ℕ → Bool) (r : ℕ → ℕ → Bool) (q : ℕ → Bool) → ((s : ℕ) → Small n (r s))
+    → all 64 (λ t. Bool·beq (q t) (ltb t 64 && ltb t n)) ≡ true
+    → holds (inSet (bare n) p (λ s. inSet (bare n) (r s) (λ t. must (q t)))) ≡ true
+full-within n p r q small full =
+    inSet-intro n p _ (λ s l ps. inSet-intro n (r s) _ (λ t k st. holds-must (q t) ∙ beq-true _ _ (all-at 64 _ full t (small s t st .0))
+    ∙ and-both _ _ (lt-ltb t 64 (small s t st .0)) (lt-ltb t n k)))
 
 -- So a comparison of words answers for the n states.
 pub small-all : (n : ℕ) (p q : ℕ → Bool) → Small n p → all 64 (λ t. implies (p t) (q t)) ≡ all n (λ t. implies (p t) (q t))

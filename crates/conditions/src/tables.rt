@@ -1,11 +1,10 @@
 // The tables in the work words, by number, and what the conditions compare: word i is set i, and the rows of relation r start at
 // word 16 + 64 r. Any n and any words will do: only the states below n are looked at, and a word past the end is empty.
 use states::StateSet;
-use states::relations::compose;
 use states::relations::image;
-use states::relations::included_from;
 use states::relations::row;
 use states::relations::same_members;
+use states::relations::starting;
 ghost use mathlib.Core.Path.{_≡_};
 ghost use mathlib.Core.Bool.{_&&_, _||_};
 ghost use Prim.Native.Nat.{ℕ, _+_, _*_};
@@ -55,14 +54,45 @@ pub fn leads_into(n: u32, work: &[u64], from: StateSet, r: u32, into: StateSet) 
     image(n, from, rows_of(work, r)).included(into)
 }
 
-// Whether every pair of relation a that starts in set p, with a pair of b that goes on from it, makes a pair of whole.
+// Whether every pair of relation a from s to a state of the set through, with a pair of b that goes on from it, makes a pair of
+// whole. Where whole leads from s to all states there is nothing to look at.
+fn row_chains_into(
+    n: u32,
+    work: &[u64],
+    a: u32,
+    through: StateSet,
+    b: u32,
+    whole: u32,
+    s: u32,
+) -> bool
+    ensures { λ out.
+        ⌜ out ≡ holds (inSet (bare n) (λ t. wordRelation n (now (work .entry)) a s t && has through t)
+        (λ t. inSet (bare n) (wordRelation n (now (work .entry)) b t) (λ u. must (wordRelation n (now (work .entry)) whole s u)))) ⌝ }
+{
+    let ends = row_at(n, work, whole, s);
+    if ends.same(StateSet::below(n)) {
+        true
+    } else {
+        leads_into(n, work, row_at(n, work, a, s).meet(through), b, ends)
+    }
+}
+
+// Whether every pair of relation a that starts in set p, with a pair of b that goes on from it, makes a pair of whole. Only the
+// states of p are looked at, and of their ends only those that start a pair of b.
 pub fn chains_into(n: u32, work: &[u64], p: u32, a: u32, b: u32, whole: u32) -> bool
     ensures { λ out.
         ⌜ out ≡ holds (inSet (bare n) (wordSet n (now (work .entry)) p) (λ s. inSet (bare n) (wordRelation n (now (work .entry)) a s)
         (λ t. inSet (bare n) (wordRelation n (now (work .entry)) b t) (λ u. must (wordRelation n (now (work .entry)) whole s u))))) ⌝ }
 {
-    let chains = compose(n, rows_of(work, a), rows_of(work, b));
-    included_from(n, set_at(n, work, p), &chains, rows_of(work, whole))
+    let through = starting(n, rows_of(work, b));
+    let mut rest = set_at(n, work, p);
+    let mut held = true;
+    while rest.bits != 0 {
+        let first = u64::trailing_zeros(rest.bits);
+        held = held & row_chains_into(n, work, a, through, b, whole, first);
+        rest = rest.narrow(StateSet::single(first));
+    }
+    held
 }
 
 fn row_lies_in(n: u32, work: &[u64], a: u32, b: u32, s: u32) -> bool

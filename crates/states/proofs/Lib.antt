@@ -3,3 +3,4 @@ pub mod Search
 pub mod Words
 pub mod Rows
 pub mod Reach
+pub mod Members

@@ -37,7 +37,7 @@ abbrev Added : ℕ → (ℕ → ℕ → Bool) → (ℕ → Bool) → Type 0
 Added n r p = (t : ℕ) × (t < n) × (p t ≡ false) × (round n r p t ≡ true)
 
 -- How many of the states below n are in p.
-count : ℕ → (ℕ → Bool) → ℕ
+pub count : ℕ → (ℕ → Bool) → ℕ
 count zero p = 0
 count (suc n) p = count n p + cond (p n) 1 0
 
@@ -50,7 +50,7 @@ unfolding count
 count-mono zero p q h = zero-le
 count-mono (suc n) p q h = omega (arith, count-mono n p q h, digit-mono (p n) (q n) (h n))
 
-count-more : (n : ℕ) (p q : ℕ → Bool) → ((s : ℕ) → p s ≡ true → q s ≡ true)
+pub count-more : (n : ℕ) (p q : ℕ → Bool) → ((s : ℕ) → p s ≡ true → q s ≡ true)
     → (s : ℕ) → s < n → p s ≡ false → q s ≡ true → count n p < count n q
 unfolding count
 count-more zero p q h s l out into = absurd (omega arith)

@@ -4,17 +4,17 @@ use native.Mathlib.Nat.{not-suc-le-zero}
 use native.Mathlib.Numerals.{add-one}
 use native.Mathlib.Decide.{decLt}
 use native.Mathlib.Omega.{arith}
-use mathlib.Core.Path.{_≡_, sym, ap, _∙_}
+use mathlib.Core.Path.{_≡_, refl, sym, ap, _∙_}
 use mathlib.Core.Bool.{Bool, true, false, _&&_, true≢false}
 use mathlib.Core.List.{List, [], _∷_}
 use lib.ListN.{getD, length, set, length-set, List·getD-eq-default}
 use lib.Seq.{getD-set-same, getD-set-other}
-use lib.Dec.{ltb}
-use borrow.Author.Tests.{ltb-true, lt-ltb, le-ltb}
-use Rattle.states.specs.Search.{all}
+use lib.Dec.{ltb, eqb}
+use borrow.Author.Tests.{ltb-true, lt-ltb, le-ltb, eqb-true, eq-eqb}
+use Rattle.states.specs.Search.{all, any}
 use Rattle.states.specs.Sets.{mem}
 use Rattle.states.specs.Relations.{rel}
-use Rattle.states.proofs.Search.{and-left, and-right, and-both, bool-ext, not-true-false, below-cases, all-at, all-intro}
+use Rattle.states.proofs.Search.{and-left, and-right, and-both, bool-ext, not-true-false, below-cases, all-at, all-intro, any-intro, any-true}
 use Rattle.states.proofs.Words.{bit, mem-bit, mem-nought}
 use Rattle.states.proofs.Reach.{Between}
 
@@ -54,6 +54,27 @@ row-all β none n a b s =
         → ((rows : List ℕ) → m ≤ t → rel n rows s t ≡ true → ⊥) → β (rel n a s t) (rel n b s t) ≡ true
     at m h t (yes l) out = all-at m _ h t l
     at m h t (no l) out = rw (not-true-false _ (out a (omega arith)), not-true-false _ (out b (omega arith))) none
+
+-- A row has a state of the 64 where it has one of the n.
+pub row-any : (n : ℕ) (rows : List ℕ) (s : ℕ) → any 64 (rel n rows s) ≡ any n (rel n rows s)
+row-any n rows s =
+    bool-ext _ _ (λ h. at n (λ t e. rel-between n rows s t e .1) (any-true 64 _ h)) (λ h. at 64 (λ t e. mem-below _ t (rel-mem n rows s t e)) (any-true n _ h))
+  where
+    at : (k : ℕ) {j : ℕ} → ((t : ℕ) → rel n rows s t ≡ true → t < k) → (t : ℕ) × (t < j) × (rel n rows s t ≡ true) → any k (rel n rows s) ≡ true
+    at k below w = any-intro k _ (w .0) (below (w .0) (w .2)) (w .2)
+
+-- Of the states below n, t alone: it starts a pair where some pair starts in it.
+pub row-starts : (n : ℕ) (rows : List ℕ) (t : ℕ)
+    → any n (λ s. ltb t 64 && any n (rel n rows s) && eqb s t) ≡ (ltb t 64 && any n (rel n rows t))
+row-starts n rows t = bool-ext _ _ (λ h. there (any-true n _ h)) back
+  where
+    there : (s : ℕ) × (s < n) × ((ltb t 64 && any n (rel n rows s) && eqb s t) ≡ true) → (ltb t 64 && any n (rel n rows t)) ≡ true
+    there w = let same = eqb-true (w .0) t (and-right (ltb t 64 && any n (rel n rows (w .0))) _ (w .2)) in rw same at (and-left (ltb t 64 && any n (rel n rows (w .0))) (eqb (w .0) t) (w .2))
+
+    back : (ltb t 64 && any n (rel n rows t)) ≡ true → any n (λ s. ltb t 64 && any n (rel n rows s) && eqb s t) ≡ true
+    back h =
+        let w = any-true n _ (and-right (ltb t 64) _ h) in
+        any-intro n _ t (rel-between n rows t (w .0) (w .2) .0) (and-both _ _ h (eq-eqb t t refl))
 
 -- Of the 64 rows, those below k hold the pairs of f: what a loop that fills the rows keeps.
 pub record Filled (f : ℕ → ℕ → Bool) (k : ℕ) (rows : List ℕ) : Type 0 where

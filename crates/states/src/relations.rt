@@ -6,7 +6,7 @@ ghost use mathlib.Core.Logic.{_↔_};
 ghost use mathlib.Core.Bool.{true, _&&_, _||_, Bool·beq};
 ghost use Prim.Native.Nat.{ℕ};
 ghost use lib.ListN.{getD};
-ghost use lib.Dec.{ltb};
+ghost use lib.Dec.{ltb, eqb};
 ghost use Rattle.states.specs.Search.{implies, all, any};
 ghost use Rattle.states.specs.Sets.{has};
 ghost use Rattle.states.specs.Relations.{rel, Reached};
@@ -29,26 +29,43 @@ pub fn row(n: u32, rows: &[u64], s: u32) -> StateSet
     }
 }
 
-// The ends found so far, with those from s where s is in the set.
-fn ends_from(n: u32, set: StateSet, rows: &[u64], s: u32, ends: StateSet) -> StateSet
-    ensures { λ r. ⌜ ((t : ℕ) → has r t ≡ (has ends t || has set s && rel n (now (rows .entry)) s t)) ⌝ }
-{
-    if set.holds_state(s) {
-        ends.join(row(n, rows, s))
-    } else {
-        ends
-    }
-}
-
-// The ends of the pairs that start in the set.
+// The ends of the pairs that start in the set. Its states are taken out one by one, the least first; the rows are joined as they
+// are, and what is not below n goes once at the end.
 pub fn image(n: u32, set: StateSet, rows: &[u64]) -> StateSet
     ensures { λ r. ⌜ ((t : ℕ) → has r t ≡ any n (λ s. has set s && rel n (now (rows .entry)) s t)) ⌝ }
 {
+    let states = StateSet::below(n);
+    let mut rest = set.meet(states);
     let mut ends = StateSet::empty();
-    for s in 0..n {
-        ends = ends_from(n, set, rows, s, ends);
+    while rest.bits != 0 {
+        let first = u64::trailing_zeros(rest.bits);
+        let bits = word(rows, first as usize);
+        ends = ends.join(StateSet { bits });
+        rest = rest.narrow(StateSet::single(first));
     }
-    ends
+    ends.meet(states)
+}
+
+// The states found so far, with s where it starts a pair.
+fn with_start(n: u32, rows: &[u64], s: u32, found: StateSet) -> StateSet
+    ensures { λ r. ⌜ ((t : ℕ) → has r t ≡ (has found t || ltb t 64 && any n (rel n (now (rows .entry)) s) && eqb s t)) ⌝ }
+{
+    if row(n, rows, s).is_empty() {
+        found
+    } else {
+        found.join(StateSet::single(s))
+    }
+}
+
+// The states that start a pair, of those that a set can hold.
+pub fn starting(n: u32, rows: &[u64]) -> StateSet
+    ensures { λ r. ⌜ ((s : ℕ) → has r s ≡ (ltb s 64 && any n (rel n (now (rows .entry)) s))) ⌝ }
+{
+    let mut found = StateSet::empty();
+    for s in 0..n {
+        found = with_start(n, rows, s, found);
+    }
+    found
 }
 
 // The pairs of a followed by a pair of b. The result has 64 rows, so it starts in no state past them.

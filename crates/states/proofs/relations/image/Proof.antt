@@ -1,34 +1,80 @@
--- After the states below s: the ends from each of them. `any-more` adds the next.
-use Prim.Native.Nat.{ℕ, _≤_, _-_}
+-- The rows of the states taken out, with those of the states that are left, are the rows of the set's states below n. `any-taken` takes one out.
+use Prim.Native.Nat.{ℕ}
 use native.Mathlib.Omega.{arith}
-use mathlib.Core.Path.{_≡_, _∙_, sym, ap₂, refl}
+use mathlib.Core.Path.{_≡_, _∙_, sym, ap}
 use mathlib.Core.Bool.{_&&_, _||_}
+use mathlib.Core.List.{[], _∷_}
+use lib.Count.{trailingZeros, trailing-le}
 use borrow.Author.Needs.{needs}
-use Rattle.states.specs.Search.{any}
-use Rattle.states.specs.Sets.{has}
-use Rattle.states.specs.Relations.{rel}
-use Rattle.states.proofs.Search.{any-more, any-done}
+use borrow.Author.Tests.{ltb-true}
+use lib.Dec.{ltb}
+use Rattle.states.specs.Sets.{mem, has}
+use Rattle.states.proofs.Search.{and-right}
+use Rattle.states.proofs.Reach.{count}
+use Rattle.states.proofs.Members.{first-below, first-taken, fewer, Taken, Gathered, gathered-none, gathered-more, gathered-all}
 use Rattle.states.proofs.relations.image.Statement.{statement}
 use Rattle.states.proofs.relations.image.Tie as tie
 
 abbrev Inv-loop : tie.InvT-loop
-Inv-loop n set rows ends₀ s₀ ends s = (s ≤ n) × ((t : ℕ) → has ends t ≡ any s (λ u. has set u && rel n rows u t))
+Inv-loop n rows states rest₀ ends₀ rest ends = Gathered n rows rest₀ rest ends
 
 abbrev μ-loop : tie.MeasureT-loop
-μ-loop n set rows ends₀ s₀ ends s = n - s
+μ-loop n rows states rest₀ ends₀ rest ends = count 64 (has rest)
+
+-- The states to take out, and one taken out.
+start : (c : tie.After-meet Inv-loop μ-loop) → let a = c .before .before .before .args in
+    (s : ℕ) → has (c .meet .result) s ≡ (has (a .set) s && (ltb s 64 && ltb s (a .n)))
+start c s = c .meet .ensures s ∙ ap (λ b. has (c .before .before .before .args .set) s && b) (c .before .below .ensures s)
+
+one : (c : tie.After-narrow Inv-loop μ-loop) → let set = c .before .before .before .before .before .before .before .loop .rest in
+    Taken (has set) (has (c .narrow .result)) (trailingZeros 64 (set .bits))
+one c =
+    let d = c .before .before .before .before in
+    first-taken _ (d .struct-known2 .given .0 .fits) (d .before .if1 .taken) _ _ (c .before .single .ensures) (c .narrow .ensures)
 
 loop-holds : tie.Need-loop-holds Inv-loop μ-loop
-unfolding any
-loop-holds c = (omega arith, c .empty .ensures)
+loop-holds c =
+    gathered-none _ _ _ _
+    (λ s e. ltb-true s _ (and-right (ltb s 64) _ (and-right (has (c .before .before .before .before .args .set) s) _ (sym (start (c .before) s) ∙ e))))
+    (c .empty .ensures)
+
+cast-word : tie.Need-cast-word Inv-loop μ-loop
+cast-word c = record { fits = omega (arith, trailing-le 64 (c .before .before .before .loop .rest .bits)) }
+
+loop-less : tie.Need-loop-less Inv-loop μ-loop
+loop-less c =
+    let d = c .before .before .before .before in
+    fewer _ _ _ (one c) 64 (first-below _ (d .struct-known2 .given .0 .fits) (d .before .if1 .taken))
 
 loop-again : tie.Need-loop-again Inv-loop μ-loop
-loop-again c = (omega arith, λ t. c .ends-from .ensures t ∙ ap₂ _||_ (c .before .before .loop .inv .1 t) refl ∙ sym (any-more _ _))
+unfolding has
+loop-again c =
+    let l = c .before .before .before .before .before .before .before .loop in
+    gathered-more _ _ _ _ _ _ _ _ (one c)
+    (λ t. c .before .before .join .ensures t ∙ ap (λ w. has (l .ends) t || mem (w ∷ []) t) (c .before .before .before .word .ensures)) (l .inv)
 
 returns : tie.Need-returns Inv-loop μ-loop
-returns c t = c .before .loop .inv .1 t ∙ any-done _ _ _ (c .before .loop .inv .0) (c .loop-test .left)
+returns c t =
+    let d = c .before .before .before in
+    gathered-all _ _ _ _ _ _ _ (c .before .if1 .left) (d .loop .inv) (start (d .before .before))
+    (λ t. c .meet2 .ensures t ∙ ap (λ b. has (d .loop .ends) t && b) (d .before .before .before .below .ensures t)) t
 
 pub image-spec : {M : Type 1} → statement M
 image-spec =
     tie.close
-    (tie.spec Inv-loop μ-loop (λ c κs. search needs) loop-holds (λ c κs. search needs) (λ c. search needs) (λ c. search needs)
-    loop-again returns)
+    (tie.spec
+    Inv-loop
+    μ-loop
+    (λ c κs. search needs)
+    (λ c κs. search needs)
+    (λ c κs. search needs)
+    loop-holds
+    cast-word
+    (λ c κs. search needs)
+    (λ c κs. search needs)
+    (λ c κs. search needs)
+    (λ c κs. search needs)
+    loop-less
+    loop-again
+    (λ c κs. search needs)
+    returns)

@@ -1,0 +1,173 @@
+-- The states of a set one by one, the least first: the lowest set bit of a word is a member, and with it taken out the members are
+-- one fewer.
+use Prim.Native.Nat.{ℕ, zero, suc, _/_, _%_, _*_, _^_, _<_, suc-le-suc}
+use native.Mathlib.Nat.{pow-suc, pow-succ', div-one, div-div-eq-div-mul, zero-lt-suc}
+use native.Mathlib.Omega.{arith}
+use mathlib.Core.Path.{_≡_, refl, sym, ap, _∙_}
+use mathlib.Core.Logic.{_⊎_, ⊎-elim, inl, inr}
+use mathlib.Core.Bool.{Bool, true, false, not, _&&_, _||_, and-false, and-true, and-assoc, or-false, or-assoc}
+use mathlib.Core.List.{List, [], _∷_}
+use lib.ListN.{getD}
+use lib.Dec.{ltb, eqb}
+use lib.Count.{trailingZeros, under}
+use borrow.Author.Tests.{eqb-true, eq-eqb, lt-ltb}
+use Rattle.states.specs.declared.StateSet.{StateSet}
+use Rattle.states.specs.Search.{implies, all, any}
+use Rattle.states.specs.Sets.{mem, has}
+use Rattle.states.specs.Relations.{rel}
+use Rattle.states.proofs.Search.{and-left, and-right, and-both, or-left, or-right, or-cases, implies-intro, implies-at, bool-ext, true-or-false, all-intro, all-at, any-intro, any-true, any-cong, any-none}
+use Rattle.states.proofs.Words.{mem-bit, mem-nought}
+use Rattle.states.proofs.Rows.{mem-below, rel-row}
+use Rattle.states.proofs.Reach.{count, count-more}
+
+-- The lowest set digit of a number of d digits that is not 0 is one of the d, and it is 1.
+lowest : (d q : ℕ) → 0 < q → q < 2 ^ d → (trailingZeros d q < d) × (q / 2 ^ trailingZeros d q % 2 ≡ 1)
+unfolding trailingZeros
+lowest zero q h k = absurd (let k : q < 1 = k in omega arith)
+lowest (suc d) q h k =
+    at (q % 2) refl (λ e. lowest d (q / 2) (omega arith) (let k : q < 2 ^ d * 2 = rw pow-suc at k in omega arith))
+  where
+    at : (r : ℕ) → q % 2 ≡ r → (q % 2 ≡ 0 → (trailingZeros d (q / 2) < d) × (q / 2 / 2 ^ trailingZeros d (q / 2) % 2 ≡ 1))
+        → (under r (trailingZeros d (q / 2)) < suc d) × (q / 2 ^ under r (trailingZeros d (q / 2)) % 2 ≡ 1)
+    at zero e half =
+        let t = trailingZeros d (q / 2) in
+        (suc-le-suc (half e .0), ap (λ x. x % 2) (ap (λ x. q / x) (pow-succ' 2 t) ∙ sym (div-div-eq-div-mul q 2 (2 ^ t))) ∙ half e .1)
+    at (suc r) e half = (zero-lt-suc d, ap (λ x. x % 2) (div-one q) ∙ omega arith)
+
+-- k is in p, and q is p without it.
+pub record Taken (p q : ℕ → Bool) (k : ℕ) : Type 0 where
+  pub there : p k ≡ true
+  pub rest : (s : ℕ) → q s ≡ (p s && not (eqb k s))
+
+-- The least member of a set that is not empty.
+module _ (set : StateSet) (fits : set .bits < 2 ^ 64) (some : set .bits ≡ 0 → ⊥) where
+  above : (q : ℕ) → (q ≡ 0 → ⊥) → 0 < q
+  above zero h = absurd (h refl)
+  above (suc q) h = zero-lt-suc q
+
+  low : (trailingZeros 64 (set .bits) < 64) × (set .bits / 2 ^ trailingZeros 64 (set .bits) % 2 ≡ 1)
+  low = lowest 64 (set .bits) (above (set .bits) some) fits
+
+  pub first-below : trailingZeros 64 (set .bits) < 64
+  first-below = low .0
+
+  pub first-in : has set (trailingZeros 64 (set .bits)) ≡ true
+  unfolding has
+  first-in = mem-bit _ _ ∙ and-both _ _ (lt-ltb _ 64 first-below) (eq-eqb _ 1 (low .1))
+
+  pub first-taken : (one left : StateSet) → ((t : ℕ) → has one t ≡ (ltb t 64 && eqb (trailingZeros 64 (set .bits)) t))
+      → ((t : ℕ) → has left t ≡ (has set t && not (has one t))) → Taken (has set) (has left) (trailingZeros 64 (set .bits))
+  unfolding has
+  first-taken one left alone without = record { there = first-in; rest = λ s. without s ∙ at s (true-or-false (has set s)) }
+    where
+      at : (s : ℕ) → (has set s ≡ true) ⊎ (has set s ≡ false) → (has set s && not (has one s)) ≡ (has set s && not (eqb (trailingZeros 64 (set .bits)) s))
+      at s (inl e) = rw (alone s, lt-ltb s 64 (mem-below _ s e))
+      at s (inr e) = rw e
+
+module _ (p q : ℕ → Bool) (k : ℕ) (one : Taken p q k) where
+  kept : (s : ℕ) → q s ≡ true → p s ≡ true
+  kept s e = and-left (p s) _ (sym (one .rest s) ∙ e)
+
+  gone : q k ≡ false
+  gone = one .rest k ∙ rw (eq-eqb k k refl) (and-false (p k))
+
+  other : (s : ℕ) → p s ≡ true → (k ≡ s) ⊎ (q s ≡ true)
+  other s e = at (true-or-false (eqb k s))
+    where
+      at : (eqb k s ≡ true) ⊎ (eqb k s ≡ false) → (k ≡ s) ⊎ (q s ≡ true)
+      at (inl h) = inl (eqb-true k s h)
+      at (inr h) = inr (one .rest s ∙ rw (e, h))
+
+  -- The measure of a loop that takes the states out.
+  pub fewer : (n : ℕ) → k < n → count n q < count n p
+  fewer n l = count-more n q p kept k l gone (one .there)
+
+  -- What a loop that joins what it finds at each keeps.
+  pub any-taken : (n : ℕ) → k < n → (f : ℕ → Bool) → (f k || any n (λ s. q s && f s)) ≡ any n (λ s. p s && f s)
+  any-taken n l f =
+      bool-ext _ _ (λ h. ⊎-elim (λ e. any-intro n _ k l (and-both _ _ (one .there) e)) (λ e. there (any-true n _ e)) (or-cases (f k) _ h))
+      (λ h. back (any-true n _ h))
+    where
+      there : (s : ℕ) × (s < n) × ((q s && f s) ≡ true) → any n (λ s. p s && f s) ≡ true
+      there w = any-intro n _ (w .0) (w .1) (and-both _ _ (kept (w .0) (and-left (q (w .0)) _ (w .2))) (and-right (q (w .0)) _ (w .2)))
+
+      back : (s : ℕ) × (s < n) × ((p s && f s) ≡ true) → (f k || any n (λ s. q s && f s)) ≡ true
+      back w =
+          let at = and-right (p (w .0)) (f (w .0)) (w .2) in
+          ⊎-elim (λ e. or-left (f k) _ (rw e at)) (λ e. or-right (f k) _ (any-intro n _ (w .0) (w .1) (and-both _ _ e at)))
+          (other (w .0) (and-left (p (w .0)) _ (w .2)))
+
+  -- And one that asks at each whether f holds.
+  pub all-taken : (n : ℕ) → k < n → (f : ℕ → Bool) → (f k && all n (λ s. implies (q s) (f s))) ≡ all n (λ s. implies (p s) (f s))
+  all-taken n l f = bool-ext _ _ (λ h. all-intro n _ (λ s m. implies-intro _ _ (λ e. at h s m (other s e)))) back
+    where
+      at : (f k && all n (λ s. implies (q s) (f s))) ≡ true → (s : ℕ) → s < n → (k ≡ s) ⊎ (q s ≡ true) → f s ≡ true
+      at h s m (inl e) = rw (← e) (and-left (f k) _ h)
+      at h s m (inr e) = implies-at _ _ (all-at n _ (and-right (f k) _ h) s m) e
+
+      back : all n (λ s. implies (p s) (f s)) ≡ true → (f k && all n (λ s. implies (q s) (f s))) ≡ true
+      back h =
+          and-both _ _ (implies-at _ _ (all-at n _ h k l) (one .there))
+          (all-intro n _ (λ s m. implies-intro _ _ (λ e. implies-at _ _ (all-at n _ h s m) (kept s e))))
+
+-- f holds of the states taken out of a set, and is still to be asked of those left in it: what a loop over the members keeps.
+pub record Passed (n : ℕ) (f : ℕ → Bool) (from rest : StateSet) (held : Bool) : Type 0 where
+  pub low : (s : ℕ) → has rest s ≡ true → s < n
+  pub same : (held && all n (λ s. implies (has rest s) (f s))) ≡ all n (λ s. implies (has from s) (f s))
+
+module _ (n : ℕ) (f : ℕ → Bool) (from : StateSet) where
+  pub passed-none : ((s : ℕ) → has from s ≡ true → s < n) → Passed n f from from true
+  passed-none low = record { low = low; same = refl }
+
+  pub passed-more : (rest left : StateSet) (held now : Bool) (k : ℕ) → Taken (has rest) (has left) k → now ≡ f k
+      → Passed n f from rest held → Passed n f from left (held && now)
+  passed-more rest left held now k one asked old = record {
+    low = λ s e. old .low s (and-left (has rest s) _ (sym (one .rest s) ∙ e));
+    same = and-assoc held now _ ∙ ap (λ b. held && (b && all n (λ s. implies (has left s) (f s)))) asked
+        ∙ ap (λ b. held && b) (all-taken (has rest) (has left) k one n (old .low k (one .there)) f) ∙ old .same;
+  }
+
+  pub passed-all : (rest : StateSet) (held : Bool) → rest .bits ≡ 0 → Passed n f from rest held → held ≡ all n (λ s. implies (has from s) (f s))
+  unfolding has implies
+  passed-all rest held e done =
+      sym (and-true held) ∙ ap (λ b. held && b) (sym (all-intro n (λ s. implies (has rest s) (f s)) (λ s l. rw (e, mem-nought s)))) ∙ done .same
+
+-- The rows of the states taken out of a set, with those of the states left in it, are the rows of all: what `image` keeps.
+pub record Gathered (n : ℕ) (rows : List ℕ) (from rest ends : StateSet) : Type 0 where
+  pub low : (s : ℕ) → has rest s ≡ true → s < n
+  pub same : (t : ℕ) → (has ends t || any n (λ s. has rest s && mem (getD rows s 0 ∷ []) t)) ≡ any n (λ s. has from s && mem (getD rows s 0 ∷ []) t)
+
+module _ (n : ℕ) (rows : List ℕ) (from : StateSet) where
+  pub gathered-none : (ends : StateSet) → ((s : ℕ) → has from s ≡ true → s < n) → ((t : ℕ) → has ends t ≡ false) → Gathered n rows from from ends
+  gathered-none ends low none = record { low = low; same = λ t. rw (none t) }
+
+  pub gathered-more : (rest ends left more : StateSet) (k : ℕ) → Taken (has rest) (has left) k → ((t : ℕ) → has more t ≡ (has ends t || mem (getD rows k 0 ∷ []) t))
+      → Gathered n rows from rest ends → Gathered n rows from left more
+  gathered-more rest ends left more k one joined old = record {
+    low = λ s e. old .low s (and-left (has rest s) _ (sym (one .rest s) ∙ e));
+    same = λ t.
+        ap (λ b. b || any n (λ s. has left s && mem (getD rows s 0 ∷ []) t)) (joined t) ∙ or-assoc (has ends t) (mem (getD rows k 0 ∷ []) t) _
+        ∙ ap (λ b. has ends t || b) (any-taken (has rest) (has left) k one n (old .low k (one .there)) (λ s. mem (getD rows s 0 ∷ []) t))
+        ∙ old .same t;
+  }
+
+  pub gathered-all : (set rest ends found : StateSet) → rest .bits ≡ 0 → Gathered n rows from rest ends
+      → ((s : ℕ) → has from s ≡ (has set s && (ltb s 64 && ltb s n))) → ((t : ℕ) → has found t ≡ (has ends t && (ltb t 64 && ltb t n)))
+      → (t : ℕ) → has found t ≡ any n (λ s. has set s && rel n rows s t)
+  unfolding has
+  gathered-all set rest ends found e done start masked t =
+      masked t ∙ ap (λ b. b && (ltb t 64 && ltb t n)) (ends-are ∙ any-cong n _ _ (λ s l. ap (λ b. b && mem (getD rows s 0 ∷ []) t) (starts s l)))
+      ∙ any-and n _ _ ∙ any-cong n _ _ (λ s l. and-assoc (has set s) (mem (getD rows s 0 ∷ []) t) (ltb t 64 && ltb t n) ∙ ap (λ b. has set s && b) (rel-row n rows s t l))
+    where
+      starts : (s : ℕ) → s < n → has from s ≡ has set s
+      starts s l = start s ∙ bool-ext _ _ (and-left (has set s) _) (λ h. and-both _ _ h (and-both _ _ (lt-ltb s 64 (mem-below _ s h)) (lt-ltb s n l)))
+
+      none-left : any n (λ s. has rest s && mem (getD rows s 0 ∷ []) t) ≡ false
+      none-left = any-none n _ (λ s l. rw (e, mem-nought s))
+
+      ends-are : has ends t ≡ any n (λ s. has from s && mem (getD rows s 0 ∷ []) t)
+      ends-are = sym (or-false (has ends t)) ∙ ap (λ b. has ends t || b) (sym none-left) ∙ done .same t
+
+      any-and : (k : ℕ) (p : ℕ → Bool) (b : Bool) → (any k p && b) ≡ any k (λ s. p s && b)
+      any-and k p true = and-true (any k p) ∙ any-cong k _ _ (λ s l. sym (and-true (p s)))
+      any-and k p false = and-false (any k p) ∙ sym (any-none k _ (λ s l. and-false (p s)))
