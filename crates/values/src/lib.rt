@@ -218,9 +218,11 @@ pub fn agreeing(src: &[u8], v: u32, s: u32) -> StateSet
     if s >= n {
         return found;
     }
-    let value = value_of(src, count, s, v);
+    let weight = weight_of(src, count, v);
+    let size = size_of(src, count, v);
+    let value = s / weight % size;
     for t in 0..n {
-        let other = value_of(src, count, t, v);
+        let other = t / weight % size;
         found = with_state(found, t, (value <= other) & (other <= value));
     }
     found
