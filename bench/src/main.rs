@@ -1,5 +1,6 @@
 //! Medians of the time that each checker takes, all measured in one run so that the machine
-//! treats them alike. `--smoke` measures hardly at all: it shows that the rows still work.
+//! treats them alike. `--smoke` measures hardly at all: it shows that the rows still work. Any
+//! other word keeps only the rows whose names start with it.
 
 mod rows;
 
@@ -13,11 +14,12 @@ use std::time::Instant;
 const CALLS: u32 = 8;
 
 fn main() {
-    let smoke = std::env::args().any(|argument| argument == "--smoke");
-    let rounds = if smoke { 3 } else { 401 };
+    let words: Vec<String> = std::env::args().skip(1).collect();
+    let rounds = if words.iter().any(|word| word == "--smoke") { 3 } else { 401 };
+    let wanted = words.iter().find(|word| *word != "--smoke").map_or("", String::as_str);
     let checkers = checkers();
     print_head(&checkers);
-    for row in rows::all() {
+    for row in rows::all().into_iter().filter(|row| row.name.starts_with(wanted)) {
         let verdict = judge(&row.handler, &row.proof);
         assert!((row.expected)(verdict), "{}: {verdict:?}", row.name);
         print_row(&row, verdict, &measure(&row, &checkers, rounds));
