@@ -3,13 +3,13 @@ use Prim.Native.Nat.{ℕ, zero, suc, _+_, _-_, _*_, _/_, _%_, _^_, _≤_, _<_}
 use mathlib.Core.Bool.{Bool, true, false, cond, _&&_}
 use mathlib.Core.List.{List, [], _∷_}
 use mathlib.Core.Logic.{⊎-elim}
-use mathlib.Core.Path.{_≡_, refl, sym, _∙_}
-use native.Mathlib.Nat.{pow-suc, pow-succ', add-zero, div-one, zero-div, div-eq-of-lt, div-div-eq-div-mul, eq-or-lt-of-le}
+use mathlib.Core.Path.{_≡_, refl, sym, ap, _∙_}
+use native.Mathlib.Nat.{pow-suc, pow-succ', add-zero, zero-add, suc-add, div-one, zero-div, div-eq-of-lt, div-div-eq-div-mul, eq-or-lt-of-le}
 use native.Mathlib.Omega.{arith}
 use borrow.Author.Tests.{lt-ltb, le-ltb, ltb-true, ltb-false}
 use lib.Dec.{ltb, eqb}
 use lib.ListN.{length, getD, List·getD-eq-default}
-use lib.Pow.{pow-pos, pow-mono}
+use lib.Pow.{pow-pos, pow-mono, low}
 use Rattle.bits.specs.Fields.{bitAt}
 use Rattle.bits.proofs.Laws.{bit-below}
 use Rattle.states.specs.Sets.{mem}
@@ -25,17 +25,19 @@ module _ (bytes : List ℕ) where
   word-below at zero = omega arith
   word-below at (suc n) = omega (arith, pow-suc 2 n, word-below (suc at) n, bit-below bytes at)
 
-  pub word-fits : (at n : ℕ) → n ≤ 64 → wordAt bytes at n < 2 ^ 64
-  word-fits at n most = omega (arith, word-below at n, pow-mono most)
-
-  -- One more bit in front, in the numbers of a count down.
-  pub word-more : (at n left : ℕ) → 0 < left → left ≤ n
-      → wordAt bytes (at + (left - 1)) (n - (left - 1)) ≡ wordAt bytes (at + left) (n - left) * 2 + bitAt bytes (at + (left - 1))
+  -- The words of two runs of bits that touch.
+  word-join : (at w k : ℕ) → wordAt bytes at (w + k) ≡ wordAt bytes (at + w) k * 2 ^ w + wordAt bytes at w
   unfolding wordAt
-  word-more at n left some within =
-      let longer : n - (left - 1) ≡ suc (n - left) = omega arith in
-      let next : suc (at + (left - 1)) ≡ at + left = omega arith in
-      rw (longer, next)
+  word-join at zero k = rw (zero-add k, add-zero at) (omega arith)
+  word-join at (suc w) k =
+      let next : at + suc w ≡ suc at + w = omega arith in
+      rw (suc-add, next, pow-suc) (omega (arith, word-join (suc at) w k))
+
+  -- The first n bits of a longer run.
+  pub word-first : (at n k : ℕ) → n ≤ k → wordAt bytes at k % 2 ^ n ≡ wordAt bytes at n
+  word-first at n k within =
+      let whole : k ≡ n + (k - n) = omega arith in
+      ap (λ w. wordAt bytes at w % 2 ^ n) whole ∙ ap (λ x. x % 2 ^ n) (word-join at n (k - n)) ∙ low (wordAt bytes (at + n) (k - n)) n (word-below at n)
 
   pub word-bit : (at n s : ℕ) → s < n → wordAt bytes at n / 2 ^ s % 2 ≡ bitAt bytes (at + s)
   unfolding wordAt

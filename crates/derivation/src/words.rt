@@ -1,22 +1,41 @@
 // The work words: a word for each set and for each row of a relation, as document 01 lays them out.
 use super::header::row_at;
+use super::wide::bits_from;
+ghost use mathlib.Core.List.{List};
 ghost use mathlib.Core.Path.{_≡_};
-ghost use Prim.Native.Nat.{_≤_, min};
+ghost use Prim.Native.Nat.{ℕ, _*_, _/_, _%_, _^_, _≤_, _<_, min};
+ghost use lib.Bits.{bitAnd, bitOr};
+ghost use Rattle.bits.specs.Fields.{bitsAt};
 ghost use Rattle.derivation.specs.Tables.{wordAt, tableWord, written};
 
-// The word that holds n bits of the file from a cursor on, the first of them the lowest: the last is read first.
+// A word in which the bits that a mask names and those so many places above them have changed places.
+fn swapped(word: u64, by: u32, mask: u64) -> u64
+    requires { ⌜ by < 64 ⌝ }
+    ensures { λ r. ⌜ r ≡ bitOr (bitAnd (word / 2 ^ by) mask) (bitAnd word mask * 2 ^ by % 2 ^ 64) ⌝ }
+{
+    ((word >> by) & mask) | ((word & mask) << by)
+}
+
+// The 64 bits of a word in the other order: single bits change places with their neighbours, then pairs, then fours, to
+// halves.
+fn reversed(word: u64) -> u64
+    ensures { λ r. ⌜ ((s : List ℕ) (at : ℕ) → word ≡ bitsAt s at 64 → r ≡ wordAt s at 64) ⌝ }
+{
+    let word = swapped(word, 1, 0x5555555555555555);
+    let word = swapped(word, 2, 0x3333333333333333);
+    let word = swapped(word, 4, 0x0f0f0f0f0f0f0f0f);
+    let word = swapped(word, 8, 0x00ff00ff00ff00ff);
+    let word = swapped(word, 16, 0x0000ffff0000ffff);
+    swapped(word, 32, 0x00000000ffffffff)
+}
+
+// The word that holds n bits of the file from a cursor on, the first of them the lowest.
 fn word_at(src: &[u8], at: usize, n: usize) -> u64
     requires { ⌜ (at ≤ 70666) × (n ≤ 64) ⌝ }
     ensures { λ r. ⌜ r ≡ wordAt (now (src .entry)) at n ⌝ }
 {
-    let mut word = 0;
-    let mut left = n;
-    while left > 0 {
-        left -= 1;
-        let lower = bits::bit(src, at + left);
-        word = word * 2 + lower;
-    }
-    word
+    let word = reversed(bits_from(src, at));
+    if n < 64 { word % (1 << n) } else { word }
 }
 
 // Work word j of a file with so many tables: a set, a row of a relation, or 0 where it has none.

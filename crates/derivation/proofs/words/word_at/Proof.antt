@@ -1,57 +1,36 @@
--- While `left` bits are left in front, the word is that of the bits behind them.
-use Prim.Native.Nat.{_+_, _-_, _*_, _^_, _≤_, _<_}
-use mathlib.Core.Path.{_≡_, refl}
-use native.Mathlib.Nat.{sub-self, add-zero, sub-zero}
+-- The 64 bits from the cursor on, reversed, hold the n that are asked for lowest.
+use Prim.Native.Nat.{_^_}
+use mathlib.Core.Path.{_≡_, _∙_}
 use native.Mathlib.Omega.{arith}
 use borrow.Author.Needs.{needs}
+use lib.Pow.{pow-pos}
+use Rattle.states.proofs.Words.{shifted}
 use Rattle.derivation.specs.Tables.{wordAt}
-use Rattle.derivation.proofs.Membership.{word-fits, word-more}
+use Rattle.derivation.proofs.Membership.{word-first}
 use Rattle.derivation.proofs.words.word_at.Statement.{statement}
 use Rattle.derivation.proofs.words.word_at.Tie as tie
 
-abbrev Inv-loop : tie.InvT-loop
-Inv-loop src at n word₀ left₀ word left = (left ≤ n) × (word ≡ wordAt src (at + left) (n - left))
+whole : (c : tie.After-reversed) →
+    let a = c .before .before .before .args in
+    c .reversed .result ≡ wordAt (a .src .now) (a .at) 64
+whole c = c .reversed .ensures _ _ (c .before .bits-from .ensures)
 
-abbrev μ-loop : tie.MeasureT-loop
-μ-loop src at n word₀ left₀ word left = left
+rem-result : tie.Need-rem-result
+rem-result c =
+    let n = c .before .before .before .before .args .n in
+    rw (shifted n (c .if1 .taken)) (pow-pos n)
 
-loop-holds : tie.Need-loop-holds Inv-loop μ-loop
-unfolding wordAt
-loop-holds c = (search needs, rw sub-self)
-
-more : (c : tie.After-bit Inv-loop μ-loop) →
-    let a = c .before .before .before .before .args in
-    let left = c .before .before .loop .left in
-    c .before .before .loop .word * 2 + c .bit .result ≡ wordAt (a .src .now) (a .at + (left - 1)) (a .n - (left - 1))
-more c =
-    let a = c .before .before .before .before .args in
-    omega (arith, word-more (a .src .now) (a .at) (a .n) (c .before .before .loop .left) (search needs) (search needs))
-
--- One more bit of at most 64 fits.
-room : (c : tie.After-bit Inv-loop μ-loop) → c .before .before .loop .word * 2 + c .bit .result < 2 ^ 64
-room c =
-    let a = c .before .before .before .before .args in
-    let left = c .before .before .loop .left in
-    omega (arith, more c, word-fits (a .src .now) (a .at + (left - 1)) (a .n - (left - 1)) (omega arith))
-
-returns : tie.Need-returns Inv-loop μ-loop
+returns : tie.Need-returns
 returns c =
-    let l = c .before .loop in
-    let none : l .left ≡ 0 = omega arith in
-    rw (l .inv .1, none, add-zero, sub-zero)
+    let a = c .before .before .before .before .args in
+    rw (shifted (a .n) (c .if1 .taken), whole (c .before)) (word-first (a .src .now) (a .at) (a .n) 64 (omega arith))
+
+returns-2 : tie.Need-returns-2
+returns-2 c =
+    let all : c .before .before .before .before .args .n ≡ 64 = omega arith in
+    rw (whole (c .before), all)
 
 pub word-at-spec : {M : Type 1} → statement M
 word-at-spec =
     tie.close
-    (tie.spec
-    Inv-loop
-    μ-loop
-    loop-holds
-    (λ c. search needs)
-    (λ c. search needs)
-    (λ c κs. search needs)
-    (λ c. omega (arith, room c))
-    (λ c. omega (arith, room c))
-    (λ c. search needs)
-    (λ c. (search needs, more c))
-    returns)
+    (tie.spec (λ c κs. search needs) (λ c κs. search needs) (λ c. search needs) rem-result returns returns-2)

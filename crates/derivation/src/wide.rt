@@ -1,0 +1,59 @@
+// The 64 bits from a cursor on in one step, for sets and rows: whole bytes where the file has them, else a byte at a time.
+ghost use mathlib.Core.Path.{_≡_};
+ghost use Prim.Native.Nat.{_+_, _*_, _≤_};
+ghost use lib.ListN.{length};
+ghost use Rattle.bits.specs.Fields.{bitsAt};
+
+// The 16 bits of byte i and the next as one number, the first of them the most significant.
+fn two_bytes(src: &[u8], i: usize) -> u64
+    requires { ⌜ i + 2 ≤ length (now src) ⌝ }
+    ensures { λ r. ⌜ r ≡ bitsAt (now (src .entry)) (8 * i) 16 ⌝ }
+{
+    src[i] as u64 * 256 + src[i + 1] as u64
+}
+
+// The 32 bits of the 4 bytes from byte i on.
+fn four_bytes(src: &[u8], i: usize) -> u64
+    requires { ⌜ i + 4 ≤ length (now src) ⌝ }
+    ensures { λ r. ⌜ r ≡ bitsAt (now (src .entry)) (8 * i) 32 ⌝ }
+{
+    let high = two_bytes(src, i);
+    let low = two_bytes(src, i + 2);
+    high * 65536 + low
+}
+
+// The 64 bits of the 8 bytes from byte i on.
+fn eight_bytes(src: &[u8], i: usize) -> u64
+    requires { ⌜ i + 8 ≤ length (now src) ⌝ }
+    ensures { λ r. ⌜ r ≡ bitsAt (now (src .entry)) (8 * i) 64 ⌝ }
+{
+    let high = four_bytes(src, i);
+    let low = four_bytes(src, i + 4);
+    high * 4294967296 + low
+}
+
+// The 64 bits from a cursor on, a byte at a time; those past the end are 0.
+fn bits_near_end(src: &[u8], at: usize) -> u64
+    requires { ⌜ at ≤ 70666 ⌝ }
+    ensures { λ r. ⌜ r ≡ bitsAt (now (src .entry)) at 64 ⌝ }
+{
+    let mut value = 0;
+    for k in 0..8 {
+        let next = bits::byte_at(src, at + 8 * k);
+        value = value * 256 + next;
+    }
+    value
+}
+
+// The 64 bits from a cursor on, the first of them the most significant; those past the end are 0.
+pub(crate) fn bits_from(src: &[u8], at: usize) -> u64
+    requires { ⌜ at ≤ 70666 ⌝ }
+    ensures { λ r. ⌜ r ≡ bitsAt (now (src .entry)) at 64 ⌝ }
+{
+    let i = at / 8;
+    if i + 8 < src.len() {
+        let high = eight_bytes(src, i) << (at % 8);
+        return high + (src[i + 8] as u64 >> (8 - at % 8));
+    }
+    bits_near_end(src, at)
+}
