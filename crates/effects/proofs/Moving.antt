@@ -4,16 +4,18 @@ use native.Mathlib.Nat.{zero-div}
 use native.Mathlib.Decide.{decLt}
 use native.Mathlib.Omega.{arith}
 use mathlib.Core.Path.{_≡_, refl, sym, ap, _∙_, fun-ext}
+use mathlib.Core.Logic.{⊎-elim}
 use mathlib.Core.Bool.{Bool, true, false, not, _&&_, _||_, and-false}
 use mathlib.Core.List.{List}
 use lib.Dec.{leb, ltb, eqb}
-use borrow.Author.Tests.{lt-ltb, le-ltb}
-use Rattle.states.specs.Search.{implies, all, any, holds}
-use Rattle.states.proofs.Search.{all-cong, all-not, any-cong, any-none, holds-must}
+use borrow.Author.Tests.{lt-ltb, le-ltb, eqb-true}
+use Rattle.states.specs.Search.{implies, all, any, must, holds}
+use Rattle.states.proofs.Search.{and-left, and-right, or-cases, all-cong, all-not, any-cong, any-none, holds-must}
 use Rattle.semantics.specs.Language.{Expr, eqZ}
 use Rattle.semantics.specs.States.{Machine, valueOf}
 use Rattle.semantics.specs.Derivations.{Spec}
-use Rattle.semantics.specs.Conditions.{occurrences, moves, c41, c50}
+use Rattle.semantics.specs.Conditions.{occurrences, inSet, moves, c41, c50}
+use Rattle.semantics.proofs.Conditions.{eqZ-true}
 use Rattle.semantics.specs.declared.Kind.{Kind}
 use Rattle.handler.specs.declared.Header.the-variants.{Sizes, Fault}
 use Rattle.handler.specs.declared.ExprShape.{ExprShape}
@@ -21,11 +23,12 @@ use Rattle.handler.specs.declared.ExprShape.the-variants as shape
 use Rattle.handler.specs.Header.{headerAt, sizesOf}
 use Rattle.handler.specs.Expressions.{ExprRead, good, bad}
 use Rattle.handler.specs.Shapes.{inMask, exprShape}
-use Rattle.values.specs.Values.{agreeAt}
+use Rattle.values.specs.Values.{statesOf, machineAt, agreeAt}
 use Rattle.values.proofs.Sizes.{size-past}
 use Rattle.values.proofs.Laws.{agree-here}
 use Rattle.conditions.specs.declared.Names.{Names}
-use Rattle.conditions.specs.Words.{wordSet, wordRelation, wordSpec}
+use Rattle.conditions.specs.Words.{bare, wordSet, wordRelation, wordSpec}
+use Rattle.conditions.proofs.Searches.{holds-inSet, within}
 use Rattle.effects.specs.Places.{machineHere, exprRead, movedFrom}
 use Rattle.effects.proofs.Places.{states-here}
 use Rattle.effects.proofs.Rows.{any-itself}
@@ -44,7 +47,7 @@ module _ (m : Machine) (c : Spec) (p : ℕ → Bool) (same : (v : ℕ) → p v �
   read-once-50 = ap (λ k. leb k 1) counted ∙ sym (holds-must _)
 
 -- Some member of a set is not in another where not every one is.
-pub not-within : (n : ℕ) (a b : ℕ → Bool) → not (all n (λ t. implies (a t) (b t))) ≡ any n (λ t. a t && not (b t))
+not-within : (n : ℕ) (a b : ℕ → Bool) → not (all n (λ t. implies (a t) (b t))) ≡ any n (λ t. a t && not (b t))
 unfolding implies
 not-within n a b = ap not (all-cong n _ _ (λ t l. turned (a t) (b t)) ∙ all-not n _) ∙ twice _
   where
@@ -56,6 +59,41 @@ not-within n a b = ap not (all-cong n _ _ (λ t l. turned (a t) (b t)) ∙ all-n
     twice : (x : Bool) → not (not x) ≡ x
     twice true = refl
     twice false = refl
+
+-- The states that agree with s agree with the same states; so does s itself, where it is no state.
+pub alike : (bytes : List ℕ) (v s u : ℕ) → (agreeAt bytes v s u || ltb u 64 && eqb s u) ≡ true → (t : ℕ) → agreeAt bytes v u t ≡ agreeAt bytes v s t
+unfolding agreeAt
+alike bytes v s u e t = ⊎-elim agreed itself (or-cases (agreeAt bytes v s u) _ e)
+  where
+    itself : (ltb u 64 && eqb s u) ≡ true → agreeAt bytes v u t ≡ agreeAt bytes v s t
+    itself h = ap (λ x. agreeAt bytes v x t) (sym (eqb-true s u (and-right (ltb u 64) _ h)))
+
+    agreed : agreeAt bytes v s u ≡ true → agreeAt bytes v u t ≡ agreeAt bytes v s t
+    agreed h =
+        let n = statesOf (headerAt bytes) in
+        let both = and-left (ltb s n && ltb u n) _ h in
+        let same : machineAt bytes .get s v ≡ machineAt bytes .get u v = eqZ-true _ _ (and-right (ltb s n && ltb u n) _ h) in
+        rw (and-left (ltb s n) (ltb u n) both, and-right (ltb s n) (ltb u n) both, same)
+
+-- Ends that lie in one set, from states that all have it for their own.
+pub alike-within : (n : ℕ) (p g : ℕ → Bool) (r f : ℕ → ℕ → Bool) (q : ℕ → Bool) → ((s : ℕ) → g s ≡ true → (t : ℕ) → f s t ≡ q t)
+    → holds (inSet (bare n) (λ s. p s && g s) (λ s. inSet (bare n) (r s) (λ t. must (q t))))
+    ≡ all n (λ s. implies (p s && g s) (all n (λ t. implies (r s t) (f s t))))
+unfolding implies
+alike-within n p g r f q own =
+    holds-inSet n _ _ ∙ all-cong n _ _ (λ s l. implies-cong (p s && g s) _ _ (λ e.
+    sym (within n (r s) q) ∙ all-cong n _ _ (λ t k. ap (implies (r s t)) (sym (own s (and-right (p s) _ e) t)))))
+  where
+    implies-cong : (x y z : Bool) → (x ≡ true → y ≡ z) → implies x y ≡ implies x z
+    implies-cong true y z h = h refl
+    implies-cong false y z h = refl
+
+-- A variable is moved where not every row from a state of P lies in the states that agree.
+pub not-kept : (bytes : List ℕ) (n : ℕ) (work : List ℕ) (own : Names) (v : ℕ)
+    → not (all n (λ s. implies (wordSet n work (own .p) s) (all n (λ t. implies (wordRelation n work (own .r) s t) (agreeAt bytes v s t)))))
+    ≡ any n (movedFrom bytes n work own v)
+unfolding movedFrom
+not-kept bytes n work own v = not-within n _ _ ∙ any-cong n _ _ (λ s l. ap (λ b. wordSet n work (own .p) s && b) (not-within n _ _))
 
 module _ (bytes : List ℕ) (count n first : ℕ) (head : headerAt bytes ≡ Sizes count n first) (work : List ℕ) (own : Names) where
   agree : (v s t : ℕ) → s < n → t < n → agreeAt bytes v s t ≡ eqZ (machineHere bytes .get s v) (machineHere bytes .get t v)

@@ -2,7 +2,6 @@
 // are computed once for a node: the states where a test is true, those where it is false, and where a store leads.
 use conditions::Names;
 use conditions::tables::leads_into;
-use conditions::tables::row_at;
 use conditions::tables::rows_of;
 use conditions::tables::set_at;
 use handler::ExprShape;
@@ -159,30 +158,21 @@ pub fn after_rows(src: &[u8], v: u32, at: usize) -> [u64; 64]
     rows
 }
 
-// Whether R leads from s, a state of P, to one that differs in variable v.
-fn moves_at(src: &[u8], n: u32, work: &[u64], own: Names, v: u32, s: u32) -> bool
-    ensures { λ out. ⌜ out ≡ movedFrom (now (src .entry)) n (now (work .entry)) own v s ⌝ }
-{
-    if set_at(n, work, own.p).holds_state(s) {
-        if row_at(n, work, own.r, s).included(agreeing(src, v, s)) {
-            false
-        } else {
-            true
-        }
-    } else {
-        false
-    }
-}
-
-// Whether R leads from any state of P to one that differs in variable v.
+// Whether R leads from any state of P to one that differs in variable v. The states that agree with the first left in it are taken
+// out together, and R must lead from all of these to states that agree.
 fn moves_variable(src: &[u8], n: u32, work: &[u64], own: Names, v: u32) -> bool
     ensures { λ out. ⌜ out ≡ any n (movedFrom (now (src .entry)) n (now (work .entry)) own v) ⌝ }
 {
-    let mut found = false;
-    for s in 0..n {
-        found = found | moves_at(src, n, work, own, v, s);
+    let mut rest = set_at(n, work, own.p);
+    let mut kept = true;
+    while rest.bits != 0 {
+        let first = u64::trailing_zeros(rest.bits);
+        let agree = agreeing(src, v, first);
+        let alike = agree.join(StateSet::single(first));
+        kept = kept & leads_into(n, work, rest.meet(alike), own.r, agree);
+        rest = rest.narrow(alike);
     }
-    found
+    if kept { false } else { true }
 }
 
 // The mask with variable v too, where it is one of those looked for.

@@ -51,7 +51,7 @@ pub truth-is : (b : Bool) (o : Option Val) → o ≡ some (truth b) → isTruth 
 truth-is true o h = rw h
 truth-is false o h = rw h
 
-eqZ-true : (a b : ℤ) → eqZ a b ≡ true → a ≡ b
+pub eqZ-true : (a b : ℤ) → eqZ a b ≡ true → a ≡ b
 eqZ-true (pos a) (pos b) h = ap pos (le-antisymm (leb-true a b (and-left (leb a b) _ h)) (leb-true b a (and-right (leb a b) _ h)))
 eqZ-true (pos a) (negsuc b) h = absurd (false≢true h)
 eqZ-true (negsuc a) (pos b) h = absurd (false≢true h)

@@ -15,7 +15,7 @@ use Rattle.states.specs.declared.StateSet.{StateSet}
 use Rattle.states.specs.Search.{implies, all, any}
 use Rattle.states.specs.Sets.{mem, has}
 use Rattle.states.specs.Relations.{rel}
-use Rattle.states.proofs.Search.{and-left, and-right, and-both, or-left, or-right, or-cases, implies-intro, implies-at, bool-ext, true-or-false, all-intro, all-at, any-intro, any-true, any-cong, any-none}
+use Rattle.states.proofs.Search.{and-left, and-right, and-both, or-left, or-right, or-cases, implies-intro, implies-at, bool-ext, true-or-false, all-intro, all-at, all-cong, all-and, any-intro, any-true, any-cong, any-none}
 use Rattle.states.proofs.Words.{mem-bit, mem-nought}
 use Rattle.states.proofs.Rows.{mem-below, rel-row}
 use Rattle.states.proofs.Reach.{count, count-more}
@@ -126,6 +126,23 @@ module _ (n : ℕ) (f : ℕ → Bool) (from : StateSet) where
     same = and-assoc held now _ ∙ ap (λ b. held && (b && all n (λ s. implies (has left s) (f s)))) asked
         ∙ ap (λ b. held && b) (all-taken (has rest) (has left) k one n (old .low k (one .there)) f) ∙ old .same;
   }
+
+  -- Where more than one is taken out and f is asked of all of these.
+  pub passed-part : (rest left : StateSet) (held now : Bool) (g : ℕ → Bool) → ((s : ℕ) → has left s ≡ (has rest s && not (g s)))
+      → now ≡ all n (λ s. implies (has rest s && g s) (f s)) → Passed n f from rest held → Passed n f from left (held && now)
+  unfolding implies
+  passed-part rest left held now g without asked old = record {
+    low = λ s e. old .low s (and-left (has rest s) _ (sym (without s) ∙ e));
+    same = and-assoc held now _ ∙ ap (λ b. held && (b && all n (λ s. implies (has left s) (f s)))) asked ∙ ap (λ b. held && b) parts ∙ old .same;
+  }
+    where
+      split : (p h b : Bool) → (implies (p && h) b && implies (p && not h) b) ≡ implies p b
+      split true true b = and-true b
+      split true false b = refl
+      split false h b = refl
+
+      parts : (all n (λ s. implies (has rest s && g s) (f s)) && all n (λ s. implies (has left s) (f s))) ≡ all n (λ s. implies (has rest s) (f s))
+      parts = sym (all-and n _ _) ∙ all-cong n _ _ (λ s l. rw (without s) (split (has rest s) (g s) (f s)))
 
   pub passed-all : (rest : StateSet) (held : Bool) → rest .bits ≡ 0 → Passed n f from rest held → held ≡ all n (λ s. implies (has from s) (f s))
   unfolding has implies

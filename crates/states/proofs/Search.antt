@@ -119,6 +119,11 @@ unfolding all
 all-cong zero p q h = refl
 all-cong (suc n) p q h = ap₂ _&&_ (all-cong n p q (λ s l. h s (omega arith))) (h n (omega arith))
 
+pub all-and : (n : ℕ) (p q : ℕ → Bool) → all n (λ s. p s && q s) ≡ (all n p && all n q)
+all-and n p q =
+    bool-ext _ _ (λ h. and-both _ _ (all-intro n p (λ s l. and-left (p s) _ (all-at n _ h s l))) (all-intro n q (λ s l. and-right (p s) _ (all-at n _ h s l))))
+    (λ h. all-intro n _ (λ s l. and-both _ _ (all-at n p (and-left (all n p) _ h) s l) (all-at n q (and-right (all n p) _ h) s l)))
+
 -- Any.
 pub any-intro : (n : ℕ) (p : ℕ → Bool) (s : ℕ) → s < n → p s ≡ true → any n p ≡ true
 unfolding any
