@@ -13,6 +13,7 @@ use tables::rows_of;
 use tables::same_relation;
 use tables::same_set;
 use tables::set_at;
+use tables::stays;
 ghost use mathlib.Core.Path.{_≡_};
 ghost use mathlib.Core.Bool.{not, _&&_, _||_};
 ghost use Prim.Native.Nat.{ℕ};
@@ -113,26 +114,11 @@ pub fn parallel_tables(n: u32, work: &[u64], own: Names, left: Names, right: Nam
         & is_join(n, work, right.r, own.r, left.g)
 }
 
-fn reflexive_at(n: u32, work: &[u64], p: u32, q: u32, s: u32) -> bool
-    ensures { λ out.
-        ⌜ out ≡ holds (given (wordSet n (now (work .entry)) p s) (must (wordRelation n (now (work .entry)) q s s))) ⌝ }
-{
-    if set_at(n, work, p).holds_state(s) {
-        row_at(n, work, q, s).holds_state(s)
-    } else {
-        true
-    }
-}
-
 // Skip 35: s in P: (s,s) in Q.
 pub fn reflexive(n: u32, work: &[u64], own: Names) -> bool
     ensures { λ out. ⌜ out ≡ holds (c35 (bare n) (wordSpec n (now (work .entry)) own)) ⌝ }
 {
-    let mut held = true;
-    for s in 0..n {
-        held = held & reflexive_at(n, work, own.p, own.q, s);
-    }
-    held
+    stays(n, work, set_at(n, work, own.p), own.q)
 }
 
 fn descends_at(n: u32, work: &[u64], w: u32, s: u32) -> bool

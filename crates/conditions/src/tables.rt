@@ -9,7 +9,7 @@ ghost use mathlib.Core.Path.{_≡_};
 ghost use mathlib.Core.Bool.{_&&_, _||_};
 ghost use Prim.Native.Nat.{ℕ, _+_, _*_};
 ghost use lib.ListN.{drop};
-ghost use Rattle.states.specs.Search.{must, holds};
+ghost use Rattle.states.specs.Search.{must, given, holds};
 ghost use Rattle.states.specs.Sets.{has};
 ghost use Rattle.semantics.specs.Conditions.{inSet, sameSet, sameRelation, liesIn};
 ghost use Rattle.conditions.specs.Words.{bare, wordSet, wordRelation};
@@ -91,6 +91,27 @@ pub fn chains_into(n: u32, work: &[u64], p: u32, a: u32, b: u32, whole: u32) -> 
         let first = u64::trailing_zeros(rest.bits);
         held = held & row_chains_into(n, work, a, through, b, whole, first);
         rest = rest.narrow(StateSet::single(first));
+    }
+    held
+}
+
+fn stays_at(n: u32, work: &[u64], from: StateSet, r: u32, s: u32) -> bool
+    ensures { λ out. ⌜ out ≡ holds (given (has from s) (must (wordRelation n (now (work .entry)) r s s))) ⌝ }
+{
+    if from.holds_state(s) {
+        row_at(n, work, r, s).holds_state(s)
+    } else {
+        true
+    }
+}
+
+// Whether relation r has the pair (s,s) of every state s of a set.
+pub fn stays(n: u32, work: &[u64], from: StateSet, r: u32) -> bool
+    ensures { λ out. ⌜ out ≡ holds (inSet (bare n) (has from) (λ s. must (wordRelation n (now (work .entry)) r s s))) ⌝ }
+{
+    let mut held = true;
+    for s in 0..n {
+        held = held & stays_at(n, work, from, r, s);
     }
     held
 }

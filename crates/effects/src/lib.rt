@@ -2,18 +2,18 @@
 // are computed once for a node: the states where a test is true, those where it is false, and where a store leads.
 use conditions::Names;
 use conditions::tables::leads_into;
+use conditions::tables::row_at;
 use conditions::tables::rows_of;
 use conditions::tables::set_at;
+use conditions::tables::stays;
 use handler::ExprShape;
 use handler::Header;
 use handler::expressions::expr_shape;
 use handler::head::read_header;
 use semantics::Kind;
 use states::StateSet;
-use states::relations::compose;
 use states::relations::included_from;
 use states::relations::row;
-use states::relations::union_of;
 use values::After;
 use values::agreeing;
 use values::successor;
@@ -29,32 +29,11 @@ ghost use Rattle.handler.specs.Shapes.{inMask};
 ghost use Rattle.conditions.specs.Words.{bare, wordSet, wordRelation, wordSpec};
 ghost use Rattle.effects.specs.Places.{machineHere, exprHere, afterHere, movedFrom};
 
-// The pairs (s,s) of the states of a set.
-fn diagonal(set: StateSet) -> [u64; 64]
-    ensures { λ out. ⌜ ((n s t : ℕ) → rel n out s t ≡ (ltb s n && (has set s && eqb s t))) ⌝ }
-{
-    let mut rows = [0u64; 64];
-    for s in 0..64 {
-        let one = set.meet(StateSet::single(s));
-        rows[s as usize] = one.bits;
-    }
-    rows
-}
-
-// The pairs of a relation and the pairs (s,s) of all states.
-fn or_still(n: u32, rows: &[u64]) -> [u64; 64]
-    ensures { λ out. ⌜ ((s t : ℕ) → rel n out s t ≡ (ltb s 64 && (ltb s n && eqb t s || rel n (now (rows .entry)) s t))) ⌝ }
-{
-    let still = diagonal(StateSet::below(n));
-    union_of(n, &still, rows)
-}
-
 // 46: s in P, test false: (s,s) in Q.
 pub fn skips(n: u32, work: &[u64], own: Names, falsity: StateSet) -> bool
     ensures { λ out. ⌜ out ≡ holds (c46 (bare n) (wordSpec n (now (work .entry)) own) (has falsity)) ⌝ }
 {
-    let still = diagonal(falsity);
-    included_from(n, set_at(n, work, own.p), &still, rows_of(work, own.q))
+    stays(n, work, set_at(n, work, own.p).meet(falsity), own.q)
 }
 
 // 52: s in P, test true: s in K.
@@ -80,16 +59,34 @@ pub fn stays_false(n: u32, work: &[u64], own: Names, falsity: StateSet) -> bool
     )
 }
 
+fn leaves_at(n: u32, work: &[u64], own: Names, w: u32, falsity: StateSet, s: u32) -> bool
+    ensures { λ out.
+        ⌜ out ≡ holds (given (wordSet n (now (work .entry)) (own .p) s) (inSet (bare n)
+        (λ t. (eqb t s || wordRelation n (now (work .entry)) w s t) && wordSet n (now (work .entry)) (own .p) t && has falsity t)
+        (λ t. must (wordRelation n (now (work .entry)) (own .q) s t)))) ⌝ }
+{
+    let p = set_at(n, work, own.p);
+    if p.holds_state(s) {
+        let rounds = StateSet::single(s).join(row_at(n, work, w, s));
+        rounds
+            .meet(p)
+            .meet(falsity)
+            .included(row_at(n, work, own.q, s))
+    } else {
+        true
+    }
+}
+
 // 56: s in P, t = s or (s,t) in W, t in P, test false at t: (s,t) in Q.
 pub fn leaves(n: u32, work: &[u64], own: Names, w: u32, falsity: StateSet) -> bool
     ensures { λ out.
         ⌜ out ≡ holds (c56 (bare n) (wordSpec n (now (work .entry)) own) (has falsity) (wordRelation n (now (work .entry)) w)) ⌝ }
 {
-    let p = set_at(n, work, own.p);
-    let rounds = or_still(n, rows_of(work, w));
-    let ends = diagonal(p.meet(falsity));
-    let exits = compose(n, &rounds, &ends);
-    included_from(n, p, &exits, rows_of(work, own.q))
+    let mut held = true;
+    for s in 0..n {
+        held = held & leaves_at(n, work, own, w, falsity, s);
+    }
+    held
 }
 
 // Whether s has an end, where it is in P.
@@ -126,14 +123,30 @@ pub fn store_in_post(n: u32, work: &[u64], own: Names, after: &[u64]) -> bool
     included_from(n, set_at(n, work, own.p), after, rows_of(work, own.q))
 }
 
+fn guaranteed_at(n: u32, work: &[u64], own: Names, after: &[u64], s: u32) -> bool
+    ensures { λ out.
+        ⌜ out ≡ holds (given (wordSet n (now (work .entry)) (own .p) s) (inSet (bare n) (rel n (now (after .entry)) s)
+        (λ t. must (eqb t s || wordRelation n (now (work .entry)) (own .g) s t)))) ⌝ }
+{
+    if set_at(n, work, own.p).holds_state(s) {
+        let allowed = StateSet::single(s).join(row_at(n, work, own.g, s));
+        row(n, after, s).included(allowed)
+    } else {
+        true
+    }
+}
+
 // 43, by the same rows: s in P, s′ its end: s′ = s or (s,s′) in G.
 pub fn store_in_guarantee(n: u32, work: &[u64], own: Names, after: &[u64]) -> bool
     ensures { λ out.
         ⌜ out ≡ holds (inSet (bare n) (wordSet n (now (work .entry)) (own .p)) (λ s. inSet (bare n) (rel n (now (after .entry)) s)
         (λ t. must (eqb t s || wordRelation n (now (work .entry)) (own .g) s t)))) ⌝ }
 {
-    let allowed = or_still(n, rows_of(work, own.g));
-    included_from(n, set_at(n, work, own.p), after, &allowed)
+    let mut held = true;
+    for s in 0..n {
+        held = held & guaranteed_at(n, work, own, after, s);
+    }
+    held
 }
 
 // Where a store at s leads: the one state, or none where the value is out of range.

@@ -1,34 +1,18 @@
--- The states below s that are in P are in Q with themselves. `holds-next` adds the next.
-use Prim.Native.Nat.{_≤_, _-_}
-use native.Mathlib.Omega.{arith}
-use mathlib.Core.Path.{_≡_, _∙_, ap₂, refl}
-use mathlib.Core.Bool.{_&&_}
+-- The pairs (s,s) of P are in Q.
+use mathlib.Core.Path.{_∙_, ap, fun-ext}
 use borrow.Author.Needs.{needs}
-use Rattle.states.specs.Search.{must, given, each, holds}
+use Rattle.states.specs.Search.{must, holds}
 use Rattle.semantics.specs.Conditions.{inSet, c35}
-use Rattle.conditions.specs.Words.{wordSet, wordRelation}
-use Rattle.conditions.proofs.Searches.{holds-next, each-done}
+use Rattle.conditions.specs.Words.{bare, wordRelation}
 use Rattle.conditions.proofs.reflexive.Statement.{statement}
 use Rattle.conditions.proofs.reflexive.Tie as tie
 
-abbrev Inv-loop : tie.InvT-loop
-Inv-loop n work own held₀ s₀ held s = (s ≤ n) × (held ≡ holds (each s (λ u. given (wordSet n work (own .p) u) (must (wordRelation n work (own .q) u u)))))
-
-abbrev μ-loop : tie.MeasureT-loop
-μ-loop n work own held₀ s₀ held s = n - s
-
-loop-holds : tie.Need-loop-holds Inv-loop μ-loop
-unfolding each holds
-loop-holds c = (omega arith, refl)
-
-loop-again : tie.Need-loop-again Inv-loop μ-loop
-loop-again c = (omega arith, ap₂ _&&_ (c .before .before .loop .inv .1) (c .reflexive-at .ensures) ∙ holds-next _ _)
-
-returns : tie.Need-returns Inv-loop μ-loop
-unfolding c35 inSet
-returns c = c .before .loop .inv .1 ∙ each-done _ _ _ (c .before .loop .inv .0) (c .loop-test .left)
+returns : tie.Need-returns
+unfolding c35
+returns c =
+    let a = c .before .before .before .args in
+    c .stays .ensures
+    ∙ ap (λ p. holds (inSet (bare (a .n)) p (λ s. must (wordRelation (a .n) (a .work .now) (a .own .q) s s)))) (fun-ext (c .before .set-at .ensures))
 
 pub reflexive-spec : {M : Type 1} → statement M
-reflexive-spec =
-    tie.close
-    (tie.spec Inv-loop μ-loop loop-holds (λ c κs. search needs) (λ c. search needs) (λ c. search needs) loop-again returns)
+reflexive-spec = tie.close (tie.spec (λ c κs. search needs) (λ c κs. search needs) returns)

@@ -1,36 +1,38 @@
--- The pairs of the rows that start in P are in G or are (s,s).
-use Prim.Native.Nat.{ℕ}
-use mathlib.Core.Path.{_≡_, _∙_, ap, refl, fun-ext}
+-- The stores at the states of P below s change nothing or are in G. `holds-next` adds the next.
+use Prim.Native.Nat.{_≤_, _-_}
+use native.Mathlib.Omega.{arith}
+use mathlib.Core.Path.{_≡_, _∙_, ap₂, refl}
 use mathlib.Core.Bool.{_&&_, _||_}
-use lib.Dec.{ltb, eqb}
+use lib.Dec.{eqb}
 use borrow.Author.Needs.{needs}
-use Rattle.states.specs.Search.{must, holds}
+use Rattle.states.specs.Search.{must, given, each, holds}
 use Rattle.states.specs.Relations.{rel}
 use Rattle.semantics.specs.Conditions.{inSet}
 use Rattle.conditions.specs.Words.{bare, wordSet, wordRelation}
-use Rattle.conditions.proofs.Words.{set-small}
-use Rattle.effects.proofs.Rows.{pairs-within, inSet-cong, or-itself-at}
+use Rattle.conditions.proofs.Searches.{holds-next, each-done}
 use Rattle.effects.proofs.store_in_guarantee.Statement.{statement}
 use Rattle.effects.proofs.store_in_guarantee.Tie as tie
 
-returns : tie.Need-returns
-unfolding wordRelation
-returns c =
-    let joined = c .before .before .before in
-    let a = joined .before .before .before .before .args in
-    let n = a .n in
-    let p = wordSet n (a .work .now) (a .own .p) in
-    let g = wordRelation n (a .work .now) (a .own .g) in
-    let allowed : (s t : ℕ) → rel n (joined .or-still .result) s t ≡ (ltb s 64 && (ltb s n && eqb t s || g s t)) =
-    simp (joined .before .rows-of .ensures) at (joined .or-still .ensures) in
-    simp (c .before .before .set-at .ensures) at (c .included-from .ensures)
-    ∙ pairs-within n p (rel n (a .after .now)) _
-    ∙ inSet-cong n (bare n) refl p _ _ (λ s l member.
-    ap (λ q. holds (inSet (bare n) (rel n (a .after .now) s) (λ t. must (q t))))
-    (fun-ext (λ t. allowed s t ∙ or-itself-at n s l (set-small n (a .work .now) (a .own .p) s member .0) (eqb t s) (g s t))))
+abbrev Inv-loop : tie.InvT-loop
+Inv-loop n work own after held₀ s₀ held s =
+    (s ≤ n) × (held ≡ holds (each s (λ u. given (wordSet n work (own .p) u) (inSet (bare n) (rel n after u)
+    (λ t. must (eqb t u || wordRelation n work (own .g) u t))))))
+
+abbrev μ-loop : tie.MeasureT-loop
+μ-loop n work own after held₀ s₀ held s = n - s
+
+loop-holds : tie.Need-loop-holds Inv-loop μ-loop
+unfolding each holds
+loop-holds c = (omega arith, refl)
+
+loop-again : tie.Need-loop-again Inv-loop μ-loop
+loop-again c = (omega arith, ap₂ _&&_ (c .before .before .loop .inv .1) (c .guaranteed-at .ensures) ∙ holds-next _ _)
+
+returns : tie.Need-returns Inv-loop μ-loop
+unfolding inSet
+returns c = c .before .loop .inv .1 ∙ each-done _ _ _ (c .before .loop .inv .0) (c .loop-test .left)
 
 pub store-in-guarantee-spec : {M : Type 1} → statement M
 store-in-guarantee-spec =
     tie.close
-    (tie.spec (λ c κs. search needs) (λ c κs. search needs) (λ c κs. search needs) (λ c. search needs) (λ c κs. search needs)
-    returns)
+    (tie.spec Inv-loop μ-loop loop-holds (λ c κs. search needs) (λ c. search needs) (λ c. search needs) loop-again returns)
