@@ -3,7 +3,7 @@ use super::header::row_at;
 use super::wide::bits_from;
 ghost use mathlib.Core.List.{List};
 ghost use mathlib.Core.Path.{_≡_};
-ghost use Prim.Native.Nat.{ℕ, _*_, _/_, _%_, _^_, _≤_, _<_, min};
+ghost use Prim.Native.Nat.{ℕ, _+_, _*_, _/_, _%_, _^_, _≤_, _<_, min};
 ghost use lib.Bits.{bitAnd, bitOr};
 ghost use Rattle.bits.specs.Fields.{bitsAt};
 ghost use Rattle.derivation.specs.Tables.{wordAt, tableWord, written};
@@ -58,6 +58,19 @@ fn table_word(src: &[u8], n: usize, sets: usize, relations: usize, j: usize) -> 
     word_at(src, row_at(n, sets, relation, state), n)
 }
 
+// The next word behind word j that a table may have: rows past the n states of a relation have none.
+fn next_word(n: usize, j: usize) -> usize
+    requires { ⌜ (n ≤ 64) × (j < 1040) ⌝ }
+    ensures { λ r. ⌜ (j < r) × ((s : List ℕ) (sets relations i : ℕ) → j < i → i < r → tableWord s n sets relations i ≡ 0) ⌝ }
+{
+    let next = j + 1;
+    if next < 16 {
+        return next;
+    }
+    let state = (next - 16) % 64;
+    if state < n { next } else { next + (64 - state) }
+}
+
 // How many of the 1,040 table words a buffer has.
 fn table_words(len: usize) -> usize
     ensures { λ r. ⌜ r ≡ min 1040 len ⌝ }
@@ -65,21 +78,37 @@ fn table_words(len: usize) -> usize
     if len < 1040 { len } else { 1040 }
 }
 
-// Writes the tables of a file with so many sets and relations; a shorter buffer is written as far as it goes.
-pub(crate) fn fill(src: &[u8], n: usize, sets: usize, relations: usize, work: &mut [u64])
-    requires { ⌜ (n ≤ 64) × (sets ≤ 16) × (relations ≤ 16) ⌝ }
-    ensures { λ _. ⌜ now (work .exit) ≡ written (tableWord (now (src .entry)) n sets relations) (now (work .entry)) ⌝ }
+// How many of a buffer's words hold the sets and so many relations.
+fn used_words(relations: usize, len: usize) -> usize
+    requires { ⌜ relations ≤ 16 ⌝ }
+    ensures { λ r. ⌜ r ≡ min (16 + 64 * relations) len ⌝ }
 {
-    let count = table_words(work.len());
-    for j in 0..count {
-        let word = table_word(src, n, sets, relations, j);
-        work[j] = word;
-    }
+    let used = 16 + 64 * relations;
+    if len < used { len } else { used }
 }
 
 // Sets the 1,040 table words to 0: those of a file with no tables.
 pub fn clear(work: &mut [u64])
     ensures { λ _. ⌜ now (work .exit) ≡ written (λ j. 0) (now (work .entry)) ⌝ }
 {
-    fill(b"", 0, 0, 0, work);
+    let count = table_words(work.len());
+    for j in 0..count {
+        work[j] = 0;
+    }
+}
+
+// Writes the tables of a file with so many sets and relations; a shorter buffer is written as far as it goes. Most words
+// are of no table, so all are set to 0 first.
+pub(crate) fn fill(src: &[u8], n: usize, sets: usize, relations: usize, work: &mut [u64])
+    requires { ⌜ (n ≤ 64) × (sets ≤ 16) × (relations ≤ 16) ⌝ }
+    ensures { λ _. ⌜ now (work .exit) ≡ written (tableWord (now (src .entry)) n sets relations) (now (work .entry)) ⌝ }
+{
+    clear(work);
+    let used = used_words(relations, work.len());
+    let mut j = 0;
+    while j < used {
+        let word = table_word(src, n, sets, relations, j);
+        work[j] = word;
+        j = next_word(n, j);
+    }
 }

@@ -1,27 +1,55 @@
--- A file with no tables has 0 in every word.
-use Prim.Native.Nat.{ℕ, _-_, _/_}
-use mathlib.Core.Bool.{Bool, true, false, cond}
-use mathlib.Core.List.{List}
-use mathlib.Core.Path.{_≡_, refl, _∙_}
+-- After j turns the first j words are 0 and the others as they were; `fill-more` adds one.
+use Prim.Native.Nat.{_-_, min, _≤_}
+use mathlib.Core.List.{_++_}
+use mathlib.Core.Path.{_≡_, refl, _∙_, ap}
 use native.Mathlib.Omega.{arith}
 use borrow.Author.Needs.{needs}
-use borrow.Author.Tests.{le-ltb}
-use lib.Dec.{ltb}
-use Rattle.derivation.specs.Tables.{tableWord}
-use Rattle.derivation.proofs.Buffers.{written-same}
+use lib.ListN.{length, drop}
+use Rattle.derivation.specs.Tables.{tabulate, written}
+use Rattle.derivation.proofs.Buffers.{length-filled, fill-more}
 use Rattle.derivation.proofs.words.clear.Statement.{statement}
 use Rattle.derivation.proofs.words.clear.Tie as tie
 
-no-table : (bytes : List ℕ) (n j : ℕ) → tableWord bytes n 0 0 j ≡ 0
-unfolding tableWord
-no-table bytes n j = rw (le-ltb j 0 (omega arith), le-ltb ((j - 16) / 64) 0 (omega arith)) (by (ltb j 16))
-  where
-    by : (b : Bool) → _≡_ {A = ℕ} (cond b 0 0) 0
-    by true = refl
-    by false = refl
+abbrev Inv-loop : tie.InvT-loop
+Inv-loop work₀ count j₀ work j = (j ≤ count) × (work ≡ tabulate j (λ i. 0) ++ drop j work₀)
 
-returns : tie.Need-returns
-returns c = c .before .before .fill .ensures ∙ written-same _ _ _ (no-table _ 0)
+abbrev μ-loop : tie.MeasureT-loop
+μ-loop work₀ count j₀ work j = count - j
+
+loop-holds : tie.Need-loop-holds Inv-loop μ-loop
+unfolding tabulate
+loop-holds c = (search needs, refl)
+
+-- The buffer keeps its length.
+kept : (c : tie.At-loop Inv-loop μ-loop) → length (c .loop .work) ≡ length (c .before .before .before .args .work .now)
+kept c =
+    let a = c .before .before .before .args in
+    ap length (c .loop .inv .1) ∙ length-filled (λ i. 0) (a .work .now) (c .loop .j) (omega arith)
+
+loop-again : tie.Need-loop-again Inv-loop μ-loop
+loop-again c =
+    let l = c .before .loop in
+    (search needs, rw (l .inv .1) (fill-more (λ i. 0) _ (l .j) (omega arith)))
+
+returns : tie.Need-returns Inv-loop μ-loop
+unfolding written
+returns c =
+    let l = c .before .loop in
+    let all : l .j ≡ min 1040 (length (c .before .before .before .before .args .work .now)) = omega arith in
+    rw (l .inv .1, all)
 
 pub clear-spec : {M : Type 1} → statement M
-clear-spec = tie.close (tie.spec (λ c. search needs) (λ c κs. search needs) (λ c. search needs) returns)
+clear-spec =
+    tie.close
+    (tie.spec
+    Inv-loop
+    μ-loop
+    (λ c κs. search needs)
+    loop-holds
+    (λ c. omega (arith, kept (c .before)))
+    (λ c. omega (arith, kept (c .before)))
+    (λ c. search needs)
+    (λ c. search needs)
+    loop-again
+    (λ c. kept (c .before))
+    returns)

@@ -1,44 +1,59 @@
--- After j turns the first j words are the tables' and the others as they were; `fill-more` adds one.
-use Prim.Native.Nat.{_+_, _-_, min, _≤_, _<_}
-use mathlib.Core.List.{_++_}
-use mathlib.Core.Path.{_≡_, refl, sym, _∙_, ap}
+-- Once all are 0, the words below j are the tables' and the others 0: those passed over are 0 in the tables too.
+use Prim.Native.Nat.{ℕ, _+_, _-_, _*_, _/_, _≤_}
+use mathlib.Core.List.{List}
+use mathlib.Core.Path.{_≡_, sym, _∙_, ap}
 use native.Mathlib.Omega.{arith}
 use borrow.Author.Needs.{needs}
-use lib.ListN.{length, drop}
-use Rattle.derivation.specs.Tables.{tableWord, tabulate, written}
-use Rattle.derivation.proofs.Buffers.{length-filled, fill-more}
+use borrow.Author.Tests.{le-ltb}
+use lib.ListN.{length}
+use Rattle.derivation.specs.Tables.{tableWord, written}
+use Rattle.derivation.proofs.Buffers.{length-written, written-again, upto, upto-none, upto-more, upto-all}
 use Rattle.derivation.proofs.words.fill.Statement.{statement}
 use Rattle.derivation.proofs.words.fill.Tie as tie
 
 abbrev Inv-loop : tie.InvT-loop
-Inv-loop src n sets relations work₀ count j₀ work j =
-    (j ≤ count) × (work ≡ tabulate j (tableWord src n sets relations) ++ drop j work₀)
+Inv-loop src n sets relations work₀ used j₀ work j = work ≡ written (upto (tableWord src n sets relations) j) work₀
 
 abbrev μ-loop : tie.MeasureT-loop
-μ-loop src n sets relations work₀ count j₀ work j = count - j
+μ-loop src n sets relations work₀ used j₀ work j = used - j
 
 loop-holds : tie.Need-loop-holds Inv-loop μ-loop
-unfolding tabulate
-loop-holds c = (search needs, refl)
+loop-holds c =
+    let a = c .before .before .before .before .before .before .before .args in
+    let none = c .before .before .before .clear .ensures in
+    let f = tableWord (a .src .now) (a .n) (a .sets) (a .relations) in
+    none ∙ sym (upto-none f (a .work .now)) ∙ sym (written-again (upto f 0) (λ j. 0) (a .work .now)) ∙ ap (written (upto f 0)) (sym none)
+
+-- The buffer as it was is what the words past the tables show.
+held : (c : tie.At-loop Inv-loop μ-loop) →
+    let a = c .before .before .before .before .before .before .before .before .args in
+    c .loop .work ≡ written (upto (tableWord (a .src .now) (a .n) (a .sets) (a .relations)) (c .loop .j)) (a .work .now)
+held c = c .loop .inv ∙ ap (written _) (c .before .before .before .before .clear .ensures) ∙ written-again _ _ _
 
 -- The buffer keeps its length.
-kept : (c : tie.At-loop Inv-loop μ-loop) → length (c .loop .work) ≡ length (c .before .before .before .before .args .work .now)
-kept c =
-    let a = c .before .before .before .before .args in
-    ap length (c .loop .inv .1)
-    ∙ length-filled (tableWord (a .src .now) (a .n) (a .sets) (a .relations)) (a .work .now) (c .loop .j) (omega arith)
+kept : (c : tie.At-loop Inv-loop μ-loop) → length (c .loop .work) ≡ length (c .before .before .before .before .before .before .before .before .args .work .now)
+kept c = ap length (held c) ∙ length-written _ _
+
+cleared : (c : tie.At-loop Inv-loop μ-loop)
+    → length (c .before .before .before .before .clear .last .0) ≡ length (c .before .before .before .before .before .before .before .before .args .work .now)
+cleared c = ap length (c .before .before .before .before .clear .ensures) ∙ length-written _ _
 
 loop-again : tie.Need-loop-again Inv-loop μ-loop
 loop-again c =
-    let l = c .before .before .loop in
-    (search needs, rw (l .inv .1, c .table-word .ensures) (fill-more _ _ (l .j) (omega arith)))
+    let l = c .before .before .before .loop in
+    rw (l .inv, c .before .table-word .ensures)
+    (upto-more _ _ (l .j) (c .next-word .result) (c .next-word .ensures .0) (omega arith) (omega arith) (c .next-word .ensures .1 _ _ _))
+
+past : (s : List ℕ) (n sets relations i : ℕ) → 16 + 64 * relations ≤ i → tableWord s n sets relations i ≡ 0
+unfolding tableWord
+past s n sets relations i over = simp (le-ltb i 16 (omega arith), le-ltb ((i - 16) / 64) relations (omega arith))
 
 returns : tie.Need-returns Inv-loop μ-loop
-unfolding written
 returns c =
-    let l = c .before .loop in
-    let all : l .j ≡ min 1040 (length (c .before .before .before .before .before .args .work .now)) = omega arith in
-    rw (l .inv .1, all)
+    let a = c .before .before .before .before .before .before .before .before .before .args in
+    held (c .before)
+    ∙ upto-all _ (a .work .now) (c .before .loop .j) (λ i after within.
+    past (a .src .now) (a .n) (a .sets) (a .relations) i (omega (arith, cleared (c .before))))
 
 pub fill-spec : {M : Type 1} → statement M
 fill-spec =
@@ -47,11 +62,12 @@ fill-spec =
     Inv-loop
     μ-loop
     (λ c κs. search needs)
+    (λ c κs. search needs)
     loop-holds
     (λ c κs. search needs)
-    (λ c. omega (arith, kept (c .before .before)))
-    (λ c. omega (arith, kept (c .before .before)))
     (λ c. search needs)
+    (λ c. omega (arith, kept (c .before .before), cleared (c .before .before)))
+    (λ c κs. search needs)
     (λ c. search needs)
     loop-again
     (λ c. kept (c .before))
