@@ -131,14 +131,19 @@ pub fn same_members(n: u32, a: &[u64], b: &[u64]) -> bool
     held
 }
 
-// The states reached from the set by zero or more pairs. Each round adds the ends of all pairs that start in what is reached,
-// and n rounds reach all.
+// The states reached from the set by zero or more pairs. Each round adds the ends of the pairs that start in the frontier, the
+// states that the round before added; n rounds reach all, and a round that adds none is the last.
 pub fn reach(n: u32, rows: &[u64], from: StateSet) -> StateSet
     ensures { λ r. ⌜ ((t : ℕ) → (has r t ≡ true) ↔ Reached (has from) (rel n (now (rows .entry))) t) ⌝ }
 {
     let mut reached = from;
+    let mut frontier = from;
     for _ in 0..n {
-        reached = reached.join(image(n, reached, rows));
+        if frontier.bits == 0 {
+            return reached;
+        }
+        frontier = image(n, frontier, rows).narrow(reached);
+        reached = reached.join(frontier);
     }
     reached
 }
