@@ -102,6 +102,10 @@ pub small-within : (n : ℕ) (p q : ℕ → Bool) → Small n p
     → all 64 (λ t. implies (p t) (q t)) ≡ holds (inSet (bare n) p (λ t. must (q t)))
 small-within n p q small = small-all n p q small ∙ within n p q
 
+-- A part of a set is within what the whole set is within.
+pub part-within : (n : ℕ) (p x q : ℕ → Bool) → all n (λ t. implies (p t) (q t)) ≡ true → all n (λ t. implies (p t && x t) (q t)) ≡ true
+part-within n p x q h = all-intro n _ (λ t l. implies-intro _ _ (λ e. implies-at _ _ (all-at n _ h t l) (and-left (p t) _ e)))
+
 -- A search at a state that may not be a member.
 pub at-member : (b : Bool) (x : Search) → b ≡ true → holds x ≡ holds (given b x)
 unfolding given

@@ -222,6 +222,7 @@ fn changes(n: u32, work: &[u64], r: u32, left: u32, right: u32) -> [u64; 64]
     union_of(n, &outer, rows_of(work, right))
 }
 
+// Condition 66 at s. What is reached from s is asked only where both children's Q lead outside Q.
 fn joint_post_at(
     n: u32,
     work: &[u64],
@@ -239,8 +240,13 @@ fn joint_post_at(
 {
     if set_at(n, work, p).holds_state(s) {
         let both = row_at(n, work, left, s).meet(row_at(n, work, right, s));
-        both.meet(reach(n, moves, StateSet::single(s)))
-            .included(row_at(n, work, q, s))
+        let ends = row_at(n, work, q, s);
+        if both.included(ends) {
+            true
+        } else {
+            both.meet(reach(n, moves, StateSet::single(s)))
+                .included(ends)
+        }
     } else {
         true
     }

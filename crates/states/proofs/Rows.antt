@@ -95,16 +95,17 @@ filled-more f k rows word l new old = record { most = omega arith; long = length
         (λ t. ap (λ w. mem (w ∷ []) t) (getD-set-same rows k word 0 (omega arith)) ∙ new t)
         (λ low t. ap (λ w. mem (w ∷ []) t) (getD-set-other rows k s word 0 (omega arith)) ∙ old .hold s low t)
 
--- All 64 filled, of a relation between states below n.
-pub filled-rel : (n : ℕ) (f : ℕ → ℕ → Bool) (k : ℕ) (rows : List ℕ) → Between n f → 64 ≤ k → Filled f k rows
+-- All that start a pair filled, of a relation between states below n.
+pub filled-rel : (n : ℕ) (f : ℕ → ℕ → Bool) (k : ℕ) (rows : List ℕ) → Between n f → ((s : ℕ) → s < 64 → s < n → s < k) → Filled f k rows
     → (s t : ℕ) → rel n rows s t ≡ (ltb s 64 && f s t)
 filled-rel n f k rows between all filled s t = at (decLt s 64)
   where
     at : Dec (s < 64) → rel n rows s t ≡ (ltb s 64 && f s t)
     at (yes l) =
-        let row = filled .hold s (omega arith) t in
+        let row : s < n → mem (getD rows s 0 ∷ []) t ≡ f s t = λ low. filled .hold s (all s l low) t in
         rw (lt-ltb s 64 l)
-        (bool-ext _ _ (λ h. sym row ∙ rel-mem n rows s t h) (λ h. rel-intro n rows s t (between s t h .0) (between s t h .1) (row ∙ h)))
+        (bool-ext _ _ (λ h. sym (row (rel-between n rows s t h .0)) ∙ rel-mem n rows s t h)
+        (λ h. let low = between s t h .0 in rel-intro n rows s t low (between s t h .1) (row low ∙ h)))
     at (no l) =
         let past : getD rows s 0 ≡ 0 = List·getD-eq-default rows 0 (omega (arith, filled .long)) in
         rw (le-ltb s 64 (omega arith)) (not-true-false _ (λ h. true≢false (sym (rel-mem n rows s t h) ∙ rw past (mem-nought t))))

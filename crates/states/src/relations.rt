@@ -4,7 +4,7 @@ use crate::StateSet;
 ghost use mathlib.Core.Path.{_≡_};
 ghost use mathlib.Core.Logic.{_↔_};
 ghost use mathlib.Core.Bool.{true, _&&_, _||_, Bool·beq};
-ghost use Prim.Native.Nat.{ℕ};
+ghost use Prim.Native.Nat.{ℕ, _<_, _≤_};
 ghost use lib.ListN.{getD};
 ghost use lib.Dec.{ltb, eqb};
 ghost use Rattle.states.specs.Search.{implies, all, any};
@@ -68,12 +68,19 @@ pub fn starting(n: u32, rows: &[u64]) -> StateSet
     found
 }
 
+// How many of n states have a row in 64 rows.
+fn rows_held(n: u32) -> u32
+    ensures { λ r. ⌜ (r ≤ 64) × ((s : ℕ) → s < 64 → s < n → s < r) ⌝ }
+{
+    if n < 64 { n } else { 64 }
+}
+
 // The pairs of a followed by a pair of b. The result has 64 rows, so it starts in no state past them.
 pub fn compose(n: u32, a: &[u64], b: &[u64]) -> [u64; 64]
     ensures { λ r. ⌜ ((s t : ℕ) → rel n r s t ≡ (ltb s 64 && any n (λ u. rel n (now (a .entry)) s u && rel n (now (b .entry)) u t))) ⌝ }
 {
     let mut rows = [0u64; 64];
-    for s in 0..64 {
+    for s in 0..rows_held(n) {
         let ends = image(n, row(n, a, s), b);
         rows[s as usize] = ends.bits;
     }
@@ -85,7 +92,7 @@ pub fn union_of(n: u32, a: &[u64], b: &[u64]) -> [u64; 64]
     ensures { λ r. ⌜ ((s t : ℕ) → rel n r s t ≡ (ltb s 64 && (rel n (now (a .entry)) s t || rel n (now (b .entry)) s t))) ⌝ }
 {
     let mut rows = [0u64; 64];
-    for s in 0..64 {
+    for s in 0..rows_held(n) {
         let ends = row(n, a, s).join(row(n, b, s));
         rows[s as usize] = ends.bits;
     }
@@ -131,14 +138,19 @@ pub fn same_members(n: u32, a: &[u64], b: &[u64]) -> bool
     held
 }
 
-// The states reached from the set by zero or more pairs. Each round adds the ends of all pairs that start in what is reached,
-// and n rounds reach all.
+// The states reached from the set by zero or more pairs. Each round adds the ends of the pairs that start in the frontier, the
+// states that the round before added; n rounds reach all, and a round that adds none is the last.
 pub fn reach(n: u32, rows: &[u64], from: StateSet) -> StateSet
     ensures { λ r. ⌜ ((t : ℕ) → (has r t ≡ true) ↔ Reached (has from) (rel n (now (rows .entry))) t) ⌝ }
 {
     let mut reached = from;
+    let mut frontier = from;
     for _ in 0..n {
-        reached = reached.join(image(n, reached, rows));
+        if frontier.bits == 0 {
+            return reached;
+        }
+        frontier = image(n, frontier, rows).narrow(reached);
+        reached = reached.join(frontier);
     }
     reached
 }

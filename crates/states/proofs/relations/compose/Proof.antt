@@ -1,5 +1,6 @@
 -- Row s is the image by b of the row of a. The rows below s are filled.
 use Prim.Native.Nat.{ℕ, _-_}
+use native.Mathlib.Omega.{arith}
 use mathlib.Core.Path.{_∙_, ap, refl}
 use mathlib.Core.Bool.{Bool, _&&_}
 use mathlib.Core.List.{List}
@@ -22,24 +23,23 @@ composed-between n a b s t h =
     (rel-between n a s (w .0) (and-left _ (rel n b (w .0) t) (w .2)) .0, rel-between n b (w .0) t (and-right (rel n a s (w .0)) _ (w .2)) .1)
 
 abbrev Inv-loop : tie.InvT-loop
-Inv-loop n a b rows₀ s₀ rows s = Filled (composed n a b) s rows
+Inv-loop n a b rows₀ s₀ s-end rows s = Filled (composed n a b) s rows
 
 abbrev μ-loop : tie.MeasureT-loop
-μ-loop n a b rows₀ s₀ rows s = 64 - s
+μ-loop n a b rows₀ s₀ s-end rows s = s-end - s
 
 loop-again : tie.Need-loop-again Inv-loop μ-loop
 unfolding has
 loop-again c =
-    let a = c .before .before .before .before .before .before .args in
-    filled-more _ _ _ _ (c .before .before .loop-test .taken)
+    let a = c .before .before .before .before .before .before .before .args in
+    filled-more _ _ _ _ (omega arith)
     (λ t. c .image .ensures t ∙ any-cong _ _ _ (λ u l. ap (λ p. p && rel (a .n) (a .b .now) u t) (c .before .row .ensures u)))
     (c .before .before .before .loop .inv)
 
 returns : tie.Need-returns Inv-loop μ-loop
-returns c = filled-rel _ _ _ _ (composed-between _ _ _) (c .loop-test .left) (c .before .loop .inv)
+returns c = filled-rel _ _ _ _ (composed-between _ _ _) (λ s l m. omega (arith, c .before .before .rows-held .ensures .1 s l m)) (c .before .loop .inv)
 
 pub compose-spec : {M : Type 1} → statement M
 compose-spec =
     tie.close
-    (tie.spec Inv-loop μ-loop (λ c. filled-none _ _ refl) (λ c κs. search needs) (λ c κs. search needs) (λ c. search needs)
-    (λ c. search needs) (λ c. search needs) (λ c. search needs) (λ c. search needs) loop-again returns)
+    (tie.spec Inv-loop μ-loop (λ c κs. search needs) (λ c. filled-none _ _ refl) (λ c κs. search needs) (λ c κs. search needs) (λ c. search needs) (λ c. search needs) (λ c. search needs) (λ c. search needs) (λ c. search needs) loop-again returns)
