@@ -58,9 +58,7 @@ returns-2 t c =
 pub +put-number-spec : {M : Type 1} → statement M
 +put-number-spec =
     close μ-put-number λ t. lts.spec (callees t) (given t) put-number.Post
-    (λ c. search needs)
-    (λ c. search needs)
-    (λ c. search needs)
+    (λ c. search needs) (λ c. search needs) (λ c. search needs)
     (put-requires t)
     (λ c. search needs)
     (returns t)

@@ -64,11 +64,7 @@ check-spec =
     returns-2
     (λ c κs. search needs)
     returns-3
-    (λ c κs. search needs)
-    (λ c. search needs)
-    (λ c κs. search needs)
-    (λ c κs. search needs)
-    (λ c. search needs)
+    (λ c κs. search needs) (λ c. search needs) (λ c κs. search needs) (λ c κs. search needs) (λ c. search needs)
     check-proof-requires
     (λ c. search needs)
     returns-4

@@ -8,10 +8,7 @@ pub decide-spec : {M : Type 1} → statement M
 decide-spec =
     tie.close
     (tie.spec
-    (λ c. search needs)
-    (λ c κs. search needs)
-    (λ c. search needs)
-    (λ c κs. search needs)
+    (λ c. search needs) (λ c κs. search needs) (λ c. search needs) (λ c κs. search needs)
     (λ c. rw (c .at-node2 .ensures, c .before .before .enum-told .given .1, lt-ltb _ _ (c .before .if1 .taken)))
     (λ c. search needs)
     (λ c. rw (c .at-node .ensures, c .before .before .way .given .1))

@@ -59,10 +59,7 @@ pub read-relations-spec : {M : Type 1} → statement M
 read-relations-spec =
     tie.close
     (tie.spec
-    (λ c κs. search needs)
-    (λ c. search needs)
-    (λ c. search needs)
-    (λ c κs. search needs)
+    (λ c κs. search needs) (λ c. search needs) (λ c. search needs) (λ c κs. search needs)
     returns
     (λ c κs. search needs)
     (λ c. omega (arith, counted c))

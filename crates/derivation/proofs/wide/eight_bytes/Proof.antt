@@ -21,9 +21,7 @@ pub eight-bytes-spec : {M : Type 1} → statement M
 eight-bytes-spec =
     tie.close
     (tie.spec
-    (λ c κs. search needs)
-    (λ c. search needs)
-    (λ c κs. search needs)
+    (λ c κs. search needs) (λ c. search needs) (λ c κs. search needs)
     (λ c. omega (arith, room c))
     (λ c. omega (arith, room c))
     returns)

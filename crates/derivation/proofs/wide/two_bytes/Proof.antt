@@ -26,8 +26,7 @@ two-bytes-spec =
     (λ c. search needs)
     (λ c. omega (arith, c .shared-slice-known .given (c .before .args .i)))
     (λ c. omega (arith, c .shared-slice-known .given (c .before .args .i)))
-    (λ c. search needs)
-    (λ c. search needs)
+    (λ c. search needs) (λ c. search needs)
     (λ c. omega (arith, c .shared-slice-known2 .given (c .before .before .args .i + 1)))
     (λ c.
     let a = c .before .before .args in

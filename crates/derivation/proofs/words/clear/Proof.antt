@@ -48,8 +48,7 @@ clear-spec =
     loop-holds
     (λ c. omega (arith, kept (c .before)))
     (λ c. omega (arith, kept (c .before)))
-    (λ c. search needs)
-    (λ c. search needs)
+    (λ c. search needs) (λ c. search needs)
     loop-again
     (λ c. kept (c .before))
     returns)

@@ -33,9 +33,7 @@ pub read-handler-spec : {M : Type 1} → statement M
 read-handler-spec =
     tie.close
     (tie.spec
-    (λ c κs. search needs)
-    (λ c. search needs)
-    (λ c. search needs)
+    (λ c κs. search needs) (λ c. search needs) (λ c. search needs)
     stmt-walk-requires
     (λ c κs. search needs)
     returns

@@ -31,15 +31,11 @@ pub test-steps-spec : {M : Type 1} → statement M
 test-steps-spec =
     tie.close
     (tie.spec
-    (λ c κs. search needs)
-    (λ c. search needs)
-    (λ c. search needs)
-    (λ c κs. search needs)
+    (λ c κs. search needs) (λ c. search needs) (λ c. search needs) (λ c κs. search needs)
     returns
     (λ c. search needs)
     (λ c. omega (arith, products c))
-    (λ c. search needs)
-    (λ c. search needs)
+    (λ c. search needs) (λ c. search needs)
     (λ c. omega (arith, products c))
     (λ c. omega (arith, products c))
     (λ c κs. search needs)
