@@ -4,7 +4,7 @@ use mathlib.Core.List.{List}
 use mathlib.Core.Path.{_≡_, sym, ap, _∙_}
 use native.Mathlib.Nat.{div-one}
 use native.Mathlib.Omega.{arith}
-use lib.ListN.{length, getD}
+use lib.ListN.{getD}
 use lib.Pow.{high, low, shr-shr, shl-exact}
 use Rattle.bits.specs.Fields.{bitAt, bitsAt}
 use Rattle.bits.proofs.Laws.{bits-join, bits-below}

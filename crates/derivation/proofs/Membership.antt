@@ -2,9 +2,8 @@
 use Prim.Native.Nat.{ℕ, zero, suc, _+_, _-_, _*_, _/_, _%_, _^_, _≤_, _<_}
 use mathlib.Core.Bool.{Bool, true, false, cond, _&&_}
 use mathlib.Core.List.{List, [], _∷_}
-use mathlib.Core.Logic.{⊎-elim}
-use mathlib.Core.Path.{_≡_, refl, sym, ap, _∙_}
-use native.Mathlib.Nat.{pow-suc, pow-succ', add-zero, zero-add, suc-add, div-one, zero-div, div-eq-of-lt, div-div-eq-div-mul, eq-or-lt-of-le}
+use mathlib.Core.Path.{_≡_, refl, ap, _∙_}
+use native.Mathlib.Nat.{pow-suc, pow-succ', add-zero, zero-add, suc-add, div-one, zero-div, div-eq-of-lt, div-div-eq-div-mul}
 use native.Mathlib.Omega.{arith}
 use borrow.Author.Tests.{lt-ltb, le-ltb, ltb-true, ltb-false}
 use lib.Dec.{ltb, eqb}
@@ -17,7 +16,7 @@ use Rattle.semantics.specs.Derivations.{Derivation}
 use Rattle.derivation.specs.Tables.{setAt, rowAt, inSetOf, inRelationOf, wordAt, tableWord, written}
 use Rattle.derivation.specs.Reading.{proof, readProof, wordsOf}
 use Rattle.derivation.proofs.Buffers.{written-at}
-use Rattle.derivation.proofs.Files.{Counted, counted, Stages, stages}
+use Rattle.derivation.proofs.Files.{Counted, counted, stages}
 
 module _ (bytes : List ℕ) where
   pub word-below : (at n : ℕ) → wordAt bytes at n < 2 ^ n

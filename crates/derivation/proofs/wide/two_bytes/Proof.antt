@@ -1,8 +1,7 @@
 -- Each byte holds its 8 bits, and the two fields touch.
-use Prim.Native.Nat.{_+_, _*_}
+use Prim.Native.Nat.{_+_}
 use native.Mathlib.Omega.{arith}
 use borrow.Author.Needs.{needs}
-use Rattle.bits.proofs.Laws.{bits-join}
 use Rattle.bits.proofs.Bytes.{byte-bits}
 use Rattle.derivation.proofs.Windows.{bytes-join}
 use Rattle.derivation.proofs.wide.two_bytes.Statement.{statement}

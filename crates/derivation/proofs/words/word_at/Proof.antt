@@ -1,6 +1,5 @@
 -- The 64 bits from the cursor on, reversed, hold the n that are asked for lowest.
-use Prim.Native.Nat.{_^_}
-use mathlib.Core.Path.{_≡_, _∙_}
+use mathlib.Core.Path.{_≡_}
 use native.Mathlib.Omega.{arith}
 use borrow.Author.Needs.{needs}
 use lib.Pow.{pow-pos}
