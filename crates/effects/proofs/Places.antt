@@ -6,7 +6,7 @@ use mathlib.Core.Path.{_≡_, refl, sym, ap, _∙_, fun-ext}
 use mathlib.Core.Bool.{Bool, true, false, cond, _&&_, false≢true}
 use mathlib.Core.List.{List, [], _∷_}
 use mathlib.Core.Option.{Option, none, some}
-use lib.Dec.{ltb, eqb}
+use lib.Dec.{ltb}
 use lib.ListN.{getD}
 use lib.IntN.{ℤ, pos, negsuc}
 use borrow.Author.Tests.{ltb-true, le-ltb, eqb-true}
@@ -17,11 +17,10 @@ use Rattle.semantics.specs.States.{Machine, product, weight, valueOf, stored, m
 use Rattle.semantics.specs.Conditions.{isTrue, isFalse, afterStore}
 use Rattle.handler.specs.declared.Header.{Header}
 use Rattle.handler.specs.declared.Header.the-variants.{Sizes, Fault}
-use Rattle.values.specs.declared.After.{After}
-use Rattle.values.specs.declared.After.the-variants.{State, OutOfRange}
+use Rattle.values.specs.declared.After.the-variants.{OutOfRange}
 use Rattle.handler.specs.Header.{headerAt, sizesOf}
 use Rattle.handler.specs.Expressions.{ExprRead, good, bad, wholeExpr}
-use Rattle.values.specs.Values.{countOf, statesOf, afterOf, machineAt, valueRead, valueAt, whereAt, afterAt}
+use Rattle.values.specs.Values.{countOf, statesOf, afterOf, leads, machineAt, valueRead, valueAt, whereAt, afterAt}
 use Rattle.handler.proofs.Heads.{head-read}
 use Rattle.effects.specs.Places.{machineUnder, machineHere, exprRead, exprUnder, exprHere, leadsTo, afterHere}
 
@@ -29,12 +28,7 @@ value-in : (m : Machine) (s : ℕ) (read : ExprRead) → value m (exprRead read)
 value-in m s (good e nodes next) = refl
 value-in m s (bad k place) = refl
 
--- Whether a walk's answer leads to t.
-abbrev pub goesTo : After → ℕ → Bool
-goesTo (State s′) t = eqb s′ t
-goesTo OutOfRange t = false
-
-goes-guarded : (b : Bool) (o : Option ℕ) (t : ℕ) → goesTo (cond b (afterOf o) OutOfRange) t ≡ (b && leadsTo o t)
+goes-guarded : (b : Bool) (o : Option ℕ) (t : ℕ) → leads (cond b (afterOf o) OutOfRange) t ≡ (b && leadsTo o t)
 goes-guarded true none t = refl
 goes-guarded true (some s′) t = refl
 goes-guarded false o t = refl
@@ -88,11 +82,11 @@ module _ (bytes : List ℕ) where
       (λ k place. rw (le-ltb s 0 zero-le))
 
   -- Where a store leads, as the walk over the bits finds it.
-  pub after-total : (v at s t : ℕ) → goesTo (afterAt bytes v at s) t ≡ afterHere bytes v at s t
+  pub after-total : (v at s t : ℕ) → leads (afterAt bytes v at s) t ≡ afterHere bytes v at s t
   unfolding afterAt afterHere afterStore machineHere exprHere machineAt valueAt
   after-total v at s t =
       on-head (λ h. let m = machineOf (sizesOf bytes (countOf h)) in let under = machineUnder bytes h in
-      goesTo (cond (ltb s (statesOf h)) (afterOf (storeOf m s v (valueRead m s (wholeExpr bytes (countOf h) at)))) OutOfRange) t
+      leads (cond (ltb s (statesOf h)) (afterOf (storeOf m s v (valueRead m s (wholeExpr bytes (countOf h) at)))) OutOfRange) t
       ≡ (ltb s (under .states) && leadsTo (storeOf under s v (value under (exprUnder bytes at h) s)) t))
       (λ count n first e. let m = machineOf (sizesOf bytes count) in
       rw (head-read bytes count n first e .sized .total, value-in m s (wholeExpr bytes count at))

@@ -1,36 +1,16 @@
--- Rows that a loop filled, and searches through the pairs that rows hold.
-use Prim.Native.Nat.{ℕ, _<_, _≤_}
-use native.Mathlib.Decide.{decLt}
-use native.Mathlib.Omega.{arith}
-use mathlib.Core.Path.{_≡_, refl, sym, ap, _∙_, fun-ext}
-use mathlib.Core.Bool.{Bool, true, false, _&&_, _||_, and-false, and-assoc}
-use mathlib.Core.List.{List, [], _∷_}
+-- Searches through the pairs that rows hold.
+use Prim.Native.Nat.{ℕ, _<_}
+use mathlib.Core.Path.{_≡_, refl, sym, ap, _∙_}
+use mathlib.Core.Bool.{Bool, true, false, _&&_, _||_, and-false}
 use lib.Dec.{ltb, eqb}
-use lib.ListN.{getD, List·getD-eq-default}
 use borrow.Author.Tests.{ltb-true, lt-ltb, eqb-true, eq-eqb}
 use Rattle.states.specs.Search.{implies, all, any, Search, must, given, each, holds}
-use Rattle.states.specs.Sets.{mem, has}
-use Rattle.states.specs.declared.StateSet.{StateSet}
-use Rattle.states.specs.Relations.{rel}
-use Rattle.states.proofs.Search.{and-left, and-right, and-both, implies-intro, implies-at, bool-ext, not-true-false, all-cong, any-intro, any-true, any-cong, holds-given}
-use Rattle.states.proofs.Words.{mem-nought}
-use Rattle.states.proofs.Rows.{Filled, mem-below}
+use Rattle.states.specs.Sets.{has}
+use Rattle.states.proofs.Search.{and-left, and-right, and-both, bool-ext, all-cong, any-intro, any-true}
 use Rattle.semantics.specs.States.{Machine}
 use Rattle.semantics.specs.Conditions.{inSet}
 use Rattle.conditions.specs.Words.{bare}
 use Rattle.conditions.proofs.Searches.{Small, within, holds-inSet, inSet-intro, inSet-at}
-
--- All 64 rows filled, of a relation that starts in no state past them: its pairs between states below any n.
-pub filled-any : (f : ℕ → ℕ → Bool) (k : ℕ) (rows : List ℕ) → ((s t : ℕ) → f s t ≡ true → s < 64) → 64 ≤ k → Filled f k rows
-    → (n s t : ℕ) → rel n rows s t ≡ (ltb s n && ltb t n && f s t)
-unfolding rel
-filled-any f k rows starts whole filled n s t = ap (λ b. ltb s n && ltb t n && b) (at (decLt s 64))
-  where
-    at : Dec (s < 64) → mem (getD rows s 0 ∷ []) t ≡ f s t
-    at (yes l) = filled .hold s (omega arith) t
-    at (no l) =
-        let past : getD rows s 0 ≡ 0 = List·getD-eq-default rows 0 (omega (arith, filled .long)) in
-        rw past (mem-nought t) ∙ sym (not-true-false _ (λ h. l (starts s t h)))
 
 -- Searches that find the same of each member.
 pub inSet-cong : (n : ℕ) (m : Machine) → m .states ≡ n → (p : ℕ → Bool) (f g : ℕ → Search)

@@ -14,9 +14,8 @@ use semantics::Kind;
 use states::StateSet;
 use states::relations::included_from;
 use states::relations::row;
-use values::After;
 use values::agreeing;
-use values::successor;
+use values::successors;
 ghost use mathlib.Core.Path.{_≡_};
 ghost use mathlib.Core.Bool.{_&&_, _||_};
 ghost use Prim.Native.Nat.{ℕ, _<_};
@@ -149,26 +148,11 @@ pub fn store_in_guarantee(n: u32, work: &[u64], own: Names, after: &[u64]) -> bo
     held
 }
 
-// Where a store at s leads: the one state, or none where the value is out of range.
-fn after_row(src: &[u8], v: u32, at: usize, s: u32) -> StateSet
-    ensures { λ out. ⌜ ((t : ℕ) → has out t ≡ afterHere (now (src .entry)) v at s t) ⌝ }
-{
-    match successor(src, v, at, s) {
-        After::State(t) => StateSet::single(t),
-        After::OutOfRange => StateSet::empty(),
-    }
-}
-
 // Where a store in variable v of the expression at a cursor leads from each state.
 pub fn after_rows(src: &[u8], v: u32, at: usize) -> [u64; 64]
     ensures { λ out. ⌜ ((n s t : ℕ) → rel n out s t ≡ (ltb s n && ltb t n && afterHere (now (src .entry)) v at s t)) ⌝ }
 {
-    let mut rows = [0u64; 64];
-    for s in 0..64 {
-        let ends = after_row(src, v, at, s);
-        rows[s as usize] = ends.bits;
-    }
-    rows
+    successors(src, v, at)
 }
 
 // Whether R leads from any state of P to one that differs in variable v. The states that agree with the first left in it are taken

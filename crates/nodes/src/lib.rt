@@ -36,7 +36,7 @@ use effects::unmoved;
 use handler::Header;
 use handler::Part;
 use handler::head::read_header;
-use values::states_where;
+use values::truths_at;
 ghost use mathlib.Core.Path.{_≡_};
 ghost use mathlib.Core.Bool.{cond};
 ghost use Rattle.semantics.specs.Checking.{common as commonOwes, skipOwes, assignmentOwes, sequenceOwes, parallelOwes, ifOwes, whileOwes, weakenOwes};
@@ -169,8 +169,9 @@ pub fn if_fault(
         (wordSpec (machineHere (now (handler .entry)) .states) (now (work .entry)) child)) Holds ⌝ }
 {
     let n = states_of(handler);
-    let truth = states_where(handler, expr, true);
-    let falsity = states_where(handler, expr, false);
+    let tested = truths_at(handler, expr);
+    let truth = tested.holds;
+    let falsity = tested.fails;
     let rest = unless(skips(n, work, own, falsity), 46, Own::Holds);
     let rest = unless(unmoved(handler, moved(handler, work, own), expr), 45, rest);
     let rest = unless(if_tables(n, work, own, truth, child), 34, rest);
@@ -195,8 +196,9 @@ pub fn while_fault(
         (wordSpec (machineHere (now (handler .entry)) .states) (now (work .entry)) child)) Holds ⌝ }
 {
     let n = states_of(handler);
-    let truth = states_where(handler, expr, true);
-    let falsity = states_where(handler, expr, false);
+    let tested = truths_at(handler, expr);
+    let truth = tested.holds;
+    let falsity = tested.fails;
     let rest = unless(leaves(n, work, own, w, falsity), 56, Own::Holds);
     let rest = unless(rely_descends(n, work, own, w), 55, rest);
     let rest = unless(stays_false(n, work, own, falsity), 54, rest);

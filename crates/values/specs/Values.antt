@@ -1,50 +1,47 @@
 -- Document 01, "States and steps": what an expression of the file is worth at a state, and what a store of it leads to.
-use Prim.Native.Nat.{ℕ, _-_, _*_, _≤_, _<_}
-use mathlib.Core.Bool.{Bool, cond, _&&_}
-use mathlib.Core.List.{List}
+use Prim.Native.Nat.{ℕ, _+_, _-_, _*_, _≤_, _<_}
+use mathlib.Core.Path.{_≡_}
+use mathlib.Core.Bool.{Bool, false, cond, _&&_}
+use mathlib.Core.List.{List, [], _∷_}
 use mathlib.Core.Option.{Option, none, some}
-use lib.Dec.{ltb}
+use lib.Dec.{ltb, eqb}
+use lib.IntN.{ℤ, pos}
+use lib.ListN.{getD}
 use lib.Signed.{mag}
+use Rattle.states.specs.Sets.{has}
 use Rattle.semantics.specs.Language.{Val, int, truth, eqZ}
 use Rattle.semantics.specs.States.{Machine, machineOf, value, isTruth, storeOf}
 use Rattle.handler.specs.declared.Header.{Header}
 use Rattle.handler.specs.declared.Header.the-variants as header
-use Rattle.values.specs.declared.Worth.{Worth}
-use Rattle.values.specs.declared.Worth.the-variants.{Integer, Truth, Nothing}
-use Rattle.values.specs.declared.WorthRead.{WorthRead}
-use Rattle.values.specs.declared.WorthRead.the-variants.{Whole, Fault}
+use Rattle.values.specs.declared.Worths.{Worths}
 use Rattle.values.specs.declared.After.{After}
 use Rattle.values.specs.declared.After.the-variants.{State, OutOfRange}
 use Rattle.handler.specs.Header.{headerAt, sizesOf}
 use Rattle.handler.specs.Expressions.{ExprRead, good, bad, wholeExpr}
 
--- The value that a worth stands for, and the worth of a value.
-abbrev pub valIn : Worth → Option Val
-valIn (Integer z) = some (int z)
-valIn (Truth b) = some (truth b)
-valIn Nothing = none
+-- The integer that a row has at a state, and the value: of kind 0 an integer, of kind 1 a truth value, else none.
+abbrev pub integerIn : Worths → ℕ → ℤ
+integerIn row s = getD (row .integers) s (pos 0)
 
-abbrev pub worthOf : Option Val → Worth
-worthOf none = Nothing
-worthOf (some (int z)) = Integer z
-worthOf (some (truth b)) = Truth b
+abbrev pub valueIn : Worths → ℕ → Option Val
+valueIn row s = getD (some (int (integerIn row s)) ∷ some (truth (has (row .truths) s)) ∷ []) (row .kind) none
 
--- How far from 0 a worth is; one less below 0.
-abbrev pub magnitude : Worth → ℕ
-magnitude (Integer z) = mag z
-magnitude (Truth b) = 0
-magnitude Nothing = 0
+-- What a row made of two others has at each of n states; it stands behind the right one, and its integers are hardly larger.
+abbrev pub Applied : ℕ → (ℕ → Option Val) → Worths → Worths → Worths → Type 0
+Applied n f left right row =
+    (row .nodes ≡ right .nodes) × (row .next ≡ right .next)
+    × ((s : ℕ) → s < n → (valueIn row s ≡ f s) × (mag (integerIn row s) ≤ mag (integerIn left s) + mag (integerIn right s) + 1))
 
--- What walking an expression at a state finds, from what reading it finds.
-abbrev pub worthRead : Machine → ℕ → ExprRead → WorthRead
-worthRead m s (good e nodes next) = Whole (worthOf (value m e s)) nodes next
-worthRead m s (bad k place) = Fault k place
+-- What walking an expression promises of its row, by what reading finds: each state's value, and where there is one, what stands
+-- behind the expression. Each node adds at most 128 to what an integer can be, and there are at most 31.
+abbrev pub Walked : ℕ → Machine → ℕ → Worths → ExprRead → Type 0
+Walked n m nodes row (good e after next) =
+    ((s : ℕ) → s < n → valueIn row s ≡ value m e s)
+    × (row .kind < 2 → (row .nodes ≡ after) × (row .next ≡ next) × (nodes < after) × (after ≤ 31)
+    × ((s : ℕ) → s < n → mag (integerIn row s) < 128 * (after - nodes)))
+Walked n m nodes row (bad k place) = 2 ≤ row .kind
 
--- What a walk keeps: each node adds at most 128 to what an integer can be, and there are at most 31.
-abbrev pub Small : ℕ → WorthRead → Type 0
-Small nodes (Whole worth after next) = (magnitude worth < 128 * (after - nodes)) × (nodes < after) × (after ≤ 31)
-Small nodes (Fault k place) = Unit {0}
-
+-- The value at a state of an expression that was read; none of one that was not.
 abbrev pub valueRead : Machine → ℕ → ExprRead → Option Val
 valueRead m s (good e nodes next) = value m e s
 valueRead m s (bad k place) = none
@@ -52,6 +49,11 @@ valueRead m s (bad k place) = none
 abbrev pub afterOf : Option ℕ → After
 afterOf none = OutOfRange
 afterOf (some s) = State s
+
+-- Whether a store leads to t.
+abbrev pub leads : After → ℕ → Bool
+leads (State s) t = eqb s t
+leads OutOfRange t = false
 
 -- How many variables a head declares, and how many states; none where it is faulty.
 abbrev pub countOf : Header → ℕ

@@ -1,4 +1,4 @@
-// What expressions are worth at states, by re-reading the file.
+// What expressions are worth at states, by re-reading the file. An expression is walked once for all states: each node gives a row.
 use bits::Field;
 use handler::ExprHead;
 use handler::Header;
@@ -6,31 +6,35 @@ use handler::expressions::expr_head_at;
 use handler::head::read_header;
 use states::StateSet;
 ghost use mathlib.Core.Path.{_≡_};
-ghost use mathlib.Core.Bool.{_&&_, _||_};
-ghost use mathlib.Core.Option.{none};
-ghost use Prim.Native.Nat.{ℕ, _+_, _≤_, _<_};
+ghost use mathlib.Core.Bool.{true, false, _&&_, _||_};
+ghost use mathlib.Core.List.{List, [], _∷_};
+ghost use mathlib.Core.Option.{none, some};
+ghost use Prim.Native.Nat.{ℕ, _+_, _/_, _%_, _≤_, _<_};
 ghost use lib.Dec.{ltb, eqb};
 ghost use lib.IntN.{pos};
 ghost use lib.ListN.{getD};
 ghost use lib.Signed.{mag};
-ghost use Rattle.states.specs.Sets.{has};
-ghost use Rattle.semantics.specs.Language.{ofIntegers, ofTruths, apply};
-ghost use Rattle.semantics.specs.States.{machineOf, both, isTruth, weight, valueOf, stored};
+ghost use Rattle.states.specs.Sets.{mem, has};
+ghost use Rattle.semantics.specs.Language.{int, truth, ofIntegers, ofTruths, apply};
+ghost use Rattle.semantics.specs.States.{machineOf, both, weight as weightIn, stored};
 ghost use Rattle.handler.specs.Header.{headerAt, sizesOf};
 ghost use Rattle.handler.specs.Expressions.{exprAt};
-ghost use Rattle.values.specs.Values.{countOf, worthOf, valIn, magnitude, worthRead, Small, afterOf, valueAt, whereAt, afterAt, agreeAt};
+ghost use Rattle.values.specs.Values.{countOf, valueIn, integerIn, Applied, Walked, afterOf, leads, whereAt, afterAt, agreeAt};
 
-// What an expression is worth at a state: an integer, a truth value, or nothing where the kinds do not fit.
-pub enum Worth {
-    Integer(i64),
-    Truth(bool),
-    Nothing,
+// What an expression is worth at each state: of kind 0 an integer, of kind 1 a truth value, of kind 2 nothing, as where the kinds
+// of its operands do not fit. With it go the number of the expression's nodes so far and the cursor behind it.
+pub struct Worths {
+    pub kind: u32,
+    pub nodes: u32,
+    pub next: usize,
+    pub integers: [i64; 64],
+    pub truths: StateSet,
 }
 
-// What walking an expression at a state finds: its worth, the number of its nodes so far and the cursor behind it; or a fault.
-pub enum WorthRead {
-    Whole(Worth, u32, usize),
-    Fault(u32, usize),
+// The states at which a test is true, and those at which it is false.
+pub struct Truths {
+    pub holds: StateSet,
+    pub fails: StateSet,
 }
 
 // The state after a store, or that the value is no integer or out of the variable's range.
@@ -56,7 +60,7 @@ fn size_of(src: &[u8], count: u32, v: u32) -> u32
 // How many states one more of variable v's value counts: the product of the later sizes.
 fn weight_of(src: &[u8], count: u32, v: u32) -> u32
     requires { ⌜ count ≡ countOf (headerAt (now src)) ⌝ }
-    ensures { λ r. ⌜ r ≡ weight (sizesOf (now (src .entry)) count) v ⌝ }
+    ensures { λ r. ⌜ r ≡ weightIn (sizesOf (now (src .entry)) count) v ⌝ }
 {
     if v >= count {
         return 1;
@@ -70,115 +74,50 @@ fn weight_of(src: &[u8], count: u32, v: u32) -> u32
     product
 }
 
-// The value of variable v at state s.
-fn value_of(src: &[u8], count: u32, s: u32, v: u32) -> u32
-    requires { ⌜ count ≡ countOf (headerAt (now src)) ⌝ }
-    ensures { λ r. ⌜ r ≡ valueOf (sizesOf (now (src .entry)) count) s v ⌝ }
+// The value at each of n states of a variable of this weight and size.
+fn variable_row(n: u32, weight: u32, size: u32) -> [i64; 64]
+    requires { ⌜ (n ≤ 64) × (0 < weight) × (0 < size) ⌝ }
+    ensures { λ r. ⌜ ((s : ℕ) → s < n → getD r s (pos 0) ≡ pos (s / weight % size)) ⌝ }
 {
-    s / weight_of(src, count, v) % size_of(src, count, v)
+    let mut row = [0i64; 64];
+    for s in 0..n {
+        row[s as usize] = (s / weight % size) as i64;
+    }
+    row
 }
 
-// What operation o makes of two integers. The operands are small, so that sums fit.
-fn of_integers(o: u32, a: i64, b: i64) -> Worth
-    requires { ⌜ mag a + mag b < 8192 ⌝ }
-    ensures exact { λ r. ⌜ r ≡ worthOf (getD (ofIntegers a b) o none) ⌝ }
-    ensures bounded { λ r. ⌜ magnitude r ≤ mag a + mag b + 1 ⌝ }
+// The sum of two integers where o is 0, their difference where it is 1. The operands are small, so that it fits.
+fn sum(o: u32, a: i64, b: i64) -> i64
+    requires { ⌜ (o < 2) × (mag a + mag b < 8192) ⌝ }
+    ensures exact { λ r. ⌜ some (int r) ≡ getD (ofIntegers a b) o none ⌝ }
+    ensures bounded { λ r. ⌜ mag r ≤ mag a + mag b + 1 ⌝ }
+{
+    if o == 0 { a + b } else { a - b }
+}
+
+// The sums or the differences at each state.
+fn sum_row(n: u32, o: u32, left: [i64; 64], right: [i64; 64]) -> [i64; 64]
+    requires { ⌜ (n ≤ 64) × (o < 2) × ((s : ℕ) → s < n → mag (getD left s (pos 0)) + mag (getD right s (pos 0)) < 8192) ⌝ }
+    ensures { λ r.
+        ⌜ ((s : ℕ) → s < n → (some (int (getD r s (pos 0))) ≡ getD (ofIntegers (getD left s (pos 0)) (getD right s (pos 0))) o none)
+        × (mag (getD r s (pos 0)) ≤ mag (getD left s (pos 0)) + mag (getD right s (pos 0)) + 1)) ⌝ }
+{
+    let mut row = [0i64; 64];
+    for s in 0..n {
+        row[s as usize] = sum(o, left[s as usize], right[s as usize]);
+    }
+    row
+}
+
+// Whether two integers compare as operation o asks: 2 is <, 3 is = and 4 is >.
+fn compares(o: u32, a: i64, b: i64) -> bool
+    requires { ⌜ (1 < o) × (o < 5) ⌝ }
+    ensures { λ r. ⌜ some (truth r) ≡ getD (ofIntegers a b) o none ⌝ }
 {
     match o {
-        0 => Worth::Integer(a + b),
-        1 => Worth::Integer(a - b),
-        2 => Worth::Truth(a < b),
-        3 => Worth::Truth((a <= b) & (b <= a)),
-        4 => Worth::Truth(a > b),
-        _ => Worth::Nothing,
-    }
-}
-
-// What operation o makes of two truth values.
-fn of_truths(o: u32, a: bool, b: bool) -> Worth
-    ensures exact { λ r. ⌜ r ≡ worthOf (getD (ofTruths a b) o none) ⌝ }
-    ensures bounded { λ r. ⌜ magnitude r ≡ 0 ⌝ }
-{
-    match o {
-        5 => Worth::Truth(a & b),
-        6 => Worth::Truth(a | b),
-        _ => Worth::Nothing,
-    }
-}
-
-// What operation o makes of its operands, both of them needed.
-fn apply_op(o: u32, left: Worth, right: Worth) -> Worth
-    requires { ⌜ magnitude left + magnitude right < 8192 ⌝ }
-    ensures exact { λ r. ⌜ r ≡ worthOf (both (apply o) (valIn left) (valIn right)) ⌝ }
-    ensures bounded { λ r. ⌜ magnitude r ≤ magnitude left + magnitude right + 1 ⌝ }
-{
-    match left {
-        Worth::Integer(a) => match right {
-            Worth::Integer(b) => of_integers(o, a, b),
-            Worth::Truth(_) => Worth::Nothing,
-            Worth::Nothing => Worth::Nothing,
-        },
-        Worth::Truth(a) => match right {
-            Worth::Truth(b) => of_truths(o, a, b),
-            Worth::Integer(_) => Worth::Nothing,
-            Worth::Nothing => Worth::Nothing,
-        },
-        Worth::Nothing => Worth::Nothing,
-    }
-}
-
-// The worth at state s of the expression at a cursor, where `nodes` of its nodes stand before it. A node adds at most 128 to
-// what an integer can be, so that sums of 31 nodes fit.
-fn value_walk(src: &[u8], count: u32, s: u32, levels: u32, nodes: u32, at: usize) -> WorthRead
-    requires { ⌜ count ≡ countOf (headerAt (now src)) ⌝ }
-    ensures exact { λ r. ⌜ r ≡ worthRead (machineOf (sizesOf (now (src .entry)) count)) s (exprAt levels (now (src .entry)) count nodes at) ⌝ }
-    ensures small { λ r. ⌜ Small nodes r ⌝ }
-{
-    if levels == 0 {
-        return WorthRead::Fault(17, at);
-    }
-    let head = expr_head_at(src, count, nodes, at);
-    match head {
-        ExprHead::Integer(z, next) => WorthRead::Whole(Worth::Integer(z), nodes + 1, next),
-        ExprHead::Truth(b, next) => WorthRead::Whole(Worth::Truth(b), nodes + 1, next),
-        ExprHead::Variable(v, next) => {
-            let value = value_of(src, count, s, v);
-            WorthRead::Whole(Worth::Integer(value as i64), nodes + 1, next)
-        }
-        ExprHead::Operation(o, next) => {
-            let first = value_walk(src, count, s, levels - 1, nodes + 1, next);
-            let WorthRead::Whole(left, seen, middle) = first else {
-                return first;
-            };
-            let second = value_walk(src, count, s, levels - 1, seen, middle);
-            let WorthRead::Whole(right, all, behind) = second else {
-                return second;
-            };
-            WorthRead::Whole(apply_op(o, left, right), all, behind)
-        }
-        ExprHead::Fault(k, place) => WorthRead::Fault(k, place),
-    }
-}
-
-// The worth at state s of the whole expression at a cursor.
-fn worth_at(src: &[u8], count: u32, at: usize, s: u32) -> Worth
-    requires { ⌜ count ≡ countOf (headerAt (now src)) ⌝ }
-    ensures { λ r. ⌜ valIn r ≡ valueAt (now (src .entry)) at s ⌝ }
-{
-    match value_walk(src, count, s, 32, 0, at) {
-        WorthRead::Whole(worth, _, _) => worth,
-        WorthRead::Fault(_, _) => Worth::Nothing,
-    }
-}
-
-// Whether a worth is the wanted truth value.
-fn is_wanted(worth: Worth, wanted: bool) -> bool
-    ensures { λ r. ⌜ r ≡ isTruth wanted (valIn worth) ⌝ }
-{
-    match worth {
-        Worth::Truth(b) => b == wanted,
-        Worth::Integer(_) => false,
-        Worth::Nothing => false,
+        2 => a < b,
+        3 => (a <= b) & (b <= a),
+        _ => a > b,
     }
 }
 
@@ -193,18 +132,175 @@ fn with_state(found: StateSet, s: u32, one: bool) -> StateSet
     }
 }
 
-// The states at which the expression at a cursor is the wanted truth value; none where there is no such expression.
-pub fn states_where(src: &[u8], at: usize, wanted: bool) -> StateSet
-    ensures { λ r. ⌜ ((s : ℕ) → has r s ≡ whereAt (now (src .entry)) wanted at s) ⌝ }
+// The states at which two integers compare as operation o asks.
+fn compared(n: u32, o: u32, left: [i64; 64], right: [i64; 64]) -> StateSet
+    requires { ⌜ (n ≤ 64) × (1 < o) × (o < 5) ⌝ }
+    ensures { λ r.
+        ⌜ ((s : ℕ) → s < n → some (truth (has r s)) ≡ getD (ofIntegers (getD left s (pos 0)) (getD right s (pos 0))) o none) ⌝ }
 {
     let mut found = StateSet::empty();
-    let Header::Sizes(count, n, _) = read_header(src) else {
-        return found;
-    };
     for s in 0..n {
-        found = with_state(found, s, is_wanted(worth_at(src, count, at, s), wanted));
+        found = with_state(found, s, compares(o, left[s as usize], right[s as usize]));
     }
     found
+}
+
+// No value at any state.
+fn nothing(nodes: u32, next: usize) -> Worths
+    ensures { λ r. ⌜ (r .kind ≡ 2) × (r .nodes ≡ nodes) × (r .next ≡ next) × ((s : ℕ) → integerIn r s ≡ pos 0) ⌝ }
+{
+    Worths {
+        kind: 2,
+        nodes,
+        next,
+        integers: [0; 64],
+        truths: StateSet::empty(),
+    }
+}
+
+// An integer at each state.
+fn integers_of(nodes: u32, next: usize, integers: [i64; 64]) -> Worths
+    ensures { λ r. ⌜ (r .kind ≡ 0) × (r .nodes ≡ nodes) × (r .next ≡ next) × (r .integers ≡ integers) ⌝ }
+{
+    Worths {
+        kind: 0,
+        nodes,
+        next,
+        integers,
+        truths: StateSet::empty(),
+    }
+}
+
+// A truth value at each state.
+fn truths_of(nodes: u32, next: usize, truths: StateSet) -> Worths
+    ensures { λ r.
+        ⌜ (r .kind ≡ 1) × (r .nodes ≡ nodes) × (r .next ≡ next) × (r .truths ≡ truths) × ((s : ℕ) → integerIn r s ≡ pos 0) ⌝ }
+{
+    Worths {
+        kind: 1,
+        nodes,
+        next,
+        integers: [0; 64],
+        truths,
+    }
+}
+
+// What operation o makes of two integers at each state.
+fn of_integers(n: u32, o: u32, left: Worths, right: Worths) -> Worths
+    requires { ⌜ (n ≤ 64) × ((s : ℕ) → s < n → mag (integerIn left s) + mag (integerIn right s) < 8192) ⌝ }
+    ensures { λ r. ⌜ Applied n (λ s. getD (ofIntegers (integerIn left s) (integerIn right s)) o none) left right r ⌝ }
+{
+    let a = left.integers;
+    let b = right.integers;
+    if o < 2 {
+        integers_of(right.nodes, right.next, sum_row(n, o, a, b))
+    } else if o < 5 {
+        truths_of(right.nodes, right.next, compared(n, o, a, b))
+    } else {
+        nothing(right.nodes, right.next)
+    }
+}
+
+// What operation o makes of two truth values at each state.
+fn of_truths(n: u32, o: u32, left: Worths, right: Worths) -> Worths
+    ensures { λ r. ⌜ Applied n (λ s. getD (ofTruths (has (left .truths) s) (has (right .truths) s)) o none) left right r ⌝ }
+{
+    let a = left.truths;
+    let b = right.truths;
+    match o {
+        5 => truths_of(right.nodes, right.next, a.meet(b)),
+        6 => truths_of(right.nodes, right.next, a.join(b)),
+        _ => nothing(right.nodes, right.next),
+    }
+}
+
+// What operation o makes of its operands, both of them needed.
+fn apply_op(n: u32, o: u32, left: Worths, right: Worths) -> Worths
+    requires { ⌜ (n ≤ 64) × (left .kind < 2) × (right .kind < 2)
+        × ((s : ℕ) → s < n → mag (integerIn left s) + mag (integerIn right s) < 8192) ⌝ }
+    ensures { λ r. ⌜ Applied n (λ s. both (apply o) (valueIn left s) (valueIn right s)) left right r ⌝ }
+{
+    if left.kind == right.kind {
+        if left.kind == 0 {
+            of_integers(n, o, left, right)
+        } else {
+            of_truths(n, o, left, right)
+        }
+    } else {
+        nothing(right.nodes, right.next)
+    }
+}
+
+// A truth value as the set of the states at which it is true.
+fn always(b: bool) -> StateSet
+    ensures { λ r. ⌜ ((s : ℕ) → s < 64 → has r s ≡ b) ⌝ }
+{
+    if b {
+        StateSet::below(64)
+    } else {
+        StateSet::empty()
+    }
+}
+
+// The worths at n states of the expression at a cursor, where `nodes` of its nodes stand before it. A node adds at most 128 to
+// what an integer can be, so that sums of 31 nodes fit. What has no value stops the walk: the whole has none either.
+fn worths_walk(src: &[u8], count: u32, n: u32, levels: u32, nodes: u32, at: usize) -> Worths
+    requires { ⌜ (count ≡ countOf (headerAt (now src))) × (n ≤ 64) ⌝ }
+    ensures { λ r.
+        ⌜ Walked n (machineOf (sizesOf (now (src .entry)) count)) nodes r (exprAt levels (now (src .entry)) count nodes at) ⌝ }
+{
+    if levels == 0 {
+        return nothing(nodes, at);
+    }
+    let head = expr_head_at(src, count, nodes, at);
+    match head {
+        ExprHead::Integer(z, next) => integers_of(nodes + 1, next, [z; 64]),
+        ExprHead::Truth(b, next) => truths_of(nodes + 1, next, always(b)),
+        ExprHead::Variable(v, next) => {
+            let weight = weight_of(src, count, v);
+            let size = size_of(src, count, v);
+            integers_of(nodes + 1, next, variable_row(n, weight, size))
+        }
+        ExprHead::Operation(o, next) => {
+            let left = worths_walk(src, count, n, levels - 1, nodes + 1, next);
+            if left.kind >= 2 {
+                return left;
+            }
+            let right = worths_walk(src, count, n, levels - 1, left.nodes, left.next);
+            if right.kind >= 2 {
+                return right;
+            }
+            apply_op(n, o, left, right)
+        }
+        ExprHead::Fault(_, place) => nothing(nodes, place),
+    }
+}
+
+// The states at which the expression at a cursor is true, and those at which it is false; none where there is no such expression.
+pub fn truths_at(src: &[u8], at: usize) -> Truths
+    ensures holding { λ r. ⌜ ((s : ℕ) → has (r .holds) s ≡ whereAt (now (src .entry)) true at s) ⌝ }
+    ensures failing { λ r. ⌜ ((s : ℕ) → has (r .fails) s ≡ whereAt (now (src .entry)) false at s) ⌝ }
+{
+    let none = StateSet::empty();
+    let Header::Sizes(count, n, _) = read_header(src) else {
+        return Truths {
+            holds: none,
+            fails: none,
+        };
+    };
+    let row = worths_walk(src, count, n, 32, 0, at);
+    if row.kind != 1 {
+        return Truths {
+            holds: none,
+            fails: none,
+        };
+    }
+    let states = StateSet::below(n);
+    let truths = row.truths;
+    Truths {
+        holds: states.meet(truths),
+        fails: states.narrow(truths),
+    }
 }
 
 // The states that agree with s in variable v; none where s is no state.
@@ -228,44 +324,60 @@ pub fn agreeing(src: &[u8], v: u32, s: u32) -> StateSet
     found
 }
 
-// The state after a store of n in variable v at state s.
-fn store_natural(src: &[u8], count: u32, s: u32, v: u32, n: u64) -> After
-    requires { ⌜ (count ≡ countOf (headerAt (now src))) × (s < 64) ⌝ }
-    ensures { λ r. ⌜ r ≡ afterOf (stored (sizesOf (now (src .entry)) count) s v (pos n)) ⌝ }
+// The state after a store of n at state s, in a variable of this weight and size.
+fn store_natural(weight: u32, size: u32, s: u32, n: u64) -> After
+    requires { ⌜ (0 < weight) × (weight ≤ 64) × (0 < size) × (size ≤ 64) × (s < 64) ⌝ }
+    ensures { λ r.
+        ⌜ ((sizes : List ℕ) (v : ℕ) → weight ≡ weightIn sizes v → size ≡ getD sizes v 1 → r ≡ afterOf (stored sizes s v (pos n))) ⌝ }
 {
-    if n >= size_of(src, count, v) as u64 {
+    if n >= size as u64 {
         return After::OutOfRange;
     }
-    let weight = weight_of(src, count, v);
-    let value = value_of(src, count, s, v);
+    let value = s / weight % size;
     After::State(s - value * weight + n as u32 * weight)
 }
 
-// The state after a store of z in variable v at state s; no variable holds a negative number.
-fn store_integer(src: &[u8], count: u32, s: u32, v: u32, z: i64) -> After
-    requires { ⌜ (count ≡ countOf (headerAt (now src))) × (s < 64) ⌝ }
-    ensures { λ r. ⌜ r ≡ afterOf (stored (sizesOf (now (src .entry)) count) s v z) ⌝ }
+// The state after a store of z; no variable holds a negative number.
+fn store_integer(weight: u32, size: u32, s: u32, z: i64) -> After
+    requires { ⌜ (0 < weight) × (weight ≤ 64) × (0 < size) × (size ≤ 64) × (s < 64) ⌝ }
+    ensures { λ r.
+        ⌜ ((sizes : List ℕ) (v : ℕ) → weight ≡ weightIn sizes v → size ≡ getD sizes v 1 → r ≡ afterOf (stored sizes s v z)) ⌝ }
 {
     if z < 0 {
         After::OutOfRange
     } else {
-        store_natural(src, count, s, v, z as u64)
+        store_natural(weight, size, s, z as u64)
     }
 }
 
-// The state after a store in variable v, at state s, of the expression at a cursor.
-pub fn successor(src: &[u8], v: u32, at: usize, s: u32) -> After
-    ensures { λ r. ⌜ r ≡ afterAt (now (src .entry)) v at s ⌝ }
+// The one state after a store, or none where the value is out of range.
+fn end_of(after: After) -> StateSet
+    ensures { λ r. ⌜ ((t : ℕ) → has r t ≡ (ltb t 64 && leads after t)) ⌝ }
 {
+    match after {
+        After::State(t) => StateSet::single(t),
+        After::OutOfRange => StateSet::empty(),
+    }
+}
+
+// Where a store in variable v of the expression at a cursor leads: in row s the one state after it at s, or none.
+pub fn successors(src: &[u8], v: u32, at: usize) -> [u64; 64]
+    ensures { λ r. ⌜ ((s t : ℕ) → mem (getD r s 0 ∷ []) t ≡ (ltb t 64 && leads (afterAt (now (src .entry)) v at s) t)) ⌝ }
+{
+    let mut rows = [0u64; 64];
     let Header::Sizes(count, n, _) = read_header(src) else {
-        return After::OutOfRange;
+        return rows;
     };
-    if s >= n {
-        return After::OutOfRange;
+    let row = worths_walk(src, count, n, 32, 0, at);
+    if row.kind != 0 {
+        return rows;
     }
-    match worth_at(src, count, at, s) {
-        Worth::Integer(z) => store_integer(src, count, s, v, z),
-        Worth::Truth(_) => After::OutOfRange,
-        Worth::Nothing => After::OutOfRange,
+    let integers = row.integers;
+    let weight = weight_of(src, count, v);
+    let size = size_of(src, count, v);
+    for s in 0..n {
+        let end = end_of(store_integer(weight, size, s, integers[s as usize]));
+        rows[s as usize] = end.bits;
     }
+    rows
 }

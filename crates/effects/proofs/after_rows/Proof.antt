@@ -1,34 +1,23 @@
--- Row s is where a store at s leads. The rows below s are filled, and none past them is of a state.
-use Prim.Native.Nat.{_-_}
+-- Where the walk's rows lead is where the store does, and that is a state, so a word can hold it.
 use native.Mathlib.Omega.{arith}
-use mathlib.Core.Path.{refl}
+use mathlib.Core.Bool.{_&&_}
+use mathlib.Core.Path.{ap, _∙_}
 use borrow.Author.Needs.{needs}
-use Rattle.states.specs.Sets.{has}
-use Rattle.states.proofs.Rows.{Filled, filled-none, filled-more}
-use Rattle.effects.specs.Places.{afterHere}
-use Rattle.effects.proofs.Places.{states-most, after-within}
-use Rattle.effects.proofs.Rows.{filled-any}
+use borrow.Author.Tests.{lt-ltb}
+use lib.Dec.{ltb}
+use Rattle.states.specs.Relations.{rel}
+use Rattle.effects.proofs.Places.{after-total, after-within, states-most}
+use Rattle.effects.proofs.Rows.{absorbed}
 use Rattle.effects.proofs.after_rows.Statement.{statement}
 use Rattle.effects.proofs.after_rows.Tie as tie
 
-abbrev Inv-loop : tie.InvT-loop
-Inv-loop src v at rows₀ s₀ rows s = Filled (afterHere src v at) s rows
-
-abbrev μ-loop : tie.MeasureT-loop
-μ-loop src v at rows₀ s₀ rows s = 64 - s
-
-loop-again : tie.Need-loop-again Inv-loop μ-loop
-unfolding has
-loop-again c = filled-more _ _ _ _ (c .before .loop-test .taken) (c .after-row .ensures) (c .before .before .loop .inv)
-
-returns : tie.Need-returns Inv-loop μ-loop
-returns c =
-    let a = c .before .before .before .args in
-    filled-any (afterHere (a .src .now) (a .v) (a .at)) _ _
-    (λ s t h. omega (arith, after-within (a .src .now) (a .v) (a .at) s t h .0, states-most (a .src .now))) (c .loop-test .left) (c .before .loop .inv)
+returns : tie.Need-returns
+unfolding rel
+returns c n s t =
+    let a = c .before .before .args in
+    ap (λ b. ltb s n && ltb t n && b)
+    (c .successors .ensures s t ∙ ap (λ b. ltb t 64 && b) (after-total (a .src .now) (a .v) (a .at) s t)
+    ∙ absorbed _ _ (λ h. lt-ltb t 64 (omega (arith, after-within (a .src .now) (a .v) (a .at) s t h .1, states-most (a .src .now)))))
 
 pub after-rows-spec : {M : Type 1} → statement M
-after-rows-spec =
-    tie.close
-    (tie.spec Inv-loop μ-loop (λ c. filled-none _ _ refl) (λ c κs. search needs) (λ c. search needs) (λ c. search needs)
-    (λ c. search needs) (λ c. search needs) (λ c. search needs) loop-again returns)
+after-rows-spec = tie.close (tie.spec (λ c κs. search needs) returns)

@@ -12,14 +12,14 @@ use Rattle.nodes.proofs.while_fault.Tie as tie
 
 returns : tie.Need-returns
 returns c =
-    let a = c .before .before .before .before .before .before .before .before .before .before .before .before .before .before .before .before .before .before .before .before .before .before .before .args in
+    let a = c .before .before .before .before .before .before .before .before .before .before .before .before .before .before .before .before .before .before .before .before .before .before .before .before .args in
     let e = exprHere (a .handler .now) (a .expr) in
-    let own = wordSpec (c .before .before .before .before .before .before .before .before .before .before .before .before .before .before .before .before .before .before .before .before .states-of .result) (a .work .now) (a .own) in
-    let is-true = fun-ext (c .before .before .before .before .before .before .before .before .before .before .before .before .before .before .before .before .before .before .before .states-where .ensures) ∙ sym (true-here _ _) in
-    let is-false = fun-ext (c .before .before .before .before .before .before .before .before .before .before .before .before .before .before .before .before .before .before .states-where2 .ensures) ∙ sym (false-here _ _) in
+    let own = wordSpec (c .before .before .before .before .before .before .before .before .before .before .before .before .before .before .before .before .before .before .before .before .before .states-of .result) (a .work .now) (a .own) in
+    let is-true = fun-ext (c .before .before .before .before .before .before .before .before .before .before .before .before .before .before .before .before .before .before .before .before .truths-at .ensures .0) ∙ sym (true-here _ _) in
+    let is-false = fun-ext (c .before .before .before .before .before .before .before .before .before .before .before .before .before .before .before .before .before .before .before .before .truths-at .ensures .1) ∙ sym (false-here _ _) in
     let once = c .before .before .before .before .read-once .ensures ∙ read-once-50 _ _ _ (c .before .before .before .before .before .moved .ensures) e in
     rw (← bare-31, ← bare-32, ← bare-33, ← bare-34while, ← bare-51, ← bare-52, ← bare-53, ← bare-54, ← bare-55, ← bare-56)
-    (rw (c .before .before .before .before .before .before .before .before .before .before .before .before .before .before .before .before .before .before .before .before .states-of .ensures, is-true, is-false) at
+    (rw (c .before .before .before .before .before .before .before .before .before .before .before .before .before .before .before .before .before .before .before .before .before .states-of .ensures, is-true, is-false) at
     (after-common _ _ _ (c .common .ensures)
     (link 34 _ (c .before .unless8 .ensures) (c .before .before .while-tables .ensures)
     (link 50 _ (c .before .before .before .unless7 .ensures) once
@@ -31,4 +31,4 @@ returns c =
     (link 56 _ (c .before .before .before .before .before .before .before .before .before .before .before .before .before .before .before .before .unless .ensures) (c .before .before .before .before .before .before .before .before .before .before .before .before .before .before .before .before .before .leaves .ensures) refl))))))))))
 
 pub while-fault-spec : {M : Type 1} → statement M
-while-fault-spec = tie.close (tie.spec (λ c κs. search needs) (λ c κs. search needs) (λ c κs. search needs) (λ c κs. search needs) (λ c κs. search needs) (λ c κs. search needs) (λ c κs. search needs) (λ c κs. search needs) (λ c κs. search needs) (λ c κs. search needs) (λ c κs. search needs) (λ c κs. search needs) (λ c κs. search needs) (λ c κs. search needs) (λ c κs. search needs) (λ c κs. search needs) (λ c κs. search needs) (λ c κs. search needs) (λ c κs. search needs) (λ c κs. search needs) (λ c κs. search needs) returns)
+while-fault-spec = tie.close (tie.spec (λ c κs. search needs) (λ c κs. search needs) (λ c κs. search needs) (λ c κs. search needs) (λ c κs. search needs) (λ c κs. search needs) (λ c κs. search needs) (λ c κs. search needs) (λ c κs. search needs) (λ c κs. search needs) (λ c κs. search needs) (λ c κs. search needs) (λ c κs. search needs) (λ c κs. search needs) (λ c κs. search needs) (λ c κs. search needs) (λ c κs. search needs) (λ c κs. search needs) (λ c κs. search needs) (λ c κs. search needs) returns)

@@ -1,50 +1,60 @@
 -- Where both operands are integers, or both truth values, the function for that kind says it; else there is no value.
-use Prim.Native.Nat.{ℕ, _+_, _≤_}
+use Prim.Native.Nat.{ℕ, zero, suc, _<_}
 use native.Mathlib.Omega.{arith}
-use mathlib.Core.Option.{none}
-use mathlib.Core.Path.{_≡_, ap₂, _∙_}
+use mathlib.Core.Bool.{Bool}
+use mathlib.Core.List.{[], _∷_}
+use mathlib.Core.Option.{none, some}
+use mathlib.Core.Path.{_≡_, refl, sym, _∙_}
 use borrow.Author.Needs.{needs}
-use lib.ListN.{getD}
 use lib.IntN.{ℤ}
-use lib.Signed.{mag}
-use mir.Facts.{toZ-ofZ}
-use Rattle.semantics.specs.Language.{ofIntegers, apply}
+use lib.ListN.{getD}
+use Rattle.states.specs.Sets.{has}
+use Rattle.semantics.specs.Language.{int, truth, apply}
 use Rattle.semantics.specs.States.{both}
-use Rattle.values.specs.declared.Worth.{Worth}
-use Rattle.values.specs.declared.Worth.the-variants.{Integer}
-use Rattle.values.specs.Values.{valIn, worthOf, magnitude}
+use Rattle.values.specs.Values.{integerIn}
 use Rattle.values.proofs.apply_op.Statement.{statement}
 use Rattle.values.proofs.apply_op.Tie as tie
 
-of-integers-requires : tie.Need-of-integers-requires
-of-integers-requires c κs =
-    let left = c .before .before .before .before .left .given .1 in
-    let right = c .before .right .given .1 in
-    rw (toZ-ofZ (record { sfits = c .before .before .before .known-told .given .0 .1 }), toZ-ofZ (record { sfits = c .known-told2 .given .0 .1 }))
-    (rw (left, right) at (c .before .before .before .before .before .before .pre))
-
--- a and b are x and y as the code carries them.
-of-two : (o : ℕ) (left right r : Worth) (x y a b : ℤ) → left ≡ Integer x → right ≡ Integer y → a ≡ x → b ≡ y
-    → (r ≡ worthOf (getD (ofIntegers a b) o none)) × (magnitude r ≤ mag a + mag b + 1)
-    → (r ≡ worthOf (both (apply o) (valIn left) (valIn right))) × (magnitude r ≤ magnitude left + magnitude right + 1)
-of-two o left right r x y a b l m p q h =
-    rw (l, m) (h .0 ∙ ap₂ (λ i j. worthOf (getD (ofIntegers i j) o none)) p q, rw (p, q) at (h .1))
+-- An integer and a truth value.
+misfit : (o k j : ℕ) (x y : ℤ) (a b : Bool) → (k ≡ j → ⊥) → k < 2 → j < 2
+    → none ≡ both (apply o) (getD (some (int x) ∷ some (truth a) ∷ []) k none) (getD (some (int y) ∷ some (truth b) ∷ []) j none)
+misfit o zero zero x y a b other l m = absurd (other refl)
+misfit o zero (suc zero) x y a b other l m = refl
+misfit o (suc zero) zero x y a b other l m = refl
+misfit o (suc zero) (suc zero) x y a b other l m = absurd (other refl)
+misfit o (suc (suc k)) j x y a b other l m = absurd (omega arith)
+misfit o zero (suc (suc j)) x y a b other l m = absurd (omega arith)
+misfit o (suc zero) (suc (suc j)) x y a b other l m = absurd (omega arith)
 
 returns : tie.Need-returns
 returns c =
-    of-two _ _ _ _ _ _ _ _ (c .before .before .before .before .before .left .given .1) (c .before .before .right .given .1)
-    (toZ-ofZ (record { sfits = c .before .before .before .before .known-told .given .0 .1 }))
-    (toZ-ofZ (record { sfits = c .before .known-told2 .given .0 .1 })) (c .of-integers .ensures)
+    let made = c .of-integers .ensures in
+    let a = c .before .before .before .before .before .before .args in
+    let left : a .left .kind ≡ 0 = c .before .if2 .taken in
+    let right : a .right .kind ≡ 0 = sym (c .before .before .before .if1 .taken) ∙ left in
+    (made .0, made .1, λ s l. (made .2 s l .0 ∙ rw (left, right), made .2 s l .1))
 
-returns-4 : tie.Need-returns-4
-returns-4 c =
-    let left = c .before .before .before .before .before .left2 .given .1 in
-    let right = c .before .before .right2 .given .1 in
-    rw (left, right) (c .of-truths .ensures .0, omega arith)
+returns-2 : tie.Need-returns-2
+returns-2 c =
+    let made = c .of-truths .ensures in
+    let a = c .before .before .before .before .before .before .args in
+    let left : a .left .kind ≡ 1 = omega arith in
+    let right : a .right .kind ≡ 1 = sym (c .before .before .before .if1 .taken) ∙ left in
+    (made .0, made .1, λ s l. (made .2 s l .0 ∙ rw (left, right), made .2 s l .1))
+
+returns-3 : tie.Need-returns-3
+returns-3 c =
+    let made = c .nothing .ensures in
+    let k = c .before .before .before .before in
+    let a = k .args in (
+      made .1,
+      made .2,
+      λ s l. (
+        rw (made .0) (misfit (a .o) (a .left .kind) (a .right .kind) (integerIn (a .left) s) (integerIn (a .right) s)
+            (has (a .left .truths) s) (has (a .right .truths) s) (c .before .if1 .left) (k .pre .1) (k .pre .2)),
+        rw (made .3 s) (omega arith),
+      ),
+    )
 
 pub apply-op-spec : {M : Type 1} → statement M
-apply-op-spec =
-    tie.close
-    (tie.spec (λ c. search needs) (λ c. search needs) of-integers-requires (λ c. search needs) (λ c. search needs)
-    (λ c. search needs) (λ c. search needs) (λ c κs. search needs) (λ c. search needs) (λ c. search needs) (λ c. search needs)
-    returns (λ c. search needs) (λ c. search needs) returns-4 (λ c. search needs) (λ c. search needs) (λ c. search needs))
+apply-op-spec = tie.close (tie.spec (λ c κs. search needs) (λ c κs. search needs) (λ c κs. search needs) returns returns-2 returns-3)

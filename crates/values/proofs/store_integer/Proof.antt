@@ -12,7 +12,6 @@ use lib.Signed.{ltZ, nonNeg, pos-natAbs}
 use mir.Facts.{toZ-ofZ, fits-natAbs}
 use Rattle.semantics.specs.States.{stored}
 use Rattle.values.specs.declared.After.the-variants.{OutOfRange}
-use Rattle.handler.specs.Header.{sizesOf}
 use Rattle.values.specs.Values.{afterOf}
 use Rattle.values.proofs.store_integer.Statement.{statement}
 use Rattle.values.proofs.store_integer.Tie as tie
@@ -25,24 +24,23 @@ below : (sizes : List ℕ) (s v : ℕ) (z : ℤ) → ltZ z (pos 0) ≡ true → 
 below sizes s v (pos n) h = absurd (omega (arith, ltb-true n 0 h))
 below sizes s v (negsuc n) h = refl
 
-natural : (c : tie.Else1) → T (nonNeg (c .before .before .args .z))
-natural c = not-below (c .before .before .args .z) (ap (λ i. ltZ i (pos 0)) (sym (toZ-ofZ (c .before .before .fits .z))) ∙ c .if1 .left)
+natural : (c : tie.Else1) → T (nonNeg (c .before .args .z))
+natural c = not-below (c .before .args .z) (ap (λ i. ltZ i (pos 0)) (sym (toZ-ofZ (c .before .fits .z))) ∙ c .if1 .left)
 
 cast-store-natural : tie.Need-cast-store-natural
-cast-store-natural c = let fits = c .before .before .fits .z in rw (toZ-ofZ fits) (natural c, fits-natAbs tt fits)
+cast-store-natural c = let fits = c .before .fits .z in rw (toZ-ofZ fits) (natural c, fits-natAbs tt fits)
 
 returns : tie.Need-returns
-returns c =
-    let a = c .before .before .args in
-    below (sizesOf (a .src .now) (a .count)) (a .s) (a .v) (a .z)
-    (ap (λ i. ltZ i (pos 0)) (sym (toZ-ofZ (c .before .before .fits .z))) ∙ c .if1 .taken)
+returns c sizes v weighs sized =
+    let a = c .before .args in
+    below sizes (a .s) v (a .z) (ap (λ i. ltZ i (pos 0)) (sym (toZ-ofZ (c .before .fits .z))) ∙ c .if1 .taken)
 
 returns-2 : tie.Need-returns-2
-returns-2 c =
-    let a = c .before .before .before .args in
-    c .store-natural .ensures
-    ∙ ap (λ i. afterOf (stored (sizesOf (a .src .now) (a .count)) (a .s) (a .v) i))
-    (ap (λ i. pos (natAbs i)) (toZ-ofZ (c .before .before .before .fits .z)) ∙ pos-natAbs (a .z) (natural (c .before)))
+returns-2 c sizes v weighs sized =
+    let a = c .before .before .args in
+    c .store-natural .ensures sizes v weighs sized
+    ∙ ap (λ i. afterOf (stored sizes (a .s) v i))
+    (ap (λ i. pos (natAbs i)) (toZ-ofZ (c .before .before .fits .z)) ∙ pos-natAbs (a .z) (natural (c .before)))
 
 pub store-integer-spec : {M : Type 1} → statement M
 store-integer-spec = tie.close (tie.spec cast-store-natural (λ c κs. search needs) returns returns-2)
