@@ -17,12 +17,12 @@ use Rattle.semantics.specs.Derivations.{Spec}
 use Rattle.semantics.specs.Conditions.{occurrences, inSet, moves, c41, c50}
 use Rattle.semantics.proofs.Conditions.{eqZ-true}
 use Rattle.semantics.specs.declared.Kind.{Kind}
-use Rattle.handler.specs.declared.Header.the-variants.{Sizes, Fault}
-use Rattle.handler.specs.declared.ExprShape.{ExprShape}
-use Rattle.handler.specs.declared.ExprShape.the-variants as shape
-use Rattle.handler.specs.Header.{headerAt, sizesOf}
-use Rattle.handler.specs.Expressions.{ExprRead, good, bad}
-use Rattle.handler.specs.Shapes.{inMask, exprShape}
+use Rattle.expressions.specs.declared.Header.the-variants.{Sizes, Fault}
+use Rattle.expressions.specs.declared.ExprShape.{ExprShape}
+use Rattle.expressions.specs.declared.ExprShape.the-variants as shape
+use Rattle.expressions.specs.Header.{headerAt, sizesOf}
+use Rattle.expressions.specs.Expressions.{ExprRead, good, bad}
+use Rattle.expressions.specs.Shapes.{inMask, exprShape}
 use Rattle.values.specs.Values.{statesOf, machineAt, agreeAt}
 use Rattle.values.proofs.Sizes.{size-past}
 use Rattle.values.proofs.Laws.{agree-here}

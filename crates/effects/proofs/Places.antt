@@ -15,13 +15,13 @@ use Rattle.states.proofs.Reach.{Between}
 use Rattle.semantics.specs.Language.{Val, int, truth, Expr}
 use Rattle.semantics.specs.States.{Machine, product, weight, valueOf, stored, machineOf, value, storeOf, isTruth}
 use Rattle.semantics.specs.Conditions.{isTrue, isFalse, afterStore}
-use Rattle.handler.specs.declared.Header.{Header}
-use Rattle.handler.specs.declared.Header.the-variants.{Sizes, Fault}
+use Rattle.expressions.specs.declared.Header.{Header}
+use Rattle.expressions.specs.declared.Header.the-variants.{Sizes, Fault}
 use Rattle.values.specs.declared.After.the-variants.{OutOfRange}
-use Rattle.handler.specs.Header.{headerAt, sizesOf}
-use Rattle.handler.specs.Expressions.{ExprRead, good, bad, wholeExpr}
+use Rattle.expressions.specs.Header.{headerAt, sizesOf}
+use Rattle.expressions.specs.Expressions.{ExprRead, good, bad, wholeExpr}
 use Rattle.values.specs.Values.{countOf, statesOf, afterOf, leads, machineAt, valueRead, valueAt, whereAt, afterAt}
-use Rattle.handler.proofs.Heads.{head-read}
+use Rattle.expressions.proofs.Heads.{head-read}
 use Rattle.effects.specs.Places.{machineUnder, machineHere, exprRead, exprUnder, exprHere, leadsTo, afterHere}
 
 value-in : (m : Machine) (s : ℕ) (read : ExprRead) → value m (exprRead read) s ≡ valueRead m s read

@@ -10,10 +10,10 @@ use Rattle.states.specs.Search.{any}
 use Rattle.semantics.specs.Language.{Expr, lit, op, int}
 use Rattle.semantics.specs.States.{Machine, machineOf}
 use Rattle.semantics.specs.Conditions.{afterStore}
-use Rattle.handler.specs.declared.Header.{Header}
-use Rattle.handler.specs.declared.Header.the-variants.{Sizes, Fault}
-use Rattle.handler.specs.Header.{headerAt, sizesOf}
-use Rattle.handler.specs.Expressions.{ExprRead, good, bad, wholeExpr}
+use Rattle.expressions.specs.declared.Header.{Header}
+use Rattle.expressions.specs.declared.Header.the-variants.{Sizes, Fault}
+use Rattle.expressions.specs.Header.{headerAt, sizesOf}
+use Rattle.expressions.specs.Expressions.{ExprRead, good, bad, wholeExpr}
 use Rattle.values.specs.Values.{agreeAt}
 use Rattle.conditions.specs.declared.Names.{Names}
 use Rattle.conditions.specs.Words.{bare, wordSet, wordRelation}

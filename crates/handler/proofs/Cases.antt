@@ -7,8 +7,8 @@ use Rattle.bits.specs.Fields.{bitLength, bitAt, bitsAt, isThere, fieldAt, first
 use Rattle.semantics.specs.Language.{lit, int, nil, assign}
 use Rattle.handler.specs.declared.HandlerFile.the-variants.{Handler, Fault}
 use Rattle.handler.specs.declared.Part.the-variants.{Assign, Pair}
-use Rattle.handler.specs.Header.{sizeRead, addSize, sizesRead, countRead, headerAt}
-use Rattle.handler.specs.Expressions.{signed, integerHead, truthHead, variableHead, operationHead, payloadHead, tagHead, exprHead, exprAt, wholeExpr}
+use Rattle.expressions.specs.Header.{sizeRead, addSize, sizesRead, countRead, headerAt}
+use Rattle.expressions.specs.Expressions.{signed, integerHead, truthHead, variableHead, operationHead, payloadHead, tagHead, exprHead, exprAt, wholeExpr}
 use Rattle.handler.specs.Statements.{targetHead, codeHead, markHead, stmtHead, stmtAt, wholeStmt}
 use Rattle.handler.specs.Reading.{handler, refused, readHandler}
 use Rattle.handler.specs.Shapes.{fileOf, partAt}

@@ -1,9 +1,6 @@
 -- Laws of reading that the proofs here and callers cite; each function's proof stands in its own folder.
-pub mod Folds
-pub mod Shapes
 pub mod StmtFolds
 pub mod StmtShapes
 pub mod Parts
 pub mod Fitting
 pub mod Cases
-pub mod Heads

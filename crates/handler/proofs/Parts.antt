@@ -13,9 +13,9 @@ use Rattle.handler.specs.declared.StmtHead.{StmtHead}
 use Rattle.handler.specs.declared.StmtHead.the-variants.{Nil, Assign, Pair, Test, Fault}
 use Rattle.handler.specs.declared.Part.{Part}
 use Rattle.handler.specs.declared.Part.the-variants as part
-use Rattle.handler.specs.Expressions.{ExprRead, good, bad, wholeExpr}
+use Rattle.expressions.specs.Expressions.{ExprRead, good, bad, wholeExpr}
 use Rattle.handler.specs.Statements.{markHead, stmtHead, StmtRead, whole, fault, onAssigned, onBody, onTest, onRight, onLeft, onStmtHead, stmtAt, wholeStmt}
-use Rattle.handler.specs.Kinds.{width, stmtWidth}
+use Rattle.expressions.specs.Kinds.{width, stmtWidth}
 use Rattle.handler.specs.Shapes.{pairPart, testPart, headPart, partAt}
 use Rattle.handler.proofs.StmtFolds.{Marked, marked, whole-ends, stmt-read}
 

@@ -16,17 +16,18 @@ use Rattle.bits.specs.declared.Fill.the-variants.{Ends, Wrong}
 use Rattle.semantics.specs.declared.Kind.the-variants.{Integer, Truth}
 use Rattle.semantics.specs.Language.{Expr, Stmt, seq, par, if, while}
 use Rattle.semantics.specs.StepNumber.{E, steps}
-use Rattle.handler.specs.declared.Misfit.{Misfit}
-use Rattle.handler.specs.declared.ExprShape.the-variants as expr
+use Rattle.expressions.specs.declared.Misfit.{Misfit}
+use Rattle.expressions.specs.declared.ExprShape.the-variants as expr
 use Rattle.handler.specs.declared.StmtShape.{StmtShape}
 use Rattle.handler.specs.declared.StmtShape.the-variants as stmt
 use Rattle.handler.specs.declared.StmtHead.the-variants.{Assign, Pair, Test}
-use Rattle.handler.specs.Expressions.{ExprRead, good, bad, wholeExpr}
+use Rattle.expressions.specs.Expressions.{ExprRead, good, bad, wholeExpr}
 use Rattle.handler.specs.Statements.{stmtHead, StmtRead, whole, fault, onAssigned, onBody, onTest, onRight, onLeft, stmtAt, wholeStmt}
-use Rattle.handler.specs.Kinds.{width, stmtWidth, orPlace, misfit, stmtMisfit}
-use Rattle.handler.specs.Shapes.{asMisfit, exprShape, stmtShape, assignedOf, pairOf, testedOf, filledOf, judgedOf, fileOf}
+use Rattle.expressions.specs.Kinds.{width, stmtWidth, orPlace, misfit, stmtMisfit}
+use Rattle.expressions.specs.Shapes.{asMisfit, exprShape}
+use Rattle.handler.specs.Shapes.{stmtShape, assignedOf, pairOf, testedOf, filledOf, judgedOf, fileOf}
 use Rattle.handler.specs.Reading.{onKinds, onFill, onStmt}
-use Rattle.handler.proofs.Shapes.{or-earlier, shaped, faulted}
+use Rattle.expressions.proofs.Shapes.{or-earlier, shaped, faulted}
 use Rattle.handler.proofs.StmtFolds.{stmt-step, Marked, marked, whole-ends, stmt-read}
 
 -- A part past the limit may count as one past it, also where it counts y times.

@@ -6,11 +6,11 @@ use Rattle.bits.specs.Fields.{fillAt}
 use Rattle.bits.specs.declared.Fill.{Fill}
 use Rattle.bits.specs.declared.Fill.the-variants.{Ends, Wrong}
 use Rattle.semantics.specs.Language.{Stmt}
-use Rattle.handler.specs.declared.Header.{Header}
-use Rattle.handler.specs.declared.Header.the-variants.{Sizes, Fault}
-use Rattle.handler.specs.Header.{headerAt}
+use Rattle.expressions.specs.declared.Header.{Header}
+use Rattle.expressions.specs.declared.Header.the-variants.{Sizes, Fault}
+use Rattle.expressions.specs.Header.{headerAt}
 use Rattle.handler.specs.Statements.{StmtRead, whole, fault, wholeStmt}
-use Rattle.handler.specs.Kinds.{stmtMisfit}
+use Rattle.expressions.specs.Kinds.{stmtMisfit}
 
 -- A handler file: its number of variables, N, the statement's first bit and the statement; or its first fault.
 pub data HandlerRead : Type 0 where

@@ -1,23 +1,6 @@
 // The handler file, read from its bits: nothing is kept in memory, a statement or an expression is the number of its first bit.
-pub mod expressions;
-pub mod head;
 pub mod reading;
 pub mod statements;
-
-// What the head of the file finds: how many variables, N and the statement's first bit; or the fault and its place.
-pub enum Header {
-    Sizes(u32, u32, usize),
-    Fault(u32, usize),
-}
-
-// What stands at an expression's first bits: a constant, a variable or an operation, with the cursor behind; or a fault.
-pub enum ExprHead {
-    Integer(i64, usize),
-    Truth(bool, usize),
-    Variable(u32, usize),
-    Operation(u32, usize),
-    Fault(u32, usize),
-}
 
 // What stands at a statement's first bits, with the cursor behind: nil; an assignment, by its variable; sequence (2) or
 // parallel (3), by the code; if (4) or while (5), by the code; or a fault.
@@ -26,19 +9,6 @@ pub enum StmtHead {
     Assign(u32, usize),
     Pair(u32, usize),
     Test(u32, usize),
-    Fault(u32, usize),
-}
-
-// Whether the kinds fit, or the first bit of the first node whose result kind is not the wanted one.
-pub enum Misfit {
-    Fits,
-    At(usize),
-}
-
-// What a whole expression is made of: its misfit, its E, how many of its variable occurrences are of given variables, its
-// nodes so far and the cursor behind; or a fault.
-pub enum ExprShape {
-    Whole(Misfit, u32, u32, u32, usize),
     Fault(u32, usize),
 }
 

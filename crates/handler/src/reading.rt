@@ -1,16 +1,16 @@
 // The whole handler file, front to back, and what stands at a statement of it.
-use crate::ExprShape;
 use crate::HandlerFile;
-use crate::Header;
-use crate::Misfit;
 use crate::Part;
 use crate::StmtHead;
 use crate::StmtShape;
-use crate::expressions::expr_shape;
-use crate::head::read_header;
 use crate::statements::stmt_head_at;
 use crate::statements::stmt_walk;
 use bits::Fill;
+use expressions::ExprShape;
+use expressions::Header;
+use expressions::Misfit;
+use expressions::expr_shape;
+use expressions::head::read_header;
 use semantics::Kind;
 ghost use mathlib.Core.Path.{_≡_};
 ghost use Rattle.handler.specs.Reading.{readHandler};

@@ -1,11 +1,11 @@
 // Statements: what stands at a statement, and what a whole statement is made of.
-use crate::ExprShape;
-use crate::Misfit;
 use crate::StmtHead;
 use crate::StmtShape;
-use crate::expressions::earlier_of;
-use crate::expressions::expr_shape;
 use bits::Field;
+use expressions::ExprShape;
+use expressions::Misfit;
+use expressions::earlier_of;
+use expressions::expr_shape;
 use semantics::Kind;
 ghost use mathlib.Core.Path.{_≡_};
 ghost use Prim.Native.Nat.{_+_, _^_, _≤_, min};

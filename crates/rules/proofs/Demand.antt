@@ -14,7 +14,7 @@ use Rattle.semantics.specs.Derivations.{namesOf, specOf}
 use Rattle.semantics.specs.Checking.{Broken, firstFault}
 use Rattle.semantics.specs.Promise.{Promise}
 use Rattle.semantics.proofs.Soundness.{soundness}
-use Rattle.handler.specs.Header.{sizesOf}
+use Rattle.expressions.specs.Header.{sizesOf}
 use Rattle.handler.specs.Reading.{readHandler}
 use Rattle.rules.specs.declared.Verdict.{Verdict}
 use Rattle.rules.specs.declared.Verdict.the-variants.{Accepted, Refused}

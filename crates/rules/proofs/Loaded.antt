@@ -12,7 +12,7 @@ use Rattle.states.specs.Sets.{mem}
 use Rattle.states.specs.Relations.{rel}
 use Rattle.semantics.specs.States.{product}
 use Rattle.semantics.specs.Derivations.{Names, Tables, Spec, setOf, relationOf, specOf}
-use Rattle.handler.specs.Header.{sizesOf}
+use Rattle.expressions.specs.Header.{sizesOf}
 use Rattle.derivation.specs.Tables.{inSetOf, inRelationOf}
 use Rattle.derivation.proofs.Membership.{set-member, pair-member}
 use Rattle.rules.specs.declared.Counts.{Counts}

@@ -11,7 +11,7 @@ use Rattle.semantics.specs.Derivations.{Names, Derivation, skip, assignment, se
 use Rattle.semantics.specs.Conditions.{codeOf, targetOf, exprOf}
 use Rattle.handler.specs.Statements as Stmts
 use Rattle.handler.specs.Shapes.{partAt}
-use Rattle.handler.proofs.Heads.{Sized, head-read}
+use Rattle.expressions.proofs.Heads.{Sized, head-read}
 use Rattle.handler.proofs.Parts as Parts
 use Rattle.derivation.specs.declared.NodeHead.{NodeHead}
 use Rattle.derivation.specs.declared.NodeHead.the-variants.{Node, Fault}

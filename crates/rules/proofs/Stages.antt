@@ -17,16 +17,16 @@ use Rattle.semantics.specs.Language.{Stmt, kindsFit}
 use Rattle.semantics.specs.States.{product}
 use Rattle.semantics.specs.StepNumber.{steps}
 use Rattle.semantics.specs.Checking.{Broken}
-use Rattle.handler.specs.declared.Header.{Header}
-use Rattle.handler.specs.declared.Header.the-variants.{Sizes, Fault as Bad}
+use Rattle.expressions.specs.declared.Header.{Header}
+use Rattle.expressions.specs.declared.Header.the-variants.{Sizes, Fault as Bad}
 use Rattle.handler.specs.declared.HandlerFile.the-variants as File
-use Rattle.handler.specs.Header.{headerAt, sizesOf}
+use Rattle.expressions.specs.Header.{headerAt, sizesOf}
 use Rattle.handler.specs.Statements.{StmtRead, whole, fault, wholeStmt}
-use Rattle.handler.specs.Kinds.{stmtMisfit}
+use Rattle.expressions.specs.Kinds.{stmtMisfit}
 use Rattle.handler.specs.Reading.{HandlerRead, handler, refused, onKinds, onFill, onStmt, onHeader, readHandler}
 use Rattle.handler.specs.Shapes.{fileOf}
 use Rattle.handler.proofs.Fitting.{stmt-fits}
-use Rattle.handler.proofs.Heads.{head-read}
+use Rattle.expressions.proofs.Heads.{head-read}
 use Rattle.derivation.specs.Tables.{tabulate, written}
 use Rattle.derivation.proofs.Buffers.{length-tabulate, length-written}
 use Rattle.rules.specs.declared.Fault as Fault

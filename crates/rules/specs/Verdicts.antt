@@ -13,7 +13,7 @@ use Rattle.semantics.specs.StepNumber.{steps}
 use Rattle.semantics.specs.Derivations.{Derivation, Tables, namesOf, specOf}
 use Rattle.semantics.specs.Checking.{Broken, firstFault}
 use Rattle.semantics.specs.Promise.{Promise}
-use Rattle.handler.specs.Header.{sizesOf}
+use Rattle.expressions.specs.Header.{sizesOf}
 use Rattle.handler.specs.Reading.{HandlerRead, handler, refused, readHandler}
 use Rattle.derivation.specs.Tables.{inSetOf, inRelationOf, tableWord, written}
 use Rattle.derivation.specs.Reading as Proofs

@@ -11,8 +11,8 @@ use Rattle.semantics.specs.Derivations.{Derivation, skip, Tables}
 use Rattle.semantics.specs.Checking.{Broken, firstFault}
 use Rattle.semantics.specs.StepNumber as StepNumber
 use Rattle.handler.specs.Reading.{handler, readHandler}
-use Rattle.handler.specs.Header.{headerAt}
-use Rattle.handler.specs.declared.Header.the-variants.{Sizes}
+use Rattle.expressions.specs.Header.{headerAt}
+use Rattle.expressions.specs.declared.Header.the-variants.{Sizes}
 use Rattle.handler.specs.Statements as Stmts
 use Rattle.handler.specs.declared.Part.{Part}
 use Rattle.handler.specs.declared.Part.the-variants.{Nil, Assign, Pair, Test, Nothing}

@@ -8,8 +8,8 @@ use lib.IntN.{pos, negsuc}
 use Rattle.semantics.specs.Language.{int}
 use Rattle.values.specs.declared.After.the-variants.{State, OutOfRange}
 use Rattle.bits.specs.Fields.{bitLength, bitAt, bitsAt, isThere, fieldAt}
-use Rattle.handler.specs.Header.{sizeRead, addSize, sizesRead, countRead, headerAt, sizesOf}
-use Rattle.handler.specs.Expressions.{signed, integerHead, truthHead, variableHead, operationHead, payloadHead, tagHead, exprHead, exprAt, wholeExpr}
+use Rattle.expressions.specs.Header.{sizeRead, addSize, sizesRead, countRead, headerAt, sizesOf}
+use Rattle.expressions.specs.Expressions.{signed, integerHead, truthHead, variableHead, operationHead, payloadHead, tagHead, exprHead, exprAt, wholeExpr}
 use Rattle.values.specs.Values.{machineAt, valueAt, whereAt, afterAt, agreeAt}
 
 -- Variables 0 and 1, at bits 13 and 17.

@@ -14,12 +14,12 @@ use Rattle.states.specs.Sets.{has}
 use Rattle.states.proofs.Search.{and-left, and-right, and-both, or-left, or-right, or-cases, bool-ext, below-cases}
 use Rattle.semantics.specs.Language.{Val, Expr, eqZ}
 use Rattle.semantics.specs.States.{machineOf, value, isTruth, storeOf}
-use Rattle.handler.specs.declared.Header.the-variants.{Sizes, Fault}
+use Rattle.expressions.specs.declared.Header.the-variants.{Sizes, Fault}
 use Rattle.values.specs.declared.After.the-variants.{OutOfRange}
-use Rattle.handler.specs.Header.{headerAt, sizesOf}
-use Rattle.handler.specs.Expressions.{good, wholeExpr}
+use Rattle.expressions.specs.Header.{headerAt, sizesOf}
+use Rattle.expressions.specs.Expressions.{good, wholeExpr}
 use Rattle.values.specs.Values.{countOf, statesOf, afterOf, machineAt, valueAt, whereAt, afterAt, agreeAt}
-use Rattle.handler.proofs.Heads.{head-read}
+use Rattle.expressions.proofs.Heads.{head-read}
 
 -- Where the head was read.
 module _ (bytes : List ℕ) (count n first : ℕ) (head : headerAt bytes ≡ Sizes count n first) where

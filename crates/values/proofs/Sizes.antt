@@ -12,11 +12,11 @@ use Rattle.bits.specs.Fields.{bitsAt, fieldAt}
 use Rattle.bits.specs.declared.Field.the-variants.{Missing}
 use Rattle.bits.proofs.Laws.{found}
 use Rattle.semantics.specs.States.{product}
-use Rattle.handler.specs.declared.Header.{Header}
-use Rattle.handler.specs.declared.Header.the-variants.{Sizes, Fault}
-use Rattle.handler.specs.Header.{headerAt, sizesOf}
+use Rattle.expressions.specs.declared.Header.{Header}
+use Rattle.expressions.specs.declared.Header.the-variants.{Sizes, Fault}
+use Rattle.expressions.specs.Header.{headerAt, sizesOf}
 use Rattle.values.specs.Values.{countOf}
-use Rattle.handler.proofs.Heads.{head-read}
+use Rattle.expressions.proofs.Heads.{head-read}
 
 pub sizes-length : (s : List ℕ) (k : ℕ) → length (sizesOf s k) ≡ k
 unfolding sizesOf

@@ -14,10 +14,10 @@ use Rattle.states.specs.declared.StateSet.{StateSet}
 use Rattle.states.specs.Sets.{has}
 use Rattle.semantics.specs.Language.{Val, int, truth, Expr, lit, var, apply}
 use Rattle.semantics.specs.States.{Machine, machineOf, value, weight, both}
-use Rattle.handler.specs.declared.ExprHead.the-variants as head
-use Rattle.handler.specs.Header.{headerAt, sizesOf}
-use Rattle.handler.specs.Expressions.{exprHead, ExprRead, good, bad, joined, operands, exprAt, wholeExpr}
-use Rattle.handler.proofs.Folds.{Headed, headed-as, expr-step, inner-step}
+use Rattle.expressions.specs.declared.ExprHead.the-variants as head
+use Rattle.expressions.specs.Header.{headerAt, sizesOf}
+use Rattle.expressions.specs.Expressions.{exprHead, ExprRead, good, bad, joined, operands, exprAt, wholeExpr}
+use Rattle.expressions.proofs.Folds.{Headed, headed-as, expr-step, inner-step}
 use Rattle.values.specs.declared.Worths.{Worths}
 use Rattle.values.specs.Values.{countOf, integerIn, valueIn, Applied, Walked, valueRead, machineAt, valueAt}
 use Rattle.values.proofs.Sizes.{sound}

@@ -11,13 +11,13 @@ use lib.Signed.{mag}
 use Rattle.states.specs.Sets.{has}
 use Rattle.semantics.specs.Language.{Val, int, truth, eqZ}
 use Rattle.semantics.specs.States.{Machine, machineOf, value, isTruth, storeOf}
-use Rattle.handler.specs.declared.Header.{Header}
-use Rattle.handler.specs.declared.Header.the-variants as header
+use Rattle.expressions.specs.declared.Header.{Header}
+use Rattle.expressions.specs.declared.Header.the-variants as header
 use Rattle.values.specs.declared.Worths.{Worths}
 use Rattle.values.specs.declared.After.{After}
 use Rattle.values.specs.declared.After.the-variants.{State, OutOfRange}
-use Rattle.handler.specs.Header.{headerAt, sizesOf}
-use Rattle.handler.specs.Expressions.{ExprRead, good, bad, wholeExpr}
+use Rattle.expressions.specs.Header.{headerAt, sizesOf}
+use Rattle.expressions.specs.Expressions.{ExprRead, good, bad, wholeExpr}
 
 -- The integer that a row has at a state, and the value: of kind 0 an integer, of kind 1 a truth value, else none.
 abbrev pub integerIn : Worths → ℕ → ℤ

@@ -1,9 +1,9 @@
 // What expressions are worth at states, by re-reading the file. An expression is walked once for all states: each node gives a row.
 use bits::Field;
-use handler::ExprHead;
-use handler::Header;
-use handler::expressions::expr_head_at;
-use handler::head::read_header;
+use expressions::ExprHead;
+use expressions::Header;
+use expressions::expr_head_at;
+use expressions::head::read_header;
 use states::StateSet;
 ghost use mathlib.Core.Path.{_≡_};
 ghost use mathlib.Core.Bool.{true, false, _&&_, _||_};
@@ -17,8 +17,8 @@ ghost use lib.Signed.{mag};
 ghost use Rattle.states.specs.Sets.{mem, has};
 ghost use Rattle.semantics.specs.Language.{int, truth, ofIntegers, ofTruths, apply};
 ghost use Rattle.semantics.specs.States.{machineOf, both, weight as weightIn, stored};
-ghost use Rattle.handler.specs.Header.{headerAt, sizesOf};
-ghost use Rattle.handler.specs.Expressions.{exprAt};
+ghost use Rattle.expressions.specs.Header.{headerAt, sizesOf};
+ghost use Rattle.expressions.specs.Expressions.{exprAt};
 ghost use Rattle.values.specs.Values.{countOf, valueIn, integerIn, Applied, Walked, afterOf, leads, whereAt, afterAt, agreeAt};
 
 // What an expression is worth at each state: of kind 0 an integer, of kind 1 a truth value, of kind 2 nothing, as where the kinds

@@ -7,8 +7,8 @@ use lib.Dec.{eqb}
 use borrow.Author.Needs.{needs}
 use Rattle.states.specs.Search.{any}
 use Rattle.states.proofs.Search.{any-more, any-done}
-use Rattle.handler.specs.Shapes.{inMask}
-use Rattle.handler.proofs.Heads.{head-read}
+use Rattle.expressions.specs.Shapes.{inMask}
+use Rattle.expressions.proofs.Heads.{head-read}
 use Rattle.effects.specs.Places.{movedFrom}
 use Rattle.effects.proofs.Moving.{mask-moves, mask-none, moves-none}
 use Rattle.effects.proofs.moved.Statement.{statement}

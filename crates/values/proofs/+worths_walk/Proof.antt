@@ -9,13 +9,13 @@ use mir.Facts.{toZ-ofZ}
 use borrow.Author.Needs.{needs}
 use borrow.Fn.Kinds.{In}
 use borrow.Fn.PlainCycle.{Measures, is, falls, and}
-use Rattle.handler.proofs.Folds.{Headed, headed-as}
+use Rattle.expressions.proofs.Folds.{Headed, headed-as}
 use Rattle.values.proofs.Sizes.{sound}
 use Rattle.values.proofs.Walking.{walked-out, walked-integer, walked-truth, walked-variable, walked-fault, walked-left, walked-right, operands-small, walked-both}
 use Rattle.values.proofs.worths_walk.Reads as worths-walk
 use Rattle.values.proofs.worths_walk.Kinds as worths-walk-kinds
 use Rattle.values.proofs.+worths_walk.Lts-worths_walk as lts
-use Rattle.handler.proofs.expressions.expr_head_at.Reads as expr-head-at-reads
+use Rattle.expressions.proofs.expr_head_at.Reads as expr-head-at-reads
 use Rattle.values.proofs.always.Reads as always-reads
 use Rattle.values.proofs.apply_op.Reads as apply-op-reads
 use Rattle.values.proofs.integers_of.Reads as integers-of-reads

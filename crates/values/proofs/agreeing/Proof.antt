@@ -7,8 +7,8 @@ use borrow.Author.Tests.{lt-ltb}
 use lib.IntN.{pos}
 use Rattle.semantics.specs.Language.{eqZ}
 use Rattle.semantics.specs.States.{machineOf}
-use Rattle.handler.specs.declared.Header.the-variants.{Sizes}
-use Rattle.handler.specs.Header.{headerAt, sizesOf}
+use Rattle.expressions.specs.declared.Header.the-variants.{Sizes}
+use Rattle.expressions.specs.Header.{headerAt, sizesOf}
 use Rattle.values.proofs.Sizes.{sound}
 use Rattle.values.proofs.Laws.{count-read, at-most, agree-here, agree-past, fault-past, state-past, Holds, holds-none, holds-more}
 use Rattle.values.proofs.agreeing.Statement.{statement}

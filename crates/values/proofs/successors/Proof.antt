@@ -16,8 +16,8 @@ use Rattle.states.specs.Sets.{mem, has}
 use Rattle.states.proofs.Words.{mem-nought}
 use Rattle.semantics.specs.Language.{int, truth}
 use Rattle.semantics.specs.States.{machineOf, storeOf, stored}
-use Rattle.handler.specs.declared.Header.the-variants.{Sizes}
-use Rattle.handler.specs.Header.{headerAt, sizesOf}
+use Rattle.expressions.specs.declared.Header.the-variants.{Sizes}
+use Rattle.expressions.specs.Header.{headerAt, sizesOf}
 use Rattle.values.specs.declared.Worths.{Worths}
 use Rattle.values.specs.declared.After.{After}
 use Rattle.values.specs.declared.After.the-variants.{OutOfRange}

@@ -15,8 +15,8 @@ use lib.ListN.{getD}
 use Rattle.states.specs.Sets.{has}
 use Rattle.semantics.specs.Language.{int, truth}
 use Rattle.semantics.specs.States.{isTruth}
-use Rattle.handler.specs.declared.Header.the-variants.{Sizes}
-use Rattle.handler.specs.Header.{headerAt}
+use Rattle.expressions.specs.declared.Header.the-variants.{Sizes}
+use Rattle.expressions.specs.Header.{headerAt}
 use Rattle.values.specs.declared.Worths.{Worths}
 use Rattle.values.specs.Values.{integerIn, valueIn, valueAt, whereAt}
 use Rattle.values.proofs.Laws.{count-read, at-most, where-here, where-past, fault-past}

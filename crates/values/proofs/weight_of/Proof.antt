@@ -5,7 +5,7 @@ use mathlib.Core.Path.{_≡_, sym, ap₂, _∙_}
 use borrow.Author.Needs.{needs}
 use lib.ListN.{drop}
 use Rattle.semantics.specs.States.{product}
-use Rattle.handler.specs.Header.{sizesOf}
+use Rattle.expressions.specs.Header.{sizesOf}
 use Rattle.values.proofs.Sizes.{product-none, product-before, sound}
 use Rattle.values.proofs.weight_of.Statement.{statement}
 use Rattle.values.proofs.weight_of.Tie as tie

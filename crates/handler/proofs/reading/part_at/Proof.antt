@@ -1,10 +1,10 @@
 -- The head, and where the first part ends, say what the statement is made of.
 use mathlib.Core.Path.{_≡_, sym, _∙_}
 use borrow.Author.Needs.{needs}
-use Rattle.handler.specs.Expressions.{wholeExpr}
+use Rattle.expressions.specs.Expressions.{wholeExpr}
 use Rattle.handler.specs.Statements.{wholeStmt}
 use Rattle.handler.specs.Shapes.{pairPart, testPart, headPart, partAt}
-use Rattle.handler.proofs.Shapes.{shaped, faulted}
+use Rattle.expressions.proofs.Shapes.{shaped, faulted}
 use Rattle.handler.proofs.StmtShapes.{stmt-shaped, stmt-faulted}
 use Rattle.handler.proofs.reading.part_at.Statement.{statement}
 use Rattle.handler.proofs.reading.part_at.Tie as tie

@@ -4,7 +4,7 @@ use native.Mathlib.Omega.{arith}
 use borrow.Author.Needs.{needs}
 use Rattle.handler.specs.Reading.{readHandler}
 use Rattle.handler.specs.Shapes.{fileOf}
-use Rattle.handler.proofs.Heads.{head-read}
+use Rattle.expressions.proofs.Heads.{head-read}
 use Rattle.handler.proofs.StmtShapes.{judged}
 use Rattle.handler.proofs.reading.read_handler.Statement.{statement}
 use Rattle.handler.proofs.reading.read_handler.Tie as tie

@@ -10,15 +10,16 @@ use borrow.Fn.PlainCycle.{Measures, is, falls, and}
 use Rattle.semantics.specs.declared.Kind.the-variants.{Truth}
 use Rattle.handler.specs.declared.StmtHead.{StmtHead}
 use Rattle.handler.specs.declared.StmtShape.the-variants.{Whole}
-use Rattle.handler.specs.Expressions.{wholeExpr}
+use Rattle.expressions.specs.Expressions.{wholeExpr}
 use Rattle.handler.specs.Statements.{stmtHead, stmtAt}
-use Rattle.handler.specs.Shapes.{exprShape, stmtShape}
+use Rattle.expressions.specs.Shapes.{exprShape}
+use Rattle.handler.specs.Shapes.{stmtShape}
 use Rattle.handler.proofs.StmtFolds.{stmt-step, Marked, marked, stmt-read}
 use Rattle.handler.proofs.StmtShapes.{stmt-shaped, assign-shape, left-fault, pair-shape, test-fault, test-shape}
 use Rattle.handler.proofs.statements.stmt_walk.Reads as stmt-walk
 use Rattle.handler.proofs.statements.stmt_walk.Kinds as stmt-walk-kinds
 use Rattle.handler.proofs.statements.+stmt_walk.Lts-stmt_walk as stmt-walk-lts
-use Rattle.handler.proofs.expressions.expr_shape.Reads as expr-shape-reads
+use Rattle.expressions.proofs.expr_shape.Reads as expr-shape-reads
 use Rattle.handler.proofs.statements.assigned_of.Reads as assigned-of-reads
 use Rattle.handler.proofs.statements.pair_of.Reads as pair-of-reads
 use Rattle.handler.proofs.statements.stmt_head_at.Reads as stmt-head-at-reads
