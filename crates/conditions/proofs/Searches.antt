@@ -10,6 +10,9 @@ use lib.Dec.{ltb}
 use borrow.Author.Tests.{lt-ltb}
 use Rattle.states.specs.Search.{implies, all, any, Search, must, given, named, each, holds}
 use Rattle.states.proofs.Search.{and-left, and-right, and-both, implies-intro, implies-at, implies-false, bool-ext, beq-true, true-or-false, all-intro, all-at, all-cong, any-intro, any-true, any-at, holds-must, holds-given, holds-named, holds-orElse, holds-each, each-cong}
+use Rattle.states.specs.Sets.{has}
+use Rattle.states.specs.declared.StateSet.{StateSet}
+use Rattle.states.proofs.Members.{Passed, passed-all}
 use Rattle.semantics.specs.Conditions.{inSet}
 use Rattle.conditions.specs.Words.{bare}
 
@@ -42,6 +45,12 @@ module _ (n : ℕ) (p : ℕ → Bool) (f : ℕ → Search) where
 
   pub inSet-at : holds (inSet (bare n) p f) ≡ true → (s : ℕ) → s < n → p s ≡ true → holds (f s) ≡ true
   inSet-at h s l = implies-at _ _ (all-at n _ (sym holds-inSet ∙ h) s l)
+
+-- The end of a loop over the members of a set: each was asked.
+pub passed-search : (n : ℕ) (f : ℕ → Search) (p : ℕ → Bool) (from rest : StateSet) (held : Bool) → rest .bits ≡ 0 → ((s : ℕ) → has from s ≡ p s)
+    → Passed n (λ s. holds (f s)) from rest held → held ≡ holds (inSet (bare n) p f)
+passed-search n f p from rest held e members done =
+    passed-all n _ from rest held e done ∙ all-cong n _ _ (λ s l. ap (λ b. implies b (holds (f s))) (members s)) ∙ sym (holds-inSet n p f)
 
 -- Every member is a state below n that a word can hold.
 abbrev pub Small : ℕ → (ℕ → Bool) → Type 0

@@ -10,7 +10,7 @@ use mathlib.Core.List.{List}
 use lib.Dec.{leb, ltb, eqb}
 use borrow.Author.Tests.{lt-ltb, le-ltb, eqb-true}
 use Rattle.states.specs.Search.{implies, all, any, must, holds}
-use Rattle.states.proofs.Search.{and-left, and-right, or-cases, all-cong, all-not, any-cong, any-none, holds-must}
+use Rattle.states.proofs.Search.{and-left, and-right, or-cases, all-intro, all-cong, all-not, any-cong, any-none, any-at, holds-must}
 use Rattle.semantics.specs.Language.{Expr, eqZ}
 use Rattle.semantics.specs.States.{Machine, valueOf}
 use Rattle.semantics.specs.Derivations.{Spec}
@@ -87,6 +87,20 @@ alike-within n p g r f q own =
     implies-cong : (x y z : Bool) → (x ≡ true → y ≡ z) → implies x y ≡ implies x z
     implies-cong true y z h = h refl
     implies-cong false y z h = refl
+
+-- Of a set those members will do that start a pair: from another every pair lies in any set.
+pub starts-within : (n : ℕ) (p d : ℕ → Bool) (r f : ℕ → ℕ → Bool) → ((s : ℕ) → p s ≡ true → s < 64) → ((s : ℕ) → d s ≡ (ltb s 64 && any n (r s)))
+    → all n (λ s. implies (p s && d s) (all n (λ t. implies (r s t) (f s t)))) ≡ all n (λ s. implies (p s) (all n (λ t. implies (r s t) (f s t))))
+unfolding implies
+starts-within n p d r f below starts = all-cong n _ _ (λ s l. part (p s) (d s) _ (λ e o. idle s (rw (lt-ltb s 64 (below s e)) at (sym (starts s) ∙ o))))
+  where
+    part : (a b c : Bool) → (a ≡ true → b ≡ false → c ≡ true) → implies (a && b) c ≡ implies a c
+    part true true c h = refl
+    part true false c h = sym (h refl refl)
+    part false b c h = refl
+
+    idle : (s : ℕ) → any n (r s) ≡ false → all n (λ t. implies (r s t) (f s t)) ≡ true
+    idle s none = all-intro n _ (λ t l. rw (any-at n (r s) none t l))
 
 -- A variable is moved where not every row from a state of P lies in the states that agree.
 pub not-kept : (bytes : List ℕ) (n : ℕ) (work : List ℕ) (own : Names) (v : ℕ)

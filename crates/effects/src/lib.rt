@@ -14,6 +14,7 @@ use semantics::Kind;
 use states::StateSet;
 use states::relations::included_from;
 use states::relations::row;
+use states::relations::starting;
 use values::agreeing;
 use values::successors;
 ghost use mathlib.Core.Path.{_≡_};
@@ -155,12 +156,13 @@ pub fn after_rows(src: &[u8], v: u32, at: usize) -> [u64; 64]
     successors(src, v, at)
 }
 
-// Whether R leads from any state of P to one that differs in variable v. The states that agree with the first left in it are taken
-// out together, and R must lead from all of these to states that agree.
+// Whether R leads from any state of P to one that differs in variable v. Only the states that start a pair of R matter; those that
+// agree with the least of them are taken out together, and R must lead from all of these to states that agree.
 fn moves_variable(src: &[u8], n: u32, work: &[u64], own: Names, v: u32) -> bool
     ensures { λ out. ⌜ out ≡ any n (movedFrom (now (src .entry)) n (now (work .entry)) own v) ⌝ }
 {
-    let mut rest = set_at(n, work, own.p);
+    let starts = starting(n, rows_of(work, own.r));
+    let mut rest = set_at(n, work, own.p).meet(starts);
     let mut kept = true;
     while rest.bits != 0 {
         let first = u64::trailing_zeros(rest.bits);

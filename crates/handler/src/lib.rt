@@ -1,4 +1,6 @@
 // The handler file, read from its bits: nothing is kept in memory, a statement or an expression is the number of its first bit.
+use expressions::Misfit;
+
 pub mod reading;
 pub mod statements;
 

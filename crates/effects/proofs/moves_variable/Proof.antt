@@ -14,11 +14,11 @@ use Rattle.states.proofs.Search.{and-left, and-both, or-right}
 use Rattle.states.proofs.Reach.{count, count-more}
 use Rattle.states.proofs.Members.{first-below, first-in, Passed, passed-none, passed-part, passed-all}
 use Rattle.values.specs.Values.{agreeAt}
-use Rattle.conditions.specs.Words.{wordRelation}
+use Rattle.conditions.specs.Words.{wordSet, wordRelation}
 use Rattle.conditions.specs.declared.Names.{Names}
 use Rattle.conditions.proofs.Words.{set-small, leads-cong}
 use Rattle.effects.specs.Places.{movedFrom}
-use Rattle.effects.proofs.Moving.{alike, alike-within, not-kept}
+use Rattle.effects.proofs.Moving.{alike, alike-within, starts-within, not-kept}
 use Rattle.effects.proofs.moves_variable.Statement.{statement}
 use Rattle.effects.proofs.moves_variable.Tie as tie
 
@@ -34,13 +34,13 @@ abbrev μ-loop : tie.MeasureT-loop
 
 -- What is taken out.
 group : (c : tie.After-join Inv-loop μ-loop) → let d = c .before .before .before .before .before .before in
-    let a = d .before .before .before .before .args in
+    let a = d .before .before .before .before .before .before .before .args in
     let first = trailingZeros 64 (d .loop .rest .bits) in
     (s : ℕ) → has (c .join .result) s ≡ (agreeAt (a .src .now) (a .v) first s || ltb s 64 && eqb first s)
 group c s = c .join .ensures s ∙ ap₂ _||_ (c .before .before .agreeing .ensures s) (c .before .single .ensures s)
 
 loop-holds : tie.Need-loop-holds Inv-loop μ-loop
-loop-holds c = passed-none _ _ _ (λ s e. set-small _ _ _ s (sym (c .set-at .ensures s) ∙ e) .1)
+loop-holds c = passed-none _ _ _ (λ s e. set-small _ _ _ s (sym (c .before .set-at .ensures s) ∙ and-left _ _ (sym (c .meet .ensures s) ∙ e)) .1)
 
 loop-less : tie.Need-loop-less Inv-loop μ-loop
 loop-less c =
@@ -57,22 +57,28 @@ loop-again : tie.Need-loop-again Inv-loop μ-loop
 loop-again c =
     let d = c .before .before .before in
     let e = d .before .before .before .before .before .before in
-    let a = e .before .before .before .before .args in
-    let part = c .before .before .meet .ensures in
+    let a = e .before .before .before .before .before .before .before .args in
+    let part = c .before .before .meet2 .ensures in
     passed-part (a .n) (keeps (a .src .now) (a .n) (a .work .now) (a .own) (a .v)) _ _ _ _ _ (has (d .join .result)) (c .narrow .ensures)
     (c .before .leads-into .ensures
     ∙ leads-cong _ _ _ _ _ _ part (d .before .before .agreeing .ensures)
     ∙ alike-within (a .n) (has (e .loop .rest)) _ (wordRelation (a .n) (a .work .now) (a .own .r)) (agreeAt (a .src .now) (a .v)) _ (λ s h. alike (a .src .now) (a .v) _ s (sym (group d s) ∙ h)))
     (e .loop .inv)
 
+-- The answer, of which the function gives the negation.
 moved : (c : tie.Else1 Inv-loop μ-loop) → let d = c .before .before in
-    let a = d .before .before .before .before .args in
+    let a = d .before .before .before .before .before .before .before .args in
     not (d .loop .kept) ≡ any (a .n) (movedFrom (a .src .now) (a .n) (a .work .now) (a .own) (a .v))
+unfolding wordRelation
 moved c =
     let d = c .before .before in
-    let a = d .before .before .before .before .args in
+    let e = d .before in
+    let a = e .before .before .before .before .before .before .args in
+    let members : (s : ℕ) → has (e .meet .result) s ≡ (wordSet (a .n) (a .work .now) (a .own .p) s && has (e .before .before .starting .result) s) =
+    λ s. e .meet .ensures s ∙ ap (λ b. b && has (e .before .before .starting .result) s) (e .before .set-at .ensures s) in
     ap not (passed-all _ _ _ _ _ (c .if1 .left) (d .loop .inv)
-    ∙ ap (λ p. all (a .n) (λ s. implies (p s) (keeps (a .src .now) (a .n) (a .work .now) (a .own) (a .v) s))) (fun-ext (d .before .set-at .ensures)))
+    ∙ ap (λ p. all (a .n) (λ s. implies (p s) (keeps (a .src .now) (a .n) (a .work .now) (a .own) (a .v) s))) (fun-ext members)
+    ∙ starts-within (a .n) _ _ _ _ (λ s h. set-small (a .n) (a .work .now) (a .own .p) s h .0) (rw (e .before .before .before .rows-of .ensures) at (e .before .before .starting .ensures)))
     ∙ not-kept (a .src .now) (a .n) (a .work .now) (a .own) (a .v)
 
 returns : tie.Need-returns Inv-loop μ-loop
@@ -84,6 +90,6 @@ returns-2 c = sym (ap not (c .if2 .left)) ∙ moved (c .before)
 pub moves-variable-spec : {M : Type 1} → statement M
 moves-variable-spec =
     tie.close
-    (tie.spec Inv-loop μ-loop (λ c κs. search needs) loop-holds (λ c κs. search needs) (λ c κs. search needs)
+    (tie.spec Inv-loop μ-loop (λ c κs. search needs) (λ c κs. search needs) (λ c κs. search needs) (λ c κs. search needs) loop-holds (λ c κs. search needs) (λ c κs. search needs)
     (λ c κs. search needs) (λ c κs. search needs) (λ c κs. search needs) (λ c κs. search needs) loop-less loop-again returns
     returns-2)

@@ -1,16 +1,16 @@
 -- The states taken out of p have their chains in whole, and those left are still to be asked. `passed-more` asks the least.
 use Prim.Native.Nat.{ℕ}
-use mathlib.Core.Path.{_∙_, sym, ap, fun-ext}
+use mathlib.Core.Path.{_∙_, sym}
 use mathlib.Core.List.{List}
 use lib.Count.{trailingZeros}
 use borrow.Author.Needs.{needs}
-use Rattle.states.specs.Search.{implies, all, Search, must, holds}
+use Rattle.states.specs.Search.{Search, must, holds}
 use Rattle.states.specs.Sets.{has}
 use Rattle.states.proofs.Reach.{count}
-use Rattle.states.proofs.Members.{Taken, first-below, first-taken, fewer, Passed, passed-none, passed-more, passed-all}
+use Rattle.states.proofs.Members.{Taken, first-below, first-taken, fewer, Passed, passed-none, passed-more}
 use Rattle.semantics.specs.Conditions.{inSet}
 use Rattle.conditions.specs.Words.{bare, wordRelation}
-use Rattle.conditions.proofs.Searches.{holds-inSet, chains-through}
+use Rattle.conditions.proofs.Searches.{passed-search, chains-through}
 use Rattle.conditions.proofs.Words.{set-small, relation-small}
 use Rattle.conditions.proofs.tables.chains_into.Statement.{statement}
 use Rattle.conditions.proofs.tables.chains_into.Tie as tie
@@ -54,9 +54,7 @@ returns : tie.Need-returns Inv-loop μ-loop
 returns c =
     let d = c .before .before in
     let a = d .before .before .before .before .before .args in
-    passed-all _ _ _ _ _ (c .if1 .left) (d .loop .inv)
-    ∙ ap (λ p. all (a .n) (λ s. implies (p s) (holds (chains (a .n) (a .work .now) (a .a) (a .b) (a .whole) s)))) (fun-ext (d .before .set-at .ensures))
-    ∙ sym (holds-inSet (a .n) _ _)
+    passed-search (a .n) (chains (a .n) (a .work .now) (a .a) (a .b) (a .whole)) _ _ _ _ (c .if1 .left) (d .before .set-at .ensures) (d .loop .inv)
 
 pub chains-into-spec : {M : Type 1} → statement M
 chains-into-spec =
