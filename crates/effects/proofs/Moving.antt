@@ -11,7 +11,7 @@ use lib.Dec.{leb, ltb, eqb}
 use borrow.Author.Tests.{lt-ltb, le-ltb, eqb-true}
 use Rattle.states.specs.Search.{implies, all, any, must, holds}
 use Rattle.states.proofs.Search.{and-left, and-right, or-cases, all-intro, all-cong, all-not, any-cong, any-none, any-at, holds-must}
-use Rattle.semantics.specs.Language.{Expr, eqZ}
+use Rattle.semantics.specs.Language.{Expr, lit, var, op, eqZ}
 use Rattle.semantics.specs.States.{Machine, valueOf}
 use Rattle.semantics.specs.Derivations.{Spec}
 use Rattle.semantics.specs.Conditions.{occurrences, inSet, moves, c41, c50}
@@ -147,6 +147,12 @@ moves-none bytes k place head c v = rw head
 
 pub mask-none : (v : ℕ) → inMask 0 v ≡ false
 mask-none v = ap (λ x. eqb (x % 2) 1) (zero-div (2 ^ v))
+
+-- No occurrence is of no variable.
+pub none-occur : (p : ℕ → Bool) → ((v : ℕ) → p v ≡ false) → (e : Expr) → occurrences p e ≡ 0
+none-occur p never (lit c) = refl
+none-occur p never (var v) = rw (never v)
+none-occur p never (op o l r) = rw (none-occur p never l, none-occur p never r)
 
 -- How many occurrences of masked variables the shape of an expression counts.
 abbrev pub occursIn : ExprShape → ℕ

@@ -198,10 +198,14 @@ pub fn moved(src: &[u8], work: &[u64], own: Names) -> u32
     mask
 }
 
-// How many variable occurrences in the expression at a cursor are of the variables in a mask.
+// How many variable occurrences in the expression at a cursor are of the variables in a mask. None is of no variable: R mostly
+// moves none, and then nothing is read.
 fn occurrences_of(src: &[u8], mask: u32, at: usize) -> u32
     ensures { λ out. ⌜ out ≡ occurrences (inMask mask) (exprHere (now (src .entry)) at) ⌝ }
 {
+    if mask == 0 {
+        return 0;
+    }
     let Header::Sizes(count, _, _) = read_header(src) else {
         return 0;
     };
