@@ -5,12 +5,12 @@ use native.Mathlib.Decide.{decLt}
 use native.Mathlib.Omega.{arith}
 use mathlib.Core.Path.{_≡_, refl, sym, ap, _∙_, fun-ext}
 use mathlib.Core.Logic.{⊎-elim}
-use mathlib.Core.Bool.{Bool, true, false, not, _&&_, _||_, and-false}
+use mathlib.Core.Bool.{Bool, true, false, not, _&&_, _||_, and-false, true≢false}
 use mathlib.Core.List.{List}
 use lib.Dec.{leb, ltb, eqb}
 use borrow.Author.Tests.{lt-ltb, le-ltb, eqb-true}
 use Rattle.states.specs.Search.{implies, all, any, must, holds}
-use Rattle.states.proofs.Search.{and-left, and-right, or-cases, all-intro, all-cong, all-not, any-cong, any-none, any-at, holds-must}
+use Rattle.states.proofs.Search.{and-left, and-right, and-both, or-cases, bool-ext, not-true-false, all-cong, all-not, any-cong, any-none, any-at, holds-must}
 use Rattle.semantics.specs.Language.{Expr, lit, var, op, eqZ}
 use Rattle.semantics.specs.States.{Machine, valueOf}
 use Rattle.semantics.specs.Derivations.{Spec}
@@ -28,7 +28,12 @@ use Rattle.values.proofs.Sizes.{size-past}
 use Rattle.values.proofs.Laws.{agree-here}
 use Rattle.conditions.specs.declared.Names.{Names}
 use Rattle.conditions.specs.Words.{bare, wordSet, wordRelation, wordSpec}
-use Rattle.conditions.proofs.Searches.{holds-inSet, within}
+use Rattle.conditions.proofs.Searches.{holds-inSet, within, part-within}
+use Rattle.conditions.proofs.Words.{set-small}
+use Rattle.states.specs.Sets.{has}
+use Rattle.states.specs.declared.StateSet.{StateSet}
+use Rattle.states.proofs.Members.{Passed}
+use Rattle.states.proofs.Rows.{mem-below}
 use Rattle.effects.specs.Places.{machineHere, exprRead, movedFrom}
 use Rattle.effects.proofs.Places.{states-here}
 use Rattle.effects.proofs.Rows.{any-itself}
@@ -88,26 +93,42 @@ alike-within n p g r f q own =
     implies-cong true y z h = h refl
     implies-cong false y z h = refl
 
--- Of a set those members will do that start a pair: from another every pair lies in any set.
-pub starts-within : (n : ℕ) (p d : ℕ → Bool) (r f : ℕ → ℕ → Bool) → ((s : ℕ) → p s ≡ true → s < 64) → ((s : ℕ) → d s ≡ (ltb s 64 && any n (r s)))
-    → all n (λ s. implies (p s && d s) (all n (λ t. implies (r s t) (f s t)))) ≡ all n (λ s. implies (p s) (all n (λ t. implies (r s t) (f s t))))
-unfolding implies
-starts-within n p d r f below starts = all-cong n _ _ (λ s l. part (p s) (d s) _ (λ e o. idle s (rw (lt-ltb s 64 (below s e)) at (sym (starts s) ∙ o))))
+-- A pair leads from one set's states to a state that differs, where not every row from them lies in the states that agree.
+pub not-kept : (n : ℕ) (p : ℕ → Bool) (r f : ℕ → ℕ → Bool)
+    → not (all n (λ s. implies (p s) (all n (λ t. implies (r s t) (f s t))))) ≡ any n (λ s. p s && any n (λ t. r s t && not (f s t)))
+not-kept n p r f = not-within n _ _ ∙ any-cong n _ _ (λ s l. ap (λ b. p s && b) (not-within n _ _))
+
+-- What is asked of some of the states left in a set fails of them all where it fails of these.
+pub passed-not : (n : ℕ) (f : ℕ → Bool) (from rest : StateSet) (g : ℕ → Bool) → Passed n f from rest true
+    → all n (λ s. implies (has rest s && g s) (f s)) ≡ false → all n (λ s. implies (has from s) (f s)) ≡ false
+passed-not n f from rest g old fails =
+    not-true-false _ (λ e. true≢false (sym (part-within n (has rest) g f (old .same ∙ e)) ∙ fails))
+
+-- A set met with the states below n has those of its members.
+pub below-itself : (set : StateSet) (n s : ℕ) → s < n → (has set s && (ltb s 64 && ltb s n)) ≡ has set s
+unfolding has
+below-itself set n s l = bool-ext _ _ (and-left (has set s) _) (λ h. and-both _ _ h (and-both _ _ (lt-ltb s 64 (mem-below _ s h)) (lt-ltb s n l)))
+
+-- Of a set those members will do that start a pair.
+pub starts-moved : (bytes : List ℕ) (n : ℕ) (work : List ℕ) (own : Names) (v : ℕ) (from starts : StateSet)
+    → ((s : ℕ) → has starts s ≡ (ltb s 64 && any n (wordRelation n work (own .r) s)))
+    → ((s : ℕ) → has from s ≡ (wordSet n work (own .p) s && has starts s))
+    → any n (λ s. has from s && any n (λ t. wordRelation n work (own .r) s t && not (agreeAt bytes v s t))) ≡ any n (movedFrom bytes n work own v)
+unfolding movedFrom
+starts-moved bytes n work own v from starts start both =
+    any-cong n _ _ (λ s l. ap (λ b. b && any n (differs s)) (both s) ∙ part (wordSet n work (own .p) s) (has starts s) _ (λ e o.
+    idle s (rw (lt-ltb s 64 (set-small n work (own .p) s e .0)) at (sym (start s) ∙ o))))
   where
-    part : (a b c : Bool) → (a ≡ true → b ≡ false → c ≡ true) → implies (a && b) c ≡ implies a c
+    differs : ℕ → ℕ → Bool
+    differs s t = wordRelation n work (own .r) s t && not (agreeAt bytes v s t)
+
+    part : (a b c : Bool) → (a ≡ true → b ≡ false → c ≡ false) → (a && b && c) ≡ (a && c)
     part true true c h = refl
     part true false c h = sym (h refl refl)
     part false b c h = refl
 
-    idle : (s : ℕ) → any n (r s) ≡ false → all n (λ t. implies (r s t) (f s t)) ≡ true
-    idle s none = all-intro n _ (λ t l. rw (any-at n (r s) none t l))
-
--- A variable is moved where not every row from a state of P lies in the states that agree.
-pub not-kept : (bytes : List ℕ) (n : ℕ) (work : List ℕ) (own : Names) (v : ℕ)
-    → not (all n (λ s. implies (wordSet n work (own .p) s) (all n (λ t. implies (wordRelation n work (own .r) s t) (agreeAt bytes v s t)))))
-    ≡ any n (movedFrom bytes n work own v)
-unfolding movedFrom
-not-kept bytes n work own v = not-within n _ _ ∙ any-cong n _ _ (λ s l. ap (λ b. wordSet n work (own .p) s && b) (not-within n _ _))
+    idle : (s : ℕ) → any n (wordRelation n work (own .r) s) ≡ false → any n (λ t. wordRelation n work (own .r) s t && not (agreeAt bytes v s t)) ≡ false
+    idle s none = any-none n _ (λ t l. rw (any-at n (wordRelation n work (own .r) s) none t l))
 
 module _ (bytes : List ℕ) (count n first : ℕ) (head : headerAt bytes ≡ Sizes count n first) (work : List ℕ) (own : Names) where
   agree : (v s t : ℕ) → s < n → t < n → agreeAt bytes v s t ≡ eqZ (machineHere bytes .get s v) (machineHere bytes .get t v)

@@ -18,7 +18,7 @@ use states::relations::starting;
 use values::agreeing;
 use values::successors;
 ghost use mathlib.Core.Path.{_≡_};
-ghost use mathlib.Core.Bool.{_&&_, _||_};
+ghost use mathlib.Core.Bool.{not, _&&_, _||_};
 ghost use Prim.Native.Nat.{ℕ, _<_};
 ghost use lib.Dec.{leb, ltb, eqb};
 ghost use Rattle.states.specs.Search.{any, must, given, holds};
@@ -27,7 +27,8 @@ ghost use Rattle.states.specs.Relations.{rel};
 ghost use Rattle.semantics.specs.Conditions.{occurrences, inSet, moves, c46, c52, c54, c56};
 ghost use Rattle.expressions.specs.Shapes.{inMask};
 ghost use Rattle.conditions.specs.Words.{bare, wordSet, wordRelation, wordSpec};
-ghost use Rattle.effects.specs.Places.{machineHere, exprHere, afterHere, movedFrom};
+ghost use Rattle.values.specs.Values.{agreeAt};
+ghost use Rattle.effects.specs.Places.{machineHere, exprHere, afterHere};
 
 // 46: s in P, test false: (s,s) in Q.
 pub fn skips(n: u32, work: &[u64], own: Names, falsity: StateSet) -> bool
@@ -156,22 +157,24 @@ pub fn after_rows(src: &[u8], v: u32, at: usize) -> [u64; 64]
     successors(src, v, at)
 }
 
-// Whether R leads from any state of P to one that differs in variable v. Only the states that start a pair of R matter; those that
-// agree with the least of them are taken out together, and R must lead from all of these to states that agree.
-fn moves_variable(src: &[u8], n: u32, work: &[u64], own: Names, v: u32) -> bool
-    ensures { λ out. ⌜ out ≡ any n (movedFrom (now (src .entry)) n (now (work .entry)) own v) ⌝ }
+// Whether relation r leads from any state of the set to one that differs in variable v. The states that agree with the least are
+// taken out together: r must lead from all of these to states that agree.
+fn moves_variable(src: &[u8], n: u32, work: &[u64], from: StateSet, r: u32, v: u32) -> bool
+    ensures { λ out.
+        ⌜ out ≡ any n (λ s. has from s && any n (λ t. wordRelation n (now (work .entry)) r s t && not (agreeAt (now (src .entry)) v s t))) ⌝ }
 {
-    let starts = starting(n, rows_of(work, own.r));
-    let mut rest = set_at(n, work, own.p).meet(starts);
-    let mut kept = true;
+    let mut rest = from.meet(StateSet::below(n));
     while rest.bits != 0 {
         let first = u64::trailing_zeros(rest.bits);
         let agree = agreeing(src, v, first);
         let alike = agree.join(StateSet::single(first));
-        kept = kept & leads_into(n, work, rest.meet(alike), own.r, agree);
-        rest = rest.narrow(alike);
+        if leads_into(n, work, rest.meet(alike), r, agree) {
+            rest = rest.narrow(alike);
+        } else {
+            return true;
+        }
     }
-    if kept { false } else { true }
+    false
 }
 
 // The mask with variable v too, where it is one of those looked for.
@@ -182,7 +185,7 @@ fn with_variable(mask: u32, v: u32, one: bool) -> u32
     if one { mask | (1 << v) } else { mask }
 }
 
-// The mask of the variables that R moves, over the states that the file declares.
+// The mask of the variables that R moves, over the states that the file declares. Only the states of P that start a pair matter.
 pub fn moved(src: &[u8], work: &[u64], own: Names) -> u32
     ensures { λ out.
         ⌜ ((v : ℕ) → inMask out v ≡ moves (machineHere (now (src .entry)))
@@ -191,9 +194,11 @@ pub fn moved(src: &[u8], work: &[u64], own: Names) -> u32
     let Header::Sizes(count, n, _) = read_header(src) else {
         return 0;
     };
+    let starts = starting(n, rows_of(work, own.r));
+    let from = set_at(n, work, own.p).meet(starts);
     let mut mask = 0;
     for v in 0..count {
-        mask = with_variable(mask, v, moves_variable(src, n, work, own, v));
+        mask = with_variable(mask, v, moves_variable(src, n, work, from, own.r, v));
     }
     mask
 }
