@@ -1,6 +1,7 @@
 //! Medians of the time that each checker takes, all measured in one run so that the machine
-//! treats them alike. `--smoke` measures hardly at all: it shows that the rows still work. Any
-//! other word keeps only the rows whose names start with it.
+//! treats them alike. `--smoke` measures hardly at all: it shows that the rows still work.
+//! `--growth` measures how the cost grows with states and nodes instead. Any other word keeps
+//! only the rows whose names start with it.
 
 mod rows;
 
@@ -15,11 +16,13 @@ const CALLS: u32 = 8;
 
 fn main() {
     let words: Vec<String> = std::env::args().skip(1).collect();
-    let rounds = if words.iter().any(|word| word == "--smoke") { 3 } else { 401 };
-    let wanted = words.iter().find(|word| *word != "--smoke").map_or("", String::as_str);
+    let given = |flag: &str| words.iter().any(|word| word == flag);
+    let rounds = if given("--smoke") { 3 } else { 401 };
+    let rows = if given("--growth") { rows::growth() } else { rows::all() };
+    let wanted = words.iter().find(|word| !word.starts_with("--")).map_or("", String::as_str);
     let checkers = checkers();
     print_head(&checkers);
-    for row in rows::all().into_iter().filter(|row| row.name.starts_with(wanted)) {
+    for row in rows.into_iter().filter(|row| row.name.starts_with(wanted)) {
         let verdict = judge(&row.handler, &row.proof);
         assert!((row.expected)(verdict), "{}: {verdict:?}", row.name);
         print_row(&row, verdict, &measure(&row, &checkers, rounds));

@@ -69,6 +69,28 @@ fn typical() -> Pair {
     pair(&sizes, statement, root)
 }
 
+/// The same statement over more and more states, then more and more statements over 64.
+pub fn growth() -> Vec<Row> {
+    let states: [(&str, &[usize]); 4] = [
+        ("10 blocks, N = 8", &[2, 4]),
+        ("10 blocks, N = 16", &[4, 4]),
+        ("10 blocks, N = 32", &[4, 4, 2]),
+        ("10 blocks, N = 64", &[4, 4, 4]),
+    ];
+    let blocks = [("1 block, N = 64", 1), ("2 blocks, N = 64", 2), ("5 blocks, N = 64", 5)];
+    let by_states = states.map(|(name, sizes)| accepted(name, in_blocks(sizes, 10)));
+    let by_nodes = blocks.map(|(name, count)| accepted(name, in_blocks(&[4, 4, 4], count)));
+    by_states.into_iter().chain(by_nodes).collect()
+}
+
+/// So many parallels of two loops each, 6 statements a block, and a weaken over every node.
+fn in_blocks(sizes: &[usize], count: usize) -> Pair {
+    let block = parallel(count_down(0), count_up(1, 3));
+    let statement = in_order((0..count).map(|_| block.clone()).collect());
+    let root = derive(sizes, &statement, &Relation::none(), true).doubled();
+    pair(sizes, statement, root)
+}
+
 /// Ten parallels of two loops each, and a weaken over every node.
 fn large() -> Pair {
     let sizes = [4, 4, 4];
