@@ -4,4 +4,5 @@ pub mod Integers
 pub mod Rows
 pub mod Walking
 pub mod Laws
+pub mod Runs
 pub mod Cases

@@ -6,7 +6,7 @@ use expressions::expr_head_at;
 use expressions::head::read_header;
 use states::StateSet;
 ghost use mathlib.Core.Path.{_≡_};
-ghost use mathlib.Core.Bool.{true, false, _&&_, _||_};
+ghost use mathlib.Core.Bool.{true, false, not, _&&_, _||_};
 ghost use mathlib.Core.List.{List, [], _∷_};
 ghost use mathlib.Core.Option.{none, some};
 ghost use Prim.Native.Nat.{ℕ, _+_, _/_, _%_, _≤_, _<_};
@@ -303,25 +303,43 @@ pub fn truths_at(src: &[u8], at: usize) -> Truths
     }
 }
 
+// The states found so far, and those from `from` on that are below `end`.
+fn with_run(found: StateSet, from: u32, end: u32) -> StateSet
+    ensures { λ r. ⌜ ((t : ℕ) → has r t ≡ (has found t || ltb t 64 && (ltb t end && not (ltb t from)))) ⌝ }
+{
+    found.join(StateSet::below(end).narrow(StateSet::below(from)))
+}
+
+// The states below n at which a variable of this weight and size has this value: a run of `weight` states in every weight * size,
+// so that no state is divided.
+fn states_with(n: u32, weight: u32, size: u32, value: u32) -> StateSet
+    requires { ⌜ (n ≤ 64) × (0 < weight) × (weight ≤ 64) × (size ≤ 64) × (value < size) ⌝ }
+    ensures { λ r. ⌜ ((t : ℕ) → has r t ≡ (ltb t n && eqb value (t / weight % size))) ⌝ }
+{
+    let period = weight * size;
+    let mut found = StateSet::empty();
+    let mut from = value * weight;
+    while from < n {
+        found = with_run(found, from, from + weight);
+        from += period;
+    }
+    found.meet(StateSet::below(n))
+}
+
 // The states that agree with s in variable v; none where s is no state.
 pub fn agreeing(src: &[u8], v: u32, s: u32) -> StateSet
     ensures { λ r. ⌜ ((t : ℕ) → has r t ≡ agreeAt (now (src .entry)) v s t) ⌝ }
 {
-    let mut found = StateSet::empty();
+    let none = StateSet::empty();
     let Header::Sizes(count, n, _) = read_header(src) else {
-        return found;
+        return none;
     };
     if s >= n {
-        return found;
+        return none;
     }
     let weight = weight_of(src, count, v);
     let size = size_of(src, count, v);
-    let value = s / weight % size;
-    for t in 0..n {
-        let other = t / weight % size;
-        found = with_state(found, t, (value <= other) & (other <= value));
-    }
-    found
+    states_with(n, weight, size, s / weight % size)
 }
 
 // The state after a store of n at state s, in a variable of this weight and size.
