@@ -9,11 +9,11 @@ use mathlib.Core.Bool.{Bool, true, false, _&&_, Bool·beq, true≢false}
 use lib.Dec.{ltb}
 use borrow.Author.Tests.{lt-ltb}
 use Rattle.states.specs.Search.{implies, all, any, Search, must, given, named, each, holds}
-use Rattle.states.proofs.Search.{and-left, and-right, and-both, implies-intro, implies-at, implies-false, bool-ext, beq-true, true-or-false, all-intro, all-at, all-cong, any-intro, any-true, any-at, holds-must, holds-given, holds-named, holds-orElse, holds-each, each-cong}
+use Rattle.states.proofs.Search.{and-left, and-right, and-both, implies-intro, implies-at, implies-false, bool-ext, beq-refl, beq-true, true-or-false, all-intro, all-at, all-cong, any-intro, any-true, any-at, holds-must, holds-given, holds-named, holds-orElse, holds-each, each-cong}
 use Rattle.states.specs.Sets.{has}
 use Rattle.states.specs.declared.StateSet.{StateSet}
 use Rattle.states.proofs.Members.{Passed, passed-all}
-use Rattle.semantics.specs.Conditions.{inSet}
+use Rattle.semantics.specs.Conditions.{inSet, sameSet, sameRelation, liesIn}
 use Rattle.conditions.specs.Words.{bare}
 
 -- The step and the end of a loop that counts the states up.
@@ -58,6 +58,15 @@ Small n p = (t : ℕ) → p t ≡ true → (t < 64) × (t < n)
 
 pub within : (n : ℕ) (p q : ℕ → Bool) → all n (λ t. implies (p t) (q t)) ≡ holds (inSet (bare n) p (λ t. must (q t)))
 within n p q = sym (holds-inSet n p _ ∙ all-cong n _ _ (λ t l. ap (implies (p t)) (holds-must (q t))))
+
+-- A relation lies in itself and is the same as itself.
+pub lies-in-itself : (n : ℕ) (r : ℕ → ℕ → Bool) → holds (liesIn (bare n) r r) ≡ true
+unfolding liesIn
+lies-in-itself n r = holds-each n _ ∙ all-intro n _ (λ s l. inSet-intro n (r s) _ (λ t k e. holds-must (r s t) ∙ e))
+
+pub same-as-itself : (n : ℕ) (r : ℕ → ℕ → Bool) → sameRelation (bare n) r r ≡ true
+unfolding sameRelation sameSet
+same-as-itself n r = all-intro n _ (λ s l. all-intro n _ (λ t k. beq-refl (r s t)))
 
 -- Ends of pairs that start in a set, each in another set.
 pub ends-within : (n : ℕ) (p : ℕ → Bool) (r : ℕ → ℕ → Bool) (q : ℕ → Bool)

@@ -1,13 +1,13 @@
--- The rows below s lie in the other's. `holds-next` adds the next.
+-- A table lies in itself. Of two tables the rows below s lie in the other's, and `holds-next` adds the next.
 use Prim.Native.Nat.{_≤_, _-_}
 use native.Mathlib.Omega.{arith}
-use mathlib.Core.Path.{_≡_, _∙_, ap₂, refl}
+use mathlib.Core.Path.{_≡_, _∙_, sym, ap₂, refl}
 use mathlib.Core.Bool.{_&&_}
 use borrow.Author.Needs.{needs}
 use Rattle.states.specs.Search.{must, each, holds}
 use Rattle.semantics.specs.Conditions.{inSet, liesIn}
 use Rattle.conditions.specs.Words.{bare, wordRelation}
-use Rattle.conditions.proofs.Searches.{holds-next, each-done}
+use Rattle.conditions.proofs.Searches.{holds-next, each-done, lies-in-itself}
 use Rattle.conditions.proofs.tables.lies_in.Statement.{statement}
 use Rattle.conditions.proofs.tables.lies_in.Tie as tie
 
@@ -25,10 +25,13 @@ loop-again : tie.Need-loop-again Inv-loop μ-loop
 loop-again c = (omega arith, ap₂ _&&_ (c .before .before .loop .inv .1) (c .row-lies-in .ensures) ∙ holds-next _ _)
 
 returns : tie.Need-returns Inv-loop μ-loop
+returns c = rw (c .if1 .taken) (sym (lies-in-itself _ _))
+
+returns-2 : tie.Need-returns-2 Inv-loop μ-loop
 unfolding liesIn
-returns c = c .before .loop .inv .1 ∙ each-done _ _ _ (c .before .loop .inv .0) (c .loop-test .left)
+returns-2 c = c .before .loop .inv .1 ∙ each-done _ _ _ (c .before .loop .inv .0) (c .loop-test .left)
 
 pub lies-in-spec : {M : Type 1} → statement M
 lies-in-spec =
     tie.close
-    (tie.spec Inv-loop μ-loop loop-holds (λ c κs. search needs) (λ c. search needs) (λ c. search needs) loop-again returns)
+    (tie.spec Inv-loop μ-loop returns loop-holds (λ c κs. search needs) (λ c. search needs) (λ c. search needs) loop-again returns-2)
