@@ -12,6 +12,7 @@ use Rattle.states.specs.Search.{implies, all, any, Search, must, given, named, 
 use Rattle.states.proofs.Search.{and-left, and-right, and-both, implies-intro, implies-at, implies-false, bool-ext, beq-refl, beq-true, true-or-false, all-intro, all-at, all-cong, any-intro, any-true, any-at, holds-must, holds-given, holds-named, holds-orElse, holds-each, each-cong}
 use Rattle.states.specs.Sets.{has}
 use Rattle.states.specs.declared.StateSet.{StateSet}
+use Rattle.states.proofs.Words.{mem-nought}
 use Rattle.states.proofs.Members.{Passed, passed-all}
 use Rattle.semantics.specs.Conditions.{inSet, sameSet, sameRelation, liesIn}
 use Rattle.conditions.specs.Words.{bare}
@@ -95,14 +96,20 @@ inSet-part n p d f clear =
     at h s l e (inl i) = inSet-at n _ f h s l (and-both _ _ e i)
     at h s l e (inr o) = clear s e o
 
--- Chains of two pairs through the states that start a pair of the second relation.
-pub chains-through : (n : ℕ) (a d : ℕ → Bool) (b : ℕ → ℕ → Bool) (f : ℕ → Search) → Small n a → ((t : ℕ) → d t ≡ (ltb t 64 && any n (b t)))
-    → holds (inSet (bare n) (λ t. a t && d t) (λ t. inSet (bare n) (b t) f)) ≡ holds (inSet (bare n) a (λ t. inSet (bare n) (b t) f))
-chains-through n a d b f small starts =
-    inSet-part n a d _ (λ t at out. inSet-intro n (b t) f (λ u l e. absurd (true≢false (sym e ∙ any-at n (b t) (none t at out) u l))))
+-- Where a search goes on by pairs, those members will do that start a pair; and where none does, it finds nothing.
+pub inSet-starting : (n : ℕ) (p d : ℕ → Bool) (r : ℕ → ℕ → Bool) (f : ℕ → ℕ → Search) → Small n p → ((s : ℕ) → d s ≡ (ltb s 64 && any n (r s)))
+    → holds (inSet (bare n) (λ s. p s && d s) (λ s. inSet (bare n) (r s) (f s))) ≡ holds (inSet (bare n) p (λ s. inSet (bare n) (r s) (f s)))
+inSet-starting n p d r f small starts =
+    inSet-part n p d _ (λ s at out. inSet-intro n (r s) _ (λ t l e. absurd (true≢false (sym e ∙ any-at n (r s) (none s at out) t l))))
   where
-    none : (t : ℕ) → a t ≡ true → d t ≡ false → any n (b t) ≡ false
-    none t at out = rw (lt-ltb t 64 (small t at .0)) at (sym (starts t) ∙ out)
+    none : (s : ℕ) → p s ≡ true → d s ≡ false → any n (r s) ≡ false
+    none s at out = rw (lt-ltb s 64 (small s at .0)) at (sym (starts s) ∙ out)
+
+pub inSet-none : (n : ℕ) (p : ℕ → Bool) (d : StateSet) (r : ℕ → ℕ → Bool) (f : ℕ → ℕ → Search) → Small n p
+    → ((s : ℕ) → has d s ≡ (ltb s 64 && any n (r s))) → d .bits ≡ 0 → holds (inSet (bare n) p (λ s. inSet (bare n) (r s) (f s))) ≡ true
+unfolding has
+inSet-none n p d r f small starts e =
+    sym (inSet-starting n p (has d) r f small starts) ∙ inSet-intro n _ _ (λ s l h. absurd (true≢false (sym (and-right (p s) _ h) ∙ rw e (mem-nought s))))
 
 -- Where a set holds all n states every pair ends in it.
 pub full-within : (n : ℕ) (p : ℕ → Bool) (r : ℕ → ℕ → Bool) (q : ℕ → Bool) → ((s : ℕ) → Small n (r s))

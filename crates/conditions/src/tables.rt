@@ -78,14 +78,20 @@ fn row_chains_into(
 }
 
 // Whether every pair of relation a that starts in set p, with a pair of b that goes on from it, makes a pair of whole. Only the
-// states of p are looked at, and of their ends only those that start a pair of b.
+// states of p that start a pair of a are looked at, and of their ends only those that start a pair of b: often there are none.
 pub fn chains_into(n: u32, work: &[u64], p: u32, a: u32, b: u32, whole: u32) -> bool
     ensures { λ out.
         ⌜ out ≡ holds (inSet (bare n) (wordSet n (now (work .entry)) p) (λ s. inSet (bare n) (wordRelation n (now (work .entry)) a s)
         (λ t. inSet (bare n) (wordRelation n (now (work .entry)) b t) (λ u. must (wordRelation n (now (work .entry)) whole s u))))) ⌝ }
 {
+    let mut rest = set_at(n, work, p).meet(starting(n, rows_of(work, a)));
+    if rest.bits == 0 {
+        return true;
+    }
     let through = starting(n, rows_of(work, b));
-    let mut rest = set_at(n, work, p);
+    if through.bits == 0 {
+        return true;
+    }
     let mut held = true;
     while rest.bits != 0 {
         let first = u64::trailing_zeros(rest.bits);
