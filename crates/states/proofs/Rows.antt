@@ -63,18 +63,25 @@ row-any n rows s =
     at : (k : ℕ) {j : ℕ} → ((t : ℕ) → rel n rows s t ≡ true → t < k) → (t : ℕ) × (t < j) × (rel n rows s t ≡ true) → any k (rel n rows s) ≡ true
     at k below w = any-intro k _ (w .0) (below (w .0) (w .2)) (w .2)
 
--- Of the states below n, t alone: it starts a pair where some pair starts in it.
-pub row-starts : (n : ℕ) (rows : List ℕ) (t : ℕ)
-    → any n (λ s. ltb t 64 && any n (rel n rows s) && eqb s t) ≡ (ltb t 64 && any n (rel n rows t))
-row-starts n rows t = bool-ext _ _ (λ h. there (any-true n _ h)) back
+-- Of the states whose rows are there, t alone: it starts a pair where some pair starts in it.
+pub row-starts : (n : ℕ) (rows : List ℕ) (k : ℕ) → ((s : ℕ) → s < 64 → s < n → s < length rows → s < k) → (t : ℕ)
+    → any k (λ s. ltb t 64 && any n (rel n rows s) && eqb s t) ≡ (ltb t 64 && any n (rel n rows t))
+row-starts n rows k enough t = bool-ext _ _ (λ h. there (any-true k _ h)) back
   where
-    there : (s : ℕ) × (s < n) × ((ltb t 64 && any n (rel n rows s) && eqb s t) ≡ true) → (ltb t 64 && any n (rel n rows t)) ≡ true
+    there : (s : ℕ) × (s < k) × ((ltb t 64 && any n (rel n rows s) && eqb s t) ≡ true) → (ltb t 64 && any n (rel n rows t)) ≡ true
     there w = let same = eqb-true (w .0) t (and-right (ltb t 64 && any n (rel n rows (w .0))) _ (w .2)) in rw same at (and-left (ltb t 64 && any n (rel n rows (w .0))) (eqb (w .0) t) (w .2))
 
-    back : (ltb t 64 && any n (rel n rows t)) ≡ true → any n (λ s. ltb t 64 && any n (rel n rows s) && eqb s t) ≡ true
+    long : (u : ℕ) → rel n rows t u ≡ true → Dec (t < length rows) → t < length rows
+    long u h (yes l) = l
+    long u h (no l) =
+        let past : getD rows t 0 ≡ 0 = List·getD-eq-default rows 0 (omega arith) in
+        absurd (true≢false (sym (rel-mem n rows t u h) ∙ rw past (mem-nought u)))
+
+    back : (ltb t 64 && any n (rel n rows t)) ≡ true → any k (λ s. ltb t 64 && any n (rel n rows s) && eqb s t) ≡ true
     back h =
         let w = any-true n _ (and-right (ltb t 64) _ h) in
-        any-intro n _ t (rel-between n rows t (w .0) (w .2) .0) (and-both _ _ h (eq-eqb t t refl))
+        any-intro k _ t (enough t (ltb-true t 64 (and-left (ltb t 64) _ h)) (rel-between n rows t (w .0) (w .2) .0) (long (w .0) (w .2) (decLt t (length rows))))
+        (and-both _ _ h (eq-eqb t t refl))
 
 -- Of the 64 rows, those below k hold the pairs of f: what a loop that fills the rows keeps.
 pub record Filled (f : ℕ → ℕ → Bool) (k : ℕ) (rows : List ℕ) : Type 0 where

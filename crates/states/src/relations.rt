@@ -5,7 +5,7 @@ ghost use mathlib.Core.Path.{_≡_};
 ghost use mathlib.Core.Logic.{_↔_};
 ghost use mathlib.Core.Bool.{true, _&&_, _||_, Bool·beq};
 ghost use Prim.Native.Nat.{ℕ, _<_, _≤_};
-ghost use lib.ListN.{getD};
+ghost use lib.ListN.{getD, length};
 ghost use lib.Dec.{ltb, eqb};
 ghost use Rattle.states.specs.Search.{implies, all, any};
 ghost use Rattle.states.specs.Sets.{has};
@@ -46,11 +46,31 @@ pub fn image(n: u32, set: StateSet, rows: &[u64]) -> StateSet
     ends.meet(states)
 }
 
-// The states found so far, with s where it starts a pair.
-fn with_start(n: u32, rows: &[u64], s: u32, found: StateSet) -> StateSet
-    ensures { λ r. ⌜ ((t : ℕ) → has r t ≡ (has found t || ltb t 64 && any n (rel n (now (rows .entry)) s) && eqb s t)) ⌝ }
+// How many of n states have a row in 64 rows.
+fn rows_held(n: u32) -> u32
+    ensures { λ r. ⌜ (r ≤ 64) × ((s : ℕ) → s < 64 → s < n → s < r) × (r ≤ n) ⌝ }
 {
-    if row(n, rows, s).is_empty() {
+    if n < 64 { n } else { 64 }
+}
+
+// How many of these rows the slice has, so that a loop over them need not ask at each where the slice or a set ends.
+fn rows_there(n: u32, rows: &[u64]) -> u32
+    ensures { λ r.
+        ⌜ (r ≤ n) × (r ≤ length (now (rows .entry))) × ((s : ℕ) → s < 64 → s < n → s < length (now (rows .entry)) → s < r) ⌝ }
+{
+    let held = rows_held(n);
+    if (held as usize) < rows.len() {
+        held
+    } else {
+        rows.len() as u32
+    }
+}
+
+// The states found so far, with s where its row is not empty.
+fn with_start(row: StateSet, s: u32, found: StateSet) -> StateSet
+    ensures { λ r. ⌜ ((t : ℕ) → has r t ≡ (has found t || ltb t 64 && any 64 (λ u. has row u) && eqb s t)) ⌝ }
+{
+    if row.is_empty() {
         found
     } else {
         found.join(StateSet::single(s))
@@ -61,18 +81,13 @@ fn with_start(n: u32, rows: &[u64], s: u32, found: StateSet) -> StateSet
 pub fn starting(n: u32, rows: &[u64]) -> StateSet
     ensures { λ r. ⌜ ((s : ℕ) → has r s ≡ (ltb s 64 && any n (rel n (now (rows .entry)) s))) ⌝ }
 {
+    let states = StateSet::below(n);
     let mut found = StateSet::empty();
-    for s in 0..n {
-        found = with_start(n, rows, s, found);
+    for s in 0..rows_there(n, rows) {
+        let bits = rows[s as usize];
+        found = with_start(StateSet { bits }.meet(states), s, found);
     }
     found
-}
-
-// How many of n states have a row in 64 rows.
-fn rows_held(n: u32) -> u32
-    ensures { λ r. ⌜ (r ≤ 64) × ((s : ℕ) → s < 64 → s < n → s < r) ⌝ }
-{
-    if n < 64 { n } else { 64 }
 }
 
 // The pairs of a followed by a pair of b. The result has 64 rows, so it starts in no state past them.

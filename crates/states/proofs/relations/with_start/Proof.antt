@@ -1,13 +1,10 @@
--- s is joined where its row is not empty, over the 64 states of a row as over the n.
+-- s is joined where its row is not empty.
 use mathlib.Core.Path.{_≡_, _∙_, sym, ap}
 use mathlib.Core.Bool.{Bool, true, false, not, _||_, or-false, and-true, and-false}
 use borrow.Author.Needs.{needs}
 use lib.Dec.{ltb}
 use Rattle.states.specs.Search.{any}
 use Rattle.states.specs.Sets.{has}
-use Rattle.states.specs.Relations.{rel}
-use Rattle.states.proofs.Search.{any-cong}
-use Rattle.states.proofs.Rows.{row-any}
 use Rattle.states.proofs.relations.with_start.Statement.{statement}
 use Rattle.states.proofs.relations.with_start.Tie as tie
 
@@ -15,9 +12,8 @@ turned : (a b : Bool) → a ≡ not b → b ≡ not a
 turned a true e = sym (ap not e)
 turned a false e = sym (ap not e)
 
-starts : (c : tie.After-is-empty) → let a = c .before .before .before .args in
-    any (a .n) (rel (a .n) (a .rows .now) (a .s)) ≡ not (c .is-empty .result)
-starts c = turned _ _ (c .is-empty .ensures ∙ ap not (any-cong 64 _ _ (λ t l. c .before .row .ensures t) ∙ row-any _ _ _))
+starts : (c : tie.After-is-empty) → any 64 (λ u. has (c .before .args .row) u) ≡ not (c .is-empty .result)
+starts c = turned _ _ (c .is-empty .ensures)
 
 returns : tie.Need-returns
 returns c t = rw (starts (c .before), c .if1 .taken, and-false (ltb t 64)) (sym (or-false _))
@@ -26,7 +22,7 @@ returns-2 : tie.Need-returns-2
 returns-2 c t =
     let d = c .before .before in
     rw (starts (d .before), d .if1 .left, and-true (ltb t 64))
-    (c .join .ensures t ∙ ap (λ b. has (d .before .before .before .before .args .found) t || b) (c .before .single .ensures t))
+    (c .join .ensures t ∙ ap (λ b. has (d .before .before .args .found) t || b) (c .before .single .ensures t))
 
 pub with-start-spec : {M : Type 1} → statement M
-with-start-spec = tie.close (tie.spec (λ c κs. search needs) (λ c κs. search needs) (λ c κs. search needs) (λ c κs. search needs) returns returns-2)
+with-start-spec = tie.close (tie.spec (λ c κs. search needs) (λ c κs. search needs) (λ c κs. search needs) returns returns-2)
