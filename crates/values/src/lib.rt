@@ -6,7 +6,7 @@ use expressions::expr_head_at;
 use expressions::head::read_header;
 use states::StateSet;
 ghost use mathlib.Core.Path.{_≡_};
-ghost use mathlib.Core.Bool.{true, false, not, _&&_, _||_};
+ghost use mathlib.Core.Bool.{true, false, cond, not, _&&_, _||_};
 ghost use mathlib.Core.List.{List, [], _∷_};
 ghost use mathlib.Core.Option.{none, some};
 ghost use Prim.Native.Nat.{ℕ, _+_, _/_, _%_, _≤_, _<_};
@@ -74,14 +74,38 @@ fn weight_of(src: &[u8], count: u32, v: u32) -> u32
     product
 }
 
-// The value at each of n states of a variable of this weight and size.
+// The number after x, and 0 after the last one below the limit.
+fn next_below(limit: u32, x: u32) -> u32
+    requires { ⌜ x < limit ⌝ }
+    ensures { λ r. ⌜ r ≡ (x + 1) % limit ⌝ }
+{
+    if x + 1 < limit { x + 1 } else { 0 }
+}
+
+// A variable's value at a state, from its value at the state before: the next one where a run of states with the same value ended.
+fn next_value(size: u32, value: u32, place: u32) -> u32
+    requires { ⌜ value < size ⌝ }
+    ensures { λ r. ⌜ r ≡ cond (eqb place 0) ((value + 1) % size) value ⌝ }
+{
+    if place == 0 {
+        next_below(size, value)
+    } else {
+        value
+    }
+}
+
+// The value at each of n states of a variable of this weight and size, counted along with the state's place in its run.
 fn variable_row(n: u32, weight: u32, size: u32) -> [i64; 64]
     requires { ⌜ (n ≤ 64) × (0 < weight) × (0 < size) ⌝ }
     ensures { λ r. ⌜ ((s : ℕ) → s < n → getD r s (pos 0) ≡ pos (s / weight % size)) ⌝ }
 {
     let mut row = [0i64; 64];
+    let mut place = 0;
+    let mut value = 0;
     for s in 0..n {
-        row[s as usize] = (s / weight % size) as i64;
+        row[s as usize] = value as i64;
+        place = next_below(weight, place);
+        value = next_value(size, value, place);
     }
     row
 }
