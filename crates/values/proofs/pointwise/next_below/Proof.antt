@@ -4,8 +4,8 @@ use native.Mathlib.Nat.{mod-eq-of-lt, mod-self}
 use native.Mathlib.Omega.{arith}
 use mathlib.Core.Path.{_≡_, sym}
 use borrow.Author.Needs.{needs}
-use Rattle.values.proofs.next_below.Statement.{statement}
-use Rattle.values.proofs.next_below.Tie as tie
+use Rattle.values.proofs.pointwise.next_below.Statement.{statement}
+use Rattle.values.proofs.pointwise.next_below.Tie as tie
 
 returns-2 : tie.Need-returns-2
 returns-2 c =

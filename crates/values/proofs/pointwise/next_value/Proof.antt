@@ -1,8 +1,8 @@
 -- By whether the run ended.
 use borrow.Author.Needs.{needs}
 use borrow.Author.Tests.{ne-eqb}
-use Rattle.values.proofs.next_value.Statement.{statement}
-use Rattle.values.proofs.next_value.Tie as tie
+use Rattle.values.proofs.pointwise.next_value.Statement.{statement}
+use Rattle.values.proofs.pointwise.next_value.Tie as tie
 
 returns : tie.Need-returns
 returns c = rw (c .before .if1 .taken) (c .next-below .ensures)

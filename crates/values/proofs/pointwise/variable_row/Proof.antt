@@ -12,8 +12,8 @@ use mir.Val.{SFits}
 use mir.Facts.{toZ-ofZ}
 use Rattle.values.proofs.Rows.{Entries, entries-none, entries-more}
 use Rattle.values.proofs.Runs.{value-on}
-use Rattle.values.proofs.variable_row.Statement.{statement}
-use Rattle.values.proofs.variable_row.Tie as tie
+use Rattle.values.proofs.pointwise.variable_row.Statement.{statement}
+use Rattle.values.proofs.pointwise.variable_row.Tie as tie
 
 abbrev Value : ℕ → ℕ → ℕ → ℤ → Type 0
 Value weight size s z = z ≡ pos (s / weight % size)
