@@ -1,11 +1,11 @@
 -- The states at which a variable has a given value stand in runs: each starts at a multiple of the weight w and is w states long,
 -- and the next one starts w * z later, for the size z.
 use Prim.Native.Nat.{ℕ, _+_, _*_, _/_, _%_, _≤_, _<_}
-use native.Mathlib.Nat.{div-lt-iff-lt-mul, le-div-iff-mul-le, div-eq-of-lt-le, div-add-mod, mod-eq-of-lt, add-mod-right, mul-le-mul-right, le-mul-of-pos-right}
+use native.Mathlib.Nat.{div-lt-iff-lt-mul, le-div-iff-mul-le, div-eq-of-lt-le, div-add-mod, mod-lt, mod-self, mod-add-mod, mod-eq-of-lt, add-mod-right, mul-le-mul-right, le-mul-of-pos-right}
 use native.Mathlib.Decide.{decLt}
 use native.Mathlib.Omega.{arith}
 use borrow.Author.Tests.{lt-ltb, le-ltb, eq-eqb, ne-eqb, eqb-true, leb-true, le-leb}
-use mathlib.Core.Bool.{Bool, true, false, not, _&&_, _||_, and-false, and-true, or-false}
+use mathlib.Core.Bool.{Bool, true, false, cond, not, _&&_, _||_, and-false, and-true, or-false}
 use mathlib.Core.Path.{_≡_, refl, sym, _∙_}
 use lib.Dec.{ltb, leb, eqb}
 use lib.IntN.{pos}
@@ -99,3 +99,18 @@ module _ (w z value : ℕ) (weighs : 0 < w) (inside : value < z) where
       by : Dec (t < n) → (ltb t from && has-value w z value t && (ltb t 64 && ltb t n)) ≡ (ltb t n && eqb value (t / w % z))
       by (yes l) = rw (lt-ltb t n l, lt-ltb t from (omega arith), lt-ltb t 64 (omega arith)) (and-true (eqb value (t / w % z)))
       by (no l) = rw (le-ltb t n (omega arith), and-false (ltb t 64)) (and-false (ltb t from && has-value w z value t))
+
+-- A variable's value at the next state: one on where a run ends there.
+pub value-on : (s w z : ℕ) → 0 < w → cond (eqb ((s + 1) % w) 0) ((s / w % z + 1) % z) (s / w % z) ≡ (s + 1) / w % z
+value-on s w z weighs = by (decLt (s % w + 1) w)
+  where
+    by : Dec (s % w + 1 < w) → cond (eqb ((s + 1) % w) 0) ((s / w % z + 1) % z) (s / w % z) ≡ (s + 1) / w % z
+    by (yes l) =
+        let same : (s + 1) / w ≡ s / w = div-eq-of-lt-le w (omega (arith, div-add-mod s w)) (omega (arith, div-add-mod s w)) in
+        let inner : (s + 1) % w ≡ s % w + 1 = sym (mod-add-mod s w 1) ∙ mod-eq-of-lt l in
+        rw (same, inner, ne-eqb (s % w + 1) 0 (omega arith))
+    by (no l) =
+        let last : s % w + 1 ≡ w = omega (arith, mod-lt s weighs) in
+        let more : (s + 1) / w ≡ s / w + 1 = div-eq-of-lt-le w (omega (arith, div-add-mod s w)) (omega (arith, div-add-mod s w)) in
+        let first : (s + 1) % w ≡ 0 = sym (mod-add-mod s w 1) ∙ rw last (mod-self w) in
+        rw (more, first) (mod-add-mod (s / w) z 1)

@@ -16,13 +16,13 @@ use Rattle.values.proofs.worths_walk.Reads as worths-walk
 use Rattle.values.proofs.worths_walk.Kinds as worths-walk-kinds
 use Rattle.values.proofs.+worths_walk.Lts-worths_walk as lts
 use Rattle.expressions.proofs.expr_head_at.Reads as expr-head-at-reads
-use Rattle.values.proofs.always.Reads as always-reads
+use Rattle.values.proofs.pointwise.always.Reads as always-reads
 use Rattle.values.proofs.apply_op.Reads as apply-op-reads
 use Rattle.values.proofs.integers_of.Reads as integers-of-reads
 use Rattle.values.proofs.nothing.Reads as nothing-reads
 use Rattle.values.proofs.size_of.Reads as size-of-reads
 use Rattle.values.proofs.truths_of.Reads as truths-of-reads
-use Rattle.values.proofs.variable_row.Reads as variable-row-reads
+use Rattle.values.proofs.pointwise.variable_row.Reads as variable-row-reads
 use Rattle.values.proofs.weight_of.Reads as weight-of-reads
 use Rattle.values.proofs.+worths_walk.{statement}
 use Rattle.values.proofs.+worths_walk.Tie.{close}

@@ -8,8 +8,8 @@ use mir.Syntax.{w64}
 use mir.Val.{SFits}
 use mir.Facts.{toZ-ofZ}
 use Rattle.values.proofs.Integers.{mag-add, mag-minus}
-use Rattle.values.proofs.sum.Statement.{statement}
-use Rattle.values.proofs.sum.Tie as tie
+use Rattle.values.proofs.pointwise.sum.Statement.{statement}
+use Rattle.values.proofs.pointwise.sum.Tie as tie
 
 sum-fits : (a b : ℤ) → mag a + mag b < 8192 → SFits w64 (a +ℤ b)
 sum-fits a b small = record { sfits = omega (arith, mag-add a b) }

@@ -2,8 +2,8 @@
 use mathlib.Core.Path.{_∙_}
 use borrow.Author.Needs.{needs}
 use borrow.Author.Tests.{lt-ltb}
-use Rattle.values.proofs.always.Statement.{statement}
-use Rattle.values.proofs.always.Tie as tie
+use Rattle.values.proofs.pointwise.always.Statement.{statement}
+use Rattle.values.proofs.pointwise.always.Tie as tie
 
 returns : tie.Need-returns
 returns c s l = rw (c .before .if1 .taken) (c .below .ensures s ∙ rw (lt-ltb s 64 l))

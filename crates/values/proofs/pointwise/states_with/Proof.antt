@@ -5,8 +5,8 @@ use native.Mathlib.Omega.{arith}
 use borrow.Author.Needs.{needs}
 use Rattle.values.proofs.Laws.{Holds}
 use Rattle.values.proofs.Runs.{Starts, has-value, first-run, next-run, no-run, one-run, all-runs}
-use Rattle.values.proofs.states_with.Statement.{statement}
-use Rattle.values.proofs.states_with.Tie as tie
+use Rattle.values.proofs.pointwise.states_with.Statement.{statement}
+use Rattle.values.proofs.pointwise.states_with.Tie as tie
 
 abbrev Inv-loop : tie.InvT-loop
 Inv-loop n weight size value period found₀ from₀ found from =

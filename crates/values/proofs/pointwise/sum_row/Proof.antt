@@ -12,8 +12,8 @@ use mir.Syntax.{w64}
 use mir.Facts.{toZ-ofZ}
 use Rattle.semantics.specs.Language.{int, ofIntegers}
 use Rattle.values.proofs.Rows.{Entries, entries-none, entries-more}
-use Rattle.values.proofs.sum_row.Statement.{statement}
-use Rattle.values.proofs.sum_row.Tie as tie
+use Rattle.values.proofs.pointwise.sum_row.Statement.{statement}
+use Rattle.values.proofs.pointwise.sum_row.Tie as tie
 
 abbrev Sum : ℕ → List ℤ → List ℤ → ℕ → ℤ → Type 0
 Sum o left right s z =

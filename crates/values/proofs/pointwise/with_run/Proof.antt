@@ -4,8 +4,8 @@ use mathlib.Core.Path.{_≡_, refl, ap, _∙_}
 use borrow.Author.Needs.{needs}
 use lib.Dec.{ltb}
 use Rattle.states.specs.Sets.{has}
-use Rattle.values.proofs.with_run.Statement.{statement}
-use Rattle.values.proofs.with_run.Tie as tie
+use Rattle.values.proofs.pointwise.with_run.Statement.{statement}
+use Rattle.values.proofs.pointwise.with_run.Tie as tie
 
 -- Both are of the first 64 states.
 shared : (a b c : Bool) → (a && b && not (a && c)) ≡ (a && (b && not c))

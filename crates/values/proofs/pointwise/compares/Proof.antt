@@ -2,8 +2,8 @@
 use native.Mathlib.Omega.{arith}
 use mathlib.Core.Path.{_≡_}
 use mir.Facts.{toZ-ofZ}
-use Rattle.values.proofs.compares.Statement.{statement}
-use Rattle.values.proofs.compares.Tie as tie
+use Rattle.values.proofs.pointwise.compares.Statement.{statement}
+use Rattle.values.proofs.pointwise.compares.Tie as tie
 
 returns : tie.Need-returns
 returns c = rw (toZ-ofZ (c .before .fits .a), toZ-ofZ (c .before .fits .b), c .match .keys1)

@@ -3,8 +3,8 @@ use mathlib.Core.Bool.{_||_, or-false}
 use mathlib.Core.Path.{_∙_, sym, ap}
 use borrow.Author.Needs.{needs}
 use Rattle.states.specs.Sets.{has}
-use Rattle.values.proofs.with_state.Statement.{statement}
-use Rattle.values.proofs.with_state.Tie as tie
+use Rattle.values.proofs.pointwise.with_state.Statement.{statement}
+use Rattle.values.proofs.pointwise.with_state.Tie as tie
 
 returns : tie.Need-returns
 returns c t =

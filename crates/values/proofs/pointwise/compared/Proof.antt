@@ -13,8 +13,8 @@ use mir.Facts.{toZ-ofZ}
 use Rattle.semantics.specs.Language.{truth, ofIntegers}
 use Rattle.semantics.specs.States.{isTruth}
 use Rattle.values.proofs.Laws.{Holds, holds-none, holds-more}
-use Rattle.values.proofs.compared.Statement.{statement}
-use Rattle.values.proofs.compared.Tie as tie
+use Rattle.values.proofs.pointwise.compared.Statement.{statement}
+use Rattle.values.proofs.pointwise.compared.Tie as tie
 
 abbrev Inv-loop : tie.InvT-loop
 Inv-loop n o left right found₀ s₀ found s =
