@@ -113,11 +113,11 @@ inSet-none n p d r f small starts e =
 
 -- Where a set holds all n states every pair ends in it.
 pub full-within : (n : ℕ) (p : ℕ → Bool) (r : ℕ → ℕ → Bool) (q : ℕ → Bool) → ((s : ℕ) → Small n (r s))
-    → all 64 (λ t. Bool·beq (q t) (ltb t 64 && ltb t n)) ≡ true
+    → all 64 (λ t. implies (ltb t 64 && ltb t n) (q t)) ≡ true
     → holds (inSet (bare n) p (λ s. inSet (bare n) (r s) (λ t. must (q t)))) ≡ true
 full-within n p r q small full =
-    inSet-intro n p _ (λ s l ps. inSet-intro n (r s) _ (λ t k st. holds-must (q t) ∙ beq-true _ _ (all-at 64 _ full t (small s t st .0))
-    ∙ and-both _ _ (lt-ltb t 64 (small s t st .0)) (lt-ltb t n k)))
+    inSet-intro n p _ (λ s l ps. inSet-intro n (r s) _ (λ t k st. holds-must (q t) ∙ implies-at _ _ (all-at 64 _ full t (small s t st .0))
+    (and-both _ _ (lt-ltb t 64 (small s t st .0)) (lt-ltb t n k))))
 
 -- So a comparison of words answers for the n states.
 pub small-all : (n : ℕ) (p q : ℕ → Bool) → Small n p → all 64 (λ t. implies (p t) (q t)) ≡ all n (λ t. implies (p t) (q t))

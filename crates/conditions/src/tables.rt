@@ -1,6 +1,7 @@
 // The tables in the work words, by number, and what the conditions compare: word i is set i, and the rows of relation r start at
 // word 16 + 64 r. Any n and any words will do: only the states below n are looked at, and a word past the end is empty.
 use states::StateSet;
+use states::relations::full;
 use states::relations::image;
 use states::relations::row;
 use states::relations::same_members;
@@ -55,7 +56,7 @@ pub fn leads_into(n: u32, work: &[u64], from: StateSet, r: u32, into: StateSet) 
 }
 
 // Whether every pair of relation a from s to a state of the set through, with a pair of b that goes on from it, makes a pair of
-// whole. Where whole leads from s to all states there is nothing to look at.
+// whole.
 fn row_chains_into(
     n: u32,
     work: &[u64],
@@ -69,22 +70,20 @@ fn row_chains_into(
         ⌜ out ≡ holds (inSet (bare n) (λ t. wordRelation n (now (work .entry)) a s t && has through t)
         (λ t. inSet (bare n) (wordRelation n (now (work .entry)) b t) (λ u. must (wordRelation n (now (work .entry)) whole s u)))) ⌝ }
 {
-    let ends = row_at(n, work, whole, s);
-    if ends.same(StateSet::below(n)) {
-        true
-    } else {
-        leads_into(n, work, row_at(n, work, a, s).meet(through), b, ends)
-    }
+    let from = row_at(n, work, a, s).meet(through);
+    leads_into(n, work, from, b, row_at(n, work, whole, s))
 }
 
 // Whether every pair of relation a that starts in set p, with a pair of b that goes on from it, makes a pair of whole. Only the
-// states of p that start a pair of a are looked at, and of their ends only those that start a pair of b: often there are none.
+// states of p that start a pair of a and do not lead to all states by whole are looked at, and of their ends only those that start
+// a pair of b: often there are none.
 pub fn chains_into(n: u32, work: &[u64], p: u32, a: u32, b: u32, whole: u32) -> bool
     ensures { λ out.
         ⌜ out ≡ holds (inSet (bare n) (wordSet n (now (work .entry)) p) (λ s. inSet (bare n) (wordRelation n (now (work .entry)) a s)
         (λ t. inSet (bare n) (wordRelation n (now (work .entry)) b t) (λ u. must (wordRelation n (now (work .entry)) whole s u))))) ⌝ }
 {
-    let mut rest = set_at(n, work, p).meet(starting(n, rows_of(work, a)));
+    let open = set_at(n, work, p).narrow(full(n, rows_of(work, whole)));
+    let mut rest = open.meet(starting(n, rows_of(work, a)));
     if rest.bits == 0 {
         return true;
     }
