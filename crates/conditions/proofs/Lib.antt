@@ -2,3 +2,4 @@
 pub mod Searches
 pub mod Words
 pub mod Bare
+pub mod Idle

@@ -7,10 +7,10 @@ use states::relations::row;
 use states::relations::same_members;
 use states::relations::starting;
 ghost use mathlib.Core.Path.{_≡_};
-ghost use mathlib.Core.Bool.{_&&_, _||_};
+ghost use mathlib.Core.Bool.{not, _&&_, _||_};
 ghost use Prim.Native.Nat.{ℕ, _+_, _*_};
 ghost use lib.ListN.{drop};
-ghost use Rattle.states.specs.Search.{must, given, holds};
+ghost use Rattle.states.specs.Search.{any, must, given, holds};
 ghost use Rattle.states.specs.Sets.{has};
 ghost use Rattle.semantics.specs.Conditions.{inSet, sameSet, sameRelation, liesIn};
 ghost use Rattle.conditions.specs.Words.{bare, wordSet, wordRelation};
@@ -45,6 +45,13 @@ pub fn row_at(n: u32, work: &[u64], r: u32, s: u32) -> StateSet
     ensures { λ out. ⌜ ((t : ℕ) → has out t ≡ wordRelation n (now (work .entry)) r s t) ⌝ }
 {
     row(n, rows_of(work, r), s)
+}
+
+// Whether relation r has no pair at all: an idle rely breaks nothing.
+pub fn idle(n: u32, work: &[u64], r: u32) -> bool
+    ensures { λ out. ⌜ out ≡ not (any 64 (λ s. any n (wordRelation n (now (work .entry)) r s))) ⌝ }
+{
+    starting(n, rows_of(work, r)).is_empty()
 }
 
 // Whether every pair of relation r that starts in the one set ends in the other.

@@ -5,28 +5,20 @@ use mathlib.Core.Bool.{cond}
 use mathlib.Core.Option.{Option, none, some}
 use lib.Dec.{eqb}
 use Rattle.semantics.specs.declared.Kind.{Kind}
-use Rattle.semantics.specs.declared.Kind.the-variants.{Integer, Truth}
+use Rattle.semantics.specs.declared.Kind.the-variants.{Integer}
 use Rattle.semantics.specs.declared.Row.{Row}
 use Rattle.semantics.specs.declared.Row.the-variants.{Kinds, Unused}
-use Rattle.semantics.specs.Language.{Val, int, truth, Expr, lit, var, op, Stmt, nil, assign, seq, par, if, while, rowOf, sameKind, kindOf}
+use Rattle.semantics.specs.Language.{Val, int, truth, Expr, lit, var, op, rowOf, sameKind, kindOf}
 
 abbrev pub valWidth : Val → ℕ
 valWidth (int z) = 10
 valWidth (truth b) = 3
 
--- How many bits an expression takes, and a statement.
+-- How many bits an expression takes.
 abbrev pub width : Expr → ℕ
 width (lit v) = valWidth v
 width (var v) = 4
 width (op o l r) = 5 + width l + width r
-
-abbrev pub stmtWidth : Stmt → ℕ
-stmtWidth nil = 3
-stmtWidth (assign v e) = 5 + width e
-stmtWidth (seq l r) = 3 + stmtWidth l + stmtWidth r
-stmtWidth (par l r) = 3 + stmtWidth l + stmtWidth r
-stmtWidth (if e b) = 3 + width e + stmtWidth b
-stmtWidth (while e b) = 3 + width e + stmtWidth b
 
 abbrev pub orPlace : Option ℕ → Option ℕ → Option ℕ
 orPlace none next = next
@@ -42,12 +34,3 @@ abbrev pub misfit : Kind → ℕ → Expr → Option ℕ
 misfit k at (lit v) = cond (sameKind (kindOf v) k) none (some at)
 misfit k at (var v) = cond (sameKind Integer k) none (some at)
 misfit k at (op o l r) = rowMisfit (rowOf o) k at (λ a. misfit a (at + 5) l) (λ b. misfit b (at + 5 + width l) r)
-
--- The same of a statement: an assigned expression is an integer, a test a truth value.
-abbrev pub stmtMisfit : ℕ → Stmt → Option ℕ
-stmtMisfit at nil = none
-stmtMisfit at (assign v e) = misfit Integer (at + 5) e
-stmtMisfit at (seq l r) = orPlace (stmtMisfit (at + 3) l) (stmtMisfit (at + 3 + stmtWidth l) r)
-stmtMisfit at (par l r) = orPlace (stmtMisfit (at + 3) l) (stmtMisfit (at + 3 + stmtWidth l) r)
-stmtMisfit at (if e b) = orPlace (misfit Truth (at + 3) e) (stmtMisfit (at + 3 + width e) b)
-stmtMisfit at (while e b) = orPlace (misfit Truth (at + 3) e) (stmtMisfit (at + 3 + width e) b)

@@ -9,7 +9,8 @@ use Rattle.semantics.specs.declared.Kind.the-variants.{Integer, Truth}
 use Rattle.semantics.specs.declared.Row.{Row}
 use Rattle.semantics.specs.declared.Row.the-variants.{Kinds, Unused}
 use Rattle.semantics.specs.Language.{Expr, lit, var, op, Stmt, nil, assign, seq, par, if, while, rowOf, sameKind, kindOf, rowFits, fits, kindsFit}
-use Rattle.expressions.specs.Kinds.{width, stmtWidth, orPlace, rowMisfit, misfit, stmtMisfit}
+use Rattle.expressions.specs.Kinds.{width, orPlace, rowMisfit, misfit}
+use Rattle.handler.specs.Kinds.{stmtWidth, stmtMisfit}
 
 -- No misfit of a node, or of two parts, is none of each.
 own : (b : Bool) (x : Option ℕ) (at : ℕ) → cond b x (some at) ≡ none → (b ≡ true) × (x ≡ none)

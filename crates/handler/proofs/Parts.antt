@@ -15,7 +15,8 @@ use Rattle.handler.specs.declared.Part.{Part}
 use Rattle.handler.specs.declared.Part.the-variants as part
 use Rattle.expressions.specs.Expressions.{ExprRead, good, bad, wholeExpr}
 use Rattle.handler.specs.Statements.{markHead, stmtHead, StmtRead, whole, fault, onAssigned, onBody, onTest, onRight, onLeft, onStmtHead, stmtAt, wholeStmt}
-use Rattle.expressions.specs.Kinds.{width, stmtWidth}
+use Rattle.expressions.specs.Kinds.{width}
+use Rattle.handler.specs.Kinds.{stmtWidth}
 use Rattle.handler.specs.Shapes.{pairPart, testPart, headPart, partAt}
 use Rattle.handler.proofs.StmtFolds.{Marked, marked, whole-ends, stmt-read}
 

@@ -15,7 +15,8 @@ use Rattle.handler.specs.declared.StmtHead.{StmtHead}
 use Rattle.handler.specs.declared.StmtHead.the-variants.{Nil, Assign, Pair, Test, Fault}
 use Rattle.expressions.specs.Expressions.{ExprRead, good, bad, wholeExpr}
 use Rattle.handler.specs.Statements.{targetHead, codeHead, markHead, stmtHead, StmtRead, whole, fault, paired, tested, onAssigned, onBody, onTest, onRight, onLeft, onStmtHead, stmtAt}
-use Rattle.expressions.specs.Kinds.{width, stmtWidth}
+use Rattle.expressions.specs.Kinds.{width}
+use Rattle.handler.specs.Kinds.{stmtWidth}
 use Rattle.expressions.proofs.Folds.{expr-read}
 
 -- One level of reading, in the code's numbers.

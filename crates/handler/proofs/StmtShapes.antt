@@ -23,7 +23,8 @@ use Rattle.handler.specs.declared.StmtShape.the-variants as stmt
 use Rattle.handler.specs.declared.StmtHead.the-variants.{Assign, Pair, Test}
 use Rattle.expressions.specs.Expressions.{ExprRead, good, bad, wholeExpr}
 use Rattle.handler.specs.Statements.{stmtHead, StmtRead, whole, fault, onAssigned, onBody, onTest, onRight, onLeft, stmtAt, wholeStmt}
-use Rattle.expressions.specs.Kinds.{width, stmtWidth, orPlace, misfit, stmtMisfit}
+use Rattle.expressions.specs.Kinds.{width, orPlace, misfit}
+use Rattle.handler.specs.Kinds.{stmtWidth, stmtMisfit}
 use Rattle.expressions.specs.Shapes.{asMisfit, exprShape}
 use Rattle.handler.specs.Shapes.{stmtShape, assignedOf, pairOf, testedOf, filledOf, judgedOf, fileOf}
 use Rattle.handler.specs.Reading.{onKinds, onFill, onStmt}

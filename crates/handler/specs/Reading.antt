@@ -10,7 +10,7 @@ use Rattle.expressions.specs.declared.Header.{Header}
 use Rattle.expressions.specs.declared.Header.the-variants.{Sizes, Fault}
 use Rattle.expressions.specs.Header.{headerAt}
 use Rattle.handler.specs.Statements.{StmtRead, whole, fault, wholeStmt}
-use Rattle.expressions.specs.Kinds.{stmtMisfit}
+use Rattle.handler.specs.Kinds.{stmtMisfit}
 
 -- A handler file: its number of variables, N, the statement's first bit and the statement; or its first fault.
 pub data HandlerRead : Type 0 where

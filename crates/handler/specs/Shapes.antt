@@ -25,7 +25,7 @@ use Rattle.handler.specs.declared.Part.{Part}
 use Rattle.handler.specs.declared.Part.the-variants.{Nil, Assign, Pair, Test, Nothing}
 use Rattle.expressions.specs.Expressions.{ExprRead, good, bad, wholeExpr}
 use Rattle.handler.specs.Statements.{StmtRead, whole, fault, stmtHead, wholeStmt}
-use Rattle.expressions.specs.Kinds.{stmtMisfit}
+use Rattle.handler.specs.Kinds.{stmtMisfit}
 use Rattle.expressions.specs.Shapes.{asMisfit, earlierOf}
 use Rattle.handler.specs.Reading.{HandlerRead, handler, refused}
 

@@ -19,6 +19,7 @@ use conditions::sequence_post;
 use conditions::sequence_tables;
 use conditions::stable;
 use conditions::strict_order;
+use conditions::tables::idle;
 use conditions::while_tables;
 use derivation::NodeEnd;
 use derivation::NodeHead;
@@ -59,10 +60,13 @@ pub fn unless(held: bool, number: u32, rest: Own) -> Own
     if held { rest } else { Own::Breaks(number) }
 }
 
-// 30 to 33, which every node owes, in front of what its rule asks besides.
+// 30 to 33, which every node owes, in front of what its rule asks besides. Where R is idle, 30 alone is left to ask.
 pub fn common(n: u32, work: &[u64], own: Names, fits: bool, rest: Own) -> Own
     ensures { λ r. ⌜ r ≡ guarded (commonOwes (bare n) fits (wordSpec n (now (work .entry)) own)) rest ⌝ }
 {
+    if idle(n, work, own.r) {
+        return unless(fits, 30, rest);
+    }
     let rest = unless(carries_on(n, work, own), 33, rest);
     let rest = unless(carries_back(n, work, own), 32, rest);
     let rest = unless(stable(n, work, own), 31, rest);

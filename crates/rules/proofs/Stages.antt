@@ -22,7 +22,7 @@ use Rattle.expressions.specs.declared.Header.the-variants.{Sizes, Fault as Bad}
 use Rattle.handler.specs.declared.HandlerFile.the-variants as File
 use Rattle.expressions.specs.Header.{headerAt, sizesOf}
 use Rattle.handler.specs.Statements.{StmtRead, whole, fault, wholeStmt}
-use Rattle.expressions.specs.Kinds.{stmtMisfit}
+use Rattle.handler.specs.Kinds.{stmtMisfit}
 use Rattle.handler.specs.Reading.{HandlerRead, handler, refused, onKinds, onFill, onStmt, onHeader, readHandler}
 use Rattle.handler.specs.Shapes.{fileOf}
 use Rattle.handler.proofs.Fitting.{stmt-fits}

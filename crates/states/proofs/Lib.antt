@@ -1,5 +1,6 @@
 -- The laws of sets and relations of states that callers cite.
 pub mod Search
+pub mod Least
 pub mod Words
 pub mod Rows
 pub mod Reach
