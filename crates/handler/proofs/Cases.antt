@@ -11,7 +11,7 @@ use Rattle.expressions.specs.Header.{sizeRead, addSize, sizesRead, countRead, h
 use Rattle.expressions.specs.Expressions.{signed, integerHead, truthHead, variableHead, operationHead, payloadHead, tagHead, exprHead, exprAt, wholeExpr}
 use Rattle.handler.specs.Statements.{targetHead, codeHead, markHead, stmtHead, stmtAt, wholeStmt}
 use Rattle.handler.specs.Reading.{handler, refused, readHandler}
-use Rattle.handler.specs.Shapes.{fileOf, partAt}
+use Rattle.handler.specs.Shapes.{fileOf, partAt, behindOf}
 
 -- Opens all that reading a file computes with.
 opened : Unit {0}
@@ -77,6 +77,7 @@ unfolding opened
 ends = (refl, refl, refl, refl, refl)
 
 -- What stands at a place.
-pub placed : (partAt (0x22 ∷ 0x20 ∷ 0x02 ∷ []) 1 8 ≡ Assign 0 13) × (partAt many 1 8 ≡ Pair 2 11 104)
+pub placed : (partAt (0x22 ∷ 0x20 ∷ 0x02 ∷ []) 1 8 ≡ Assign 0 13) × (partAt many 1 8 ≡ Pair 2 11)
+    × (behindOf (wholeStmt many 1 11) ≡ 104)
 unfolding opened
-placed = (refl, refl)
+placed = (refl, refl, refl)

@@ -17,7 +17,7 @@ use Rattle.expressions.specs.Expressions.{ExprRead, good, bad, wholeExpr}
 use Rattle.handler.specs.Statements.{markHead, stmtHead, StmtRead, whole, fault, onAssigned, onBody, onTest, onRight, onLeft, onStmtHead, stmtAt, wholeStmt}
 use Rattle.expressions.specs.Kinds.{width}
 use Rattle.handler.specs.Kinds.{stmtWidth}
-use Rattle.handler.specs.Shapes.{pairPart, testPart, headPart, partAt}
+use Rattle.handler.specs.Shapes.{testPart, headPart, partAt}
 use Rattle.handler.proofs.StmtFolds.{Marked, marked, whole-ends, stmt-read}
 
 -- Where there is room, a head does not depend on how much.
@@ -116,8 +116,8 @@ PartsOf bytes count at (while e b) = StandsExpr bytes count (at + 3) e × Stands
 abbrev pub partOf : ℕ → Stmt → Part
 partOf at nil = part.Nil
 partOf at (assign v e) = part.Assign v (at + 5)
-partOf at (seq l r) = part.Pair 2 (at + 3) (at + 3 + stmtWidth l)
-partOf at (par l r) = part.Pair 3 (at + 3) (at + 3 + stmtWidth l)
+partOf at (seq l r) = part.Pair 2 (at + 3)
+partOf at (par l r) = part.Pair 3 (at + 3)
 partOf at (if e b) = part.Test 4 (at + 3) (at + 3 + width e)
 partOf at (while e b) = part.Test 5 (at + 3) (at + 3 + width e)
 
@@ -138,14 +138,14 @@ module _ (bytes : List ℕ) (count at : ℕ) where
 
       pair : (code next : ℕ) → next ≡ at + 3 → 2 ≤ code → code < 4 → (l : Stmt) (behind : ℕ) → behind ≡ next + stmtWidth l → Stands bytes count next l
           → (r : Stmt) (n j : ℕ) → Stands bytes count behind r → (b : Bool) → eqb code 2 ≡ b
-          → Apart (part.Pair code next behind) (whole (cond b (seq l r) (par l r)) n j)
+          → Apart (part.Pair code next) (whole (cond b (seq l r) (par l r)) n j)
       pair code next placed least most l behind ends first r n j second true t =
           let two = eqb-true code 2 t in
-          (rw (two, ends, placed), rw (← placed, ← ends) (first, second))
+          (rw (two, placed), rw (← placed, ← ends) (first, second))
       pair code next placed least most l behind ends first r n j second false t =
           let other = eqb-false code 2 t in
           let three : code ≡ 3 = omega arith in
-          (rw (three, ends, placed), rw (← placed, ← ends) (first, second))
+          (rw (three, placed), rw (← placed, ← ends) (first, second))
 
       tests : (code next : ℕ) → next ≡ at + 3 → 4 ≤ code → code < 6 → (e : Expr) (behind : ℕ) → behind ≡ next + width e → StandsExpr bytes count next e
           → (s : Stmt) (n j : ℕ) → Stands bytes count behind s → (b : Bool) → eqb code 4 ≡ b
@@ -159,18 +159,16 @@ module _ (bytes : List ℕ) (count at : ℕ) where
           (rw (five, ends, placed), rw (← placed, ← ends) (first, second))
 
       right : (code next : ℕ) → next ≡ at + 3 → 2 ≤ code → code < 4 → (l : Stmt) (behind : ℕ) → behind ≡ next + stmtWidth l → Stands bytes count next l
-          → (so-far : ℕ) (y : StmtRead) → below so-far behind ≡ y → Apart (part.Pair code next behind) (onRight code l y)
+          → (so-far : ℕ) (y : StmtRead) → below so-far behind ≡ y → Apart (part.Pair code next) (onRight code l y)
       right code next placed least most l behind ends first so-far (fault k place) e = tt
       right code next placed least most l behind ends first so-far (whole r n j) e =
           pair code next placed least most l behind ends first r n j (standing so-far behind r n j e) (eqb code 2) refl
 
       left : (code next : ℕ) → next ≡ at + 3 → 2 ≤ code → code < 4 → (x : StmtRead) → below 1 next ≡ x
-          → Apart (pairPart code next (wholeStmt bytes count next)) (onLeft code x below)
+          → Apart (part.Pair code next) (onLeft code x below)
       left code next placed least most (fault k place) e = tt
       left code next placed least most (whole l n behind) e =
-          let first = standing 1 next l n behind e in
-          rw (first .read)
-          (right code next placed least most l behind (stmt-read 16 bytes count 1 next l n behind e .ends) first n (below n behind) refl)
+          right code next placed least most l behind (stmt-read 16 bytes count 1 next l n behind e .ends) (standing 1 next l n behind e) n (below n behind) refl
 
       body : (code next : ℕ) → next ≡ at + 3 → 4 ≤ code → code < 6 → (e : Expr) (behind : ℕ) → behind ≡ next + width e → StandsExpr bytes count next e
           → (y : StmtRead) → below 1 behind ≡ y → Apart (part.Test code next behind) (onBody code e y)

@@ -24,7 +24,7 @@ use Rattle.handler.specs.declared.StmtHead.the-variants as head
 use Rattle.handler.specs.declared.Part.{Part}
 use Rattle.handler.specs.declared.Part.the-variants.{Nil, Assign, Pair, Test, Nothing}
 use Rattle.expressions.specs.Expressions.{ExprRead, good, bad, wholeExpr}
-use Rattle.handler.specs.Statements.{StmtRead, whole, fault, stmtHead, wholeStmt}
+use Rattle.handler.specs.Statements.{StmtRead, whole, fault, stmtHead}
 use Rattle.handler.specs.Kinds.{stmtMisfit}
 use Rattle.expressions.specs.Shapes.{asMisfit, earlierOf}
 use Rattle.handler.specs.Reading.{HandlerRead, handler, refused}
@@ -69,12 +69,13 @@ abbrev pub judgedOf : List ℕ → ℕ → ℕ → ℕ → StmtShape → Handler
 judgedOf bytes count n at (stmt.Whole steps m before next) = filledOf count n at steps m (fillAt bytes next)
 judgedOf bytes count n at (stmt.Fault k place) = file.Fault k place
 
--- What stands at a statement's place, by its head: the right side stands where the left one ends, the body where the test
--- ends. It reads no further than that.
-abbrev pub pairPart : ℕ → ℕ → StmtRead → Part
-pairPart code next (whole l after behind) = Pair code next behind
-pairPart code next (fault k place) = Nothing
+-- The cursor behind a statement that was read; 0 where none was.
+abbrev pub behindOf : StmtRead → ℕ
+behindOf (whole S before next) = next
+behindOf (fault k place) = 0
 
+-- What stands at a statement's place, by its head: the left side stands behind the code, the body where the test ends. It
+-- reads no further than that.
 abbrev pub testPart : ℕ → ℕ → ExprRead → Part
 testPart code next (good e nodes behind) = Test code next behind
 testPart code next (bad k place) = Nothing
@@ -82,7 +83,7 @@ testPart code next (bad k place) = Nothing
 abbrev pub headPart : List ℕ → ℕ → StmtHead → Part
 headPart bytes count (head.Nil next) = Nil
 headPart bytes count (head.Assign v next) = Assign v next
-headPart bytes count (head.Pair code next) = pairPart code next (wholeStmt bytes count next)
+headPart bytes count (head.Pair code next) = Pair code next
 headPart bytes count (head.Test code next) = testPart code next (wholeExpr bytes count next)
 headPart bytes count (head.Fault k place) = Nothing
 

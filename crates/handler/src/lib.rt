@@ -28,11 +28,12 @@ pub enum HandlerFile {
 }
 
 // What stands at a statement's first bit, with the first bits of its parts: an assignment's variable and expression; the
-// code of a sequence or parallel, left and right; the code of an if or while, test and body; or no whole statement.
+// code of a sequence or parallel and its left side, behind which the right one stands; the code of an if or while, test and
+// body; or no statement.
 pub enum Part {
     Nil,
     Assign(u32, usize),
-    Pair(u32, usize, usize),
+    Pair(u32, usize),
     Test(u32, usize, usize),
     Nothing,
 }

@@ -14,7 +14,8 @@ use expressions::head::read_header;
 use semantics::Kind;
 ghost use mathlib.Core.Path.{_≡_};
 ghost use Rattle.handler.specs.Reading.{readHandler};
-ghost use Rattle.handler.specs.Shapes.{judgedOf, fileOf, partAt};
+ghost use Rattle.handler.specs.Statements.{wholeStmt};
+ghost use Rattle.handler.specs.Shapes.{judgedOf, fileOf, partAt, behindOf};
 
 // The file's answer from its statement's: 18 the end of the file, then 16 once no other fault is met.
 fn judged_of(src: &[u8], count: u32, n: u32, at: usize, read: StmtShape) -> HandlerFile
@@ -48,19 +49,14 @@ pub fn read_handler(src: &[u8]) -> HandlerFile
     }
 }
 
-// What stands at a statement's first bit, and where its parts begin: only the first part is read, to find the second.
+// What stands at a statement's first bit, and where its parts begin: only a test is read, to find the body.
 pub fn part_at(src: &[u8], count: u32, at: usize) -> Part
     ensures { λ r. ⌜ r ≡ partAt (now (src .entry)) count at ⌝ }
 {
     match stmt_head_at(src, count, 16, 0, at) {
         StmtHead::Nil(_) => Part::Nil,
         StmtHead::Assign(v, next) => Part::Assign(v, next),
-        StmtHead::Pair(code, next) => {
-            let StmtShape::Whole(_, _, _, right) = stmt_walk(src, count, 1, 17, 0, next) else {
-                return Part::Nothing;
-            };
-            Part::Pair(code, next, right)
-        }
+        StmtHead::Pair(code, next) => Part::Pair(code, next),
         StmtHead::Test(code, next) => {
             let ExprShape::Whole(_, _, _, _, body) = expr_shape(src, count, Kind::Truth, 0, next)
             else {
@@ -70,4 +66,14 @@ pub fn part_at(src: &[u8], count: u32, at: usize) -> Part
         }
         StmtHead::Fault(_, _) => Part::Nothing,
     }
+}
+
+// The cursor behind the statement at a cursor; 0 where none stands.
+pub fn stmt_end(src: &[u8], count: u32, at: usize) -> usize
+    ensures { λ r. ⌜ r ≡ behindOf (wholeStmt (now (src .entry)) count at) ⌝ }
+{
+    let StmtShape::Whole(_, _, _, next) = stmt_walk(src, count, 1, 17, 0, at) else {
+        return 0;
+    };
+    next
 }

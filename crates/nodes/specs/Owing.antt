@@ -29,21 +29,21 @@ guarded (c ∷ cs) rest = cond (holds (c .breach)) (guarded cs rest) (Breaks (c 
 abbrev pub codeAt : Part → ℕ
 codeAt Nil = 0
 codeAt (Assign v e) = 1
-codeAt (Pair code left right) = code
+codeAt (Pair code left) = code
 codeAt (Test code e body) = code
 codeAt Nothing = 6
 
 abbrev pub targetAt : Part → ℕ
 targetAt Nil = 0
 targetAt (Assign v e) = v
-targetAt (Pair code left right) = 0
+targetAt (Pair code left) = 0
 targetAt (Test code e body) = 0
 targetAt Nothing = 0
 
 abbrev pub exprAt : Part → ℕ
 exprAt Nil = 0
 exprAt (Assign v e) = e
-exprAt (Pair code left right) = 0
+exprAt (Pair code left) = 0
 exprAt (Test code e body) = e
 exprAt Nothing = 0
 

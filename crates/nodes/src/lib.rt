@@ -225,7 +225,7 @@ pub fn code_of(part: Part) -> u32
     match part {
         Part::Nil => 0,
         Part::Assign(_, _) => 1,
-        Part::Pair(code, _, _) => code,
+        Part::Pair(code, _) => code,
         Part::Test(code, _, _) => code,
         Part::Nothing => 6,
     }
@@ -238,7 +238,7 @@ pub fn target_of(part: Part) -> u32
     match part {
         Part::Nil => 0,
         Part::Assign(v, _) => v,
-        Part::Pair(_, _, _) => 0,
+        Part::Pair(_, _) => 0,
         Part::Test(_, _, _) => 0,
         Part::Nothing => 0,
     }
@@ -251,7 +251,7 @@ pub fn expr_of(part: Part) -> usize
     match part {
         Part::Nil => 0,
         Part::Assign(_, expr) => expr,
-        Part::Pair(_, _, _) => 0,
+        Part::Pair(_, _) => 0,
         Part::Test(_, expr, _) => expr,
         Part::Nothing => 0,
     }

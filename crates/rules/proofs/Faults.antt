@@ -21,7 +21,7 @@ use Rattle.rules.specs.Walks.{wayOf, walkOn}
 
 -- A walk that goes on behind another.
 abbrev pub thenWalk : Walked → (ℕ → ℕ → Walked) → Walked
-thenWalk (Through after next) f = f after next
+thenWalk (Through after next behind) f = f after next
 thenWalk (Stop k node) f = Stop k node
 
 -- The statement that the one child of a node is about: under a weaken, the same.
@@ -89,8 +89,8 @@ own-first t (conditional h d) S n k e = rw e
 own-first t (iteration h K W d) S n k e = rw e
 own-first t (weaken h d) S n k e = rw e
 
--- One step of the walk at a node whose own conditions hold.
-module _ (t : Tables) (pb : List ℕ) (sets relations : ℕ) (S : Stmt) (levels node at rule P R G Q K W next : ℕ)
+-- One step of the walk at a node whose own conditions hold, over a statement that ends at `behind`.
+module _ (t : Tables) (pb : List ℕ) (sets relations : ℕ) (S : Stmt) (behind levels node at rule P R G Q K W next : ℕ)
     (head : nodeHead pb sets relations levels node at ≡ Node rule P R G Q K W next) where
   abbrev h : Names
   h = record { P = P; R = R; G = G; Q = Q }
@@ -114,27 +114,27 @@ module _ (t : Tables) (pb : List ℕ) (sets relations : ℕ) (S : Stmt) (levels 
       let past : 2 ≤ rule = omega arith in
       child-of (overOne rule h K W) _ d after end (rw (head, le-ltb rule 2, le-ltb rule 4) at e)
 
-  pub walk-alone : rule < 2 → firstBroken (owed t (alone rule h) S) ≡ none → walkOn t here S node ≡ Through (suc node) next
+  pub walk-alone : rule < 2 → firstBroken (owed t (alone rule h) S) ≡ none → walkOn t here S behind node ≡ Through (suc node) next behind
   walk-alone low clear = rw (read-alone low, fault-alone t S node rule h, clear)
 
   pub walk-two : 2 ≤ rule → rule < 4 → (d : Derivation) (after end : ℕ) → here ≡ whole d after end → firstBroken (owed t d S) ≡ none
-      → walkOn t here S node
-      ≡ thenWalk (walkOn t (nodeAt levels pb sets relations (suc node) next) (firstOf S) (suc node))
-      (λ a e. walkOn t (nodeAt levels pb sets relations a e) (secondOf S) a)
-  walk-two over low d after end e clear =
+      → (middle : ℕ) → walkOn t here S behind node
+      ≡ thenWalk (walkOn t (nodeAt levels pb sets relations (suc node) next) (firstOf S) middle (suc node))
+      (λ a e. walkOn t (nodeAt levels pb sets relations a e) (secondOf S) behind a)
+  walk-two over low d after end e clear middle =
       let c = read-two over low d after end e in
       let counted : c .between ≡ suc node + nodes (c .left) = placed pb sets relations levels (suc node) next (c .left) (c .between) (c .middle) (c .left-read) .counted in
       rw (e, c .is, fault-two t S node rule h (c .left) (c .right), ← c .is, clear, c .left-read, ← counted)
       (by (firstFault t (c .left) (firstOf S) (suc node)) (c .right) (c .between) (c .middle) after end (c .right-read))
     where
       by : (o : Option Broken) (r : Derivation) (a m after end : ℕ) → nodeAt levels pb sets relations a m ≡ whole r after end
-          → wayOf (orBroken o (firstFault t r (secondOf S) a)) after end
-          ≡ thenWalk (wayOf o a m) (λ a e. walkOn t (nodeAt levels pb sets relations a e) (secondOf S) a)
+          → wayOf (orBroken o (firstFault t r (secondOf S) a)) after end behind
+          ≡ thenWalk (wayOf o a m middle) (λ a e. walkOn t (nodeAt levels pb sets relations a e) (secondOf S) behind a)
       by none r a m after end e = rw e
       by (some b) r a m after end e = refl
 
   pub walk-one : 4 ≤ rule → rule < 7 → (d : Derivation) (after end : ℕ) → here ≡ whole d after end → firstBroken (owed t d S) ≡ none
-      → walkOn t here S node ≡ walkOn t (nodeAt levels pb sets relations (suc node) next) (under rule S) (suc node)
+      → walkOn t here S behind node ≡ walkOn t (nodeAt levels pb sets relations (suc node) next) (under rule S) behind (suc node)
   walk-one over low d after end e clear =
       let c = read-one over d after end e in
       rw (e, c .is, fault-one t S node rule h K W (c .child) over low, ← c .is, clear, c .read)

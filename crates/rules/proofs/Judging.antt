@@ -13,6 +13,7 @@ use Rattle.semantics.specs.StepNumber.{steps}
 use Rattle.semantics.specs.Derivations.{Derivation}
 use Rattle.semantics.specs.Checking.{Broken, firstFault}
 use Rattle.handler.specs.Statements.{wholeStmt}
+use Rattle.handler.specs.Shapes.{behindOf}
 use Rattle.handler.specs.Reading.{HandlerRead, handler, refused, readHandler}
 use Rattle.derivation.specs.declared.ProofFile.the-variants as File
 use Rattle.derivation.specs.Tables.{tableWord, written}
@@ -63,15 +64,16 @@ module _ (hb pb : List ℕ) (variables states stmt k : ℕ) (h : Handled hb vari
           statement = rw (s .statement);
         }
 
-    pub judged : (v : Verdict) → v ≡ decided (walkOn (tablesOf hb pb variables states sets) (nodeAt 25 pb sets relations 0 root) (stmtIn (wholeStmt hb variables stmt)) 0) k
+    pub judged : (v : Verdict) → v ≡ decided (walkOn (tablesOf hb pb variables states sets) (nodeAt 25 pb sets relations 0 root) (stmtIn (wholeStmt hb variables stmt)) (behindOf (wholeStmt hb variables stmt)) 0) k
         → v ≡ onHandler hb pb (readHandler hb) .verdict
     judged v is =
         let s = stages hb variables states stmt (h .S) (h .reads) in
         let o = firstFault (tablesOf hb pb variables states sets) d (h .S) 0 in
-        let found : walkOn (tablesOf hb pb variables states sets) (nodeAt 25 pb sets relations 0 root) (stmtIn (wholeStmt hb variables stmt)) 0
-        ≡ wayOf o (node-read .0) (node-read .1) = rw (node-read .2, s .statement) in
-        is ∙ ap (λ w. decided w k) found ∙ ap (decided (wayOf o (node-read .0) (node-read .1))) (h .counted)
-        ∙ decided-answer o (node-read .0) (node-read .1) (steps states (h .S)) (tableWord pb states sets relations) ∙ sym (ap (λ a. a .verdict) on-read)
+        let behind = behindOf (wholeStmt hb variables stmt) in
+        let found : walkOn (tablesOf hb pb variables states sets) (nodeAt 25 pb sets relations 0 root) (stmtIn (wholeStmt hb variables stmt)) behind 0
+        ≡ wayOf o (node-read .0) (node-read .1) behind = rw (node-read .2, s .statement) in
+        is ∙ ap (λ w. decided w k) found ∙ ap (decided (wayOf o (node-read .0) (node-read .1) behind)) (h .counted)
+        ∙ decided-answer o (node-read .0) (node-read .1) behind (steps states (h .S)) (tableWord pb states sets relations) ∙ sym (ap (λ a. a .verdict) on-read)
 
     -- The words that the answer leaves: the tables if it accepts, else 0.
     pub kept-words : (bound : ℕ) → onHandler hb pb (readHandler hb) .verdict ≡ Accepted bound → onHandler hb pb (readHandler hb) .words ≡ tableWord pb states sets relations

@@ -112,11 +112,11 @@ written-twice f g work =
     written-of f (written g work) (length work) (length-written g work) ∙ ap (λ l. tabulate n f ++ l) behind ∙ sym (written-of f work (length work) refl)
 
 -- The verdict past the walk, with the step number as far as 2 ^ 32.
-pub decided-answer : (o : Option Broken) (after next k : ℕ) (words : ℕ → ℕ) → decided (wayOf o after next) (min k (2 ^ 32)) ≡ onFault o k words .verdict
-decided-answer (some b) after next k words = refl
-decided-answer none after next k words = by (ltb (2 ^ 32 - 1) k) refl
+pub decided-answer : (o : Option Broken) (after next behind k : ℕ) (words : ℕ → ℕ) → decided (wayOf o after next behind) (min k (2 ^ 32)) ≡ onFault o k words .verdict
+decided-answer (some b) after next behind k words = refl
+decided-answer none after next behind k words = by (ltb (2 ^ 32 - 1) k) refl
   where
-    by : (b : Bool) → ltb (2 ^ 32 - 1) k ≡ b → decided (wayOf none after next) (min k (2 ^ 32)) ≡ onSteps k words .verdict
+    by : (b : Bool) → ltb (2 ^ 32 - 1) k ≡ b → decided (wayOf none after next behind) (min k (2 ^ 32)) ≡ onSteps k words .verdict
     by true e =
         let past = ltb-true (2 ^ 32 - 1) k e in
         let capped : min k (2 ^ 32) ≡ 2 ^ 32 = omega arith in

@@ -15,7 +15,8 @@ use Rattle.semantics.specs.Conditions.{codeOf, firstOf, secondOf}
 use Rattle.semantics.specs.Checking as Checking
 use Rattle.semantics.specs.Checking.{firstBroken, owed, firstFault}
 use Rattle.handler.specs.Statements as Stmts
-use Rattle.handler.specs.Shapes.{partAt}
+use Rattle.handler.specs.Kinds.{stmtWidth}
+use Rattle.handler.specs.Shapes.{partAt, behindOf}
 use Rattle.handler.proofs.Parts.{Stands}
 use Rattle.derivation.specs.declared.NodeHead.the-variants.{Node, Fault}
 use Rattle.derivation.specs.Nodes.{NodeRead, whole, alone, overTwo, overOne, nodeHead, nodeAt, wholeNode}
@@ -29,8 +30,8 @@ use Rattle.rules.specs.declared.Walked.{Walked}
 use Rattle.rules.specs.declared.Walked.the-variants.{Through, Broken}
 use Rattle.rules.specs.Verdicts.{tablesOf}
 use Rattle.nodes.specs.Owing.{ownOf}
-use Rattle.rules.specs.Walks.{stmtIn, isStmt, nodeIn, isNode, wayOf, walkOn, firstAt, secondAt}
-use Rattle.rules.proofs.Standing.{Placed, placed, stands, first-placed, second-placed}
+use Rattle.rules.specs.Walks.{stmtIn, isStmt, nodeIn, isNode, wayOf, walkOn, firstAt}
+use Rattle.rules.proofs.Standing.{Placed, placed, stands, first-placed, second-placed, second-ends, body-ends}
 use Rattle.rules.proofs.Faults.{thenWalk, under, own-first, fits-two, fits-one, read-alone, read-two, read-one, walk-alone, walk-two, walk-one}
 
 own-some : (o : Option ℕ) (k : ℕ) → ownOf o ≡ Breaks k → o ≡ some k
@@ -50,6 +51,9 @@ module _ (hb pb : List ℕ) (c : Counts) where
 
   abbrev S : ℕ → Stmt
   S s = stmtIn (Stmts.wholeStmt hb (c .variables) s)
+
+  abbrev E : ℕ → ℕ
+  E s = behindOf (Stmts.wholeStmt hb (c .variables) s)
 
   -- A node that was read has levels left, and a head; it is the node that is read there from a fresh start.
   module _ (n at levels s : ℕ) (d : Derivation) (after end : ℕ) (read : N levels n at ≡ whole d after end) (low : levels ≤ 25) where
@@ -78,7 +82,7 @@ module _ (hb pb : List ℕ) (c : Counts) where
       owes-d : own ≡ ownOf (firstBroken (owed T d (S s)))
       owes-d = rw again at owes
 
-      pub breach : (k : ℕ) → own ≡ Breaks k → Broken k n ≡ walkOn T (N levels n at) (S s) n
+      pub breach : (k : ℕ) → own ≡ Breaks k → Broken k n ≡ walkOn T (N levels n at) (S s) (E s) n
       breach k b = rw (read, own-first T d (S s) n k (own-some _ k (sym owes-d ∙ b)))
 
 -- What is known at a node past its own conditions.
@@ -113,6 +117,9 @@ module _ {hb pb : List ℕ} {c : Counts} {n at levels s rule next : ℕ} (x : Se
   abbrev stmt : ℕ → Stmt
   stmt s = stmtIn (Stmts.wholeStmt hb (c .variables) s)
 
+  abbrev behind : ℕ → ℕ
+  behind s = behindOf (Stmts.wholeStmt hb (c .variables) s)
+
   level : nodeAt (suc (levels - 1)) pb (c .sets) (c .relations) n at ≡ whole d after end
   level = same-level hb pb c n at levels s d after end read low
 
@@ -125,41 +132,42 @@ module _ {hb pb : List ℕ} {c : Counts} {n at levels s rule next : ℕ} (x : Se
   pub low-rule : rule < 7
   low-rule = node-within pb (c .sets) (c .relations) (levels - 1) n at rule P R G Q K W next head .rule-below
 
-  pub leaf : rule < 2 → Through (n + 1) next ≡ walkOn t (node levels n at) (stmt s) n
+  pub leaf : rule < 2 → Through (n + 1) next (behind s) ≡ walkOn t (node levels n at) (stmt s) (behind s) n
   leaf low =
-      let alone-is = sym level ∙ read-alone t pb (c .sets) (c .relations) (stmt s) (levels - 1) n at rule P R G Q K W next head low in
+      let alone-is = sym level ∙ read-alone t pb (c .sets) (c .relations) (stmt s) (behind s) (levels - 1) n at rule P R G Q K W next head low in
       let d-is : d ≡ alone rule (record { P = P; R = R; G = G; Q = Q }) = cc in
-      rw (up, add-one, walk-alone t pb (c .sets) (c .relations) (stmt s) (levels - 1) n at rule P R G Q K W next head low (rw d-is at clear))
+      rw (up, add-one, walk-alone t pb (c .sets) (c .relations) (stmt s) (behind s) (levels - 1) n at rule P R G Q K W next head low (rw d-is at clear))
+
+  whole-stmt : Stands hb (c .variables) s (stmt s)
+  whole-stmt = stands hb (c .variables) s standing
+
+  -- Which of the two a node with children is.
+  two-kids : 2 ≤ rule → rule < 4 → Children (overTwo rule (record { P = P; R = R; G = G; Q = Q })) (node (levels - 1) (suc n) next) (node (levels - 1)) d after end
+  two-kids over low = read-two t pb (c .sets) (c .relations) (stmt s) (behind s) (levels - 1) n at rule P R G Q K W next head over low d after end level
+
+  one-kid : 4 ≤ rule → Child (overOne rule (record { P = P; R = R; G = G; Q = Q }) K W) (node (levels - 1) (suc n) next) d after end
+  one-kid over = read-one t pb (c .sets) (c .relations) (stmt s) (behind s) (levels - 1) n at rule P R G Q K W next head over d after end level
+
+  -- The statement has the node's rule, unless this is a weaken.
+  fits : 2 ≤ rule → (rule ≡ 6 → ⊥) → codeOf (stmt s) ≡ rule
+  fits over other = by (ltb rule 4) refl
+    where
+      by : (b : Bool) → ltb rule 4 ≡ b → codeOf (stmt s) ≡ rule
+      by true e =
+          let kids = two-kids over (ltb-true rule 4 e) in
+          fits-two t (stmt s) rule _ (kids .left) (kids .right) over (ltb-true rule 4 e) (rw (kids .is) at clear)
+      by false e =
+          let past = ltb-false rule 4 e in
+          let kid = one-kid past in
+          fits-one t (stmt s) rule _ K W (kid .child) past (let l = low-rule in omega arith) (rw (kid .is) at clear)
 
   -- The statement that the first child is about.
   pub first-stands : 2 ≤ rule → Placed hb (c .variables) (cond (eqb rule 6) s (firstAt s (partAt hb (c .variables) s))) (under rule (stmt s))
   first-stands over = by (eqb rule 6) refl
     where
-      whole-stmt : Stands hb (c .variables) s (stmt s)
-      whole-stmt = stands hb (c .variables) s standing
-
-      fits : (rule ≡ 6 → ⊥) → codeOf (stmt s) ≡ rule
-      fits other = two-or-one (ltb rule 4) refl
-        where
-          two-or-one : (b : Bool) → ltb rule 4 ≡ b → codeOf (stmt s) ≡ rule
-          two-or-one true e =
-              let kids = read-two t pb (c .sets) (c .relations) (stmt s) (levels - 1) n at rule P R G Q K W next head over (ltb-true rule 4 e) d after end level in
-              fits-two t (stmt s) rule _ (kids .left) (kids .right) over (ltb-true rule 4 e) (rw (kids .is) at clear)
-          two-or-one false e =
-              let past = ltb-false rule 4 e in
-              let kid = read-one t pb (c .sets) (c .relations) (stmt s) (levels - 1) n at rule P R G Q K W next head past d after end level in
-              fits-one t (stmt s) rule _ K W (kid .child) past (let l = low-rule in omega arith) (rw (kid .is) at clear)
-
       by : (b : Bool) → eqb rule 6 ≡ b → Placed hb (c .variables) (cond b s (firstAt s (partAt hb (c .variables) s))) (cond b (stmt s) (firstOf (stmt s)))
       by true e = placed hb (c .variables) s (stmt s) whole-stmt
-      by false e = first-placed hb (c .variables) s (stmt s) whole-stmt (let f = fits (eqb-false rule 6 e) in omega arith)
-
-  -- Which of the two a node with children is.
-  two-kids : 2 ≤ rule → rule < 4 → Children (overTwo rule (record { P = P; R = R; G = G; Q = Q })) (node (levels - 1) (suc n) next) (node (levels - 1)) d after end
-  two-kids over low = read-two t pb (c .sets) (c .relations) (stmt s) (levels - 1) n at rule P R G Q K W next head over low d after end level
-
-  one-kid : 4 ≤ rule → Child (overOne rule (record { P = P; R = R; G = G; Q = Q }) K W) (node (levels - 1) (suc n) next) d after end
-  one-kid over = read-one t pb (c .sets) (c .relations) (stmt s) (levels - 1) n at rule P R G Q K W next head over d after end level
+      by false e = first-placed hb (c .variables) s (stmt s) whole-stmt (let f = fits over (eqb-false rule 6 e) in omega arith)
 
   pub first-node : 2 ≤ rule → isNode (node (levels - 1) (n + 1) next) ≡ true
   first-node over = rw add-one (by (ltb rule 4) refl)
@@ -169,53 +177,78 @@ module _ {hb pb : List ℕ} {c : Counts} {n at levels s rule next : ℕ} (x : Se
       by false e = rw (one-kid (ltb-false rule 4 e) .read)
 
   -- What is found at the first child, of the statement that stands there.
-  module _ (over : 2 ≤ rule) (first : ℕ) (first-is : stmt first ≡ under rule (stmt s)) (r : Walked)
-      (walked : r ≡ walkOn t (node (levels - 1) (n + 1) next) (stmt first) (n + 1)) where
-    walked-under : r ≡ walkOn t (node (levels - 1) (suc n) next) (under rule (stmt s)) (suc n)
-    walked-under = rw (add-one, first-is) at walked
+  module _ (over : 2 ≤ rule) (first : ℕ) (first-at : first ≡ cond (eqb rule 6) s (firstAt s (partAt hb (c .variables) s))) (r : Walked)
+      (walked : r ≡ walkOn t (node (levels - 1) (n + 1) next) (stmt first) (behind first) (n + 1)) where
+    there : Placed hb (c .variables) first (under rule (stmt s))
+    there = rw first-at (first-stands over)
 
-    first-of : rule < 4 → under rule (stmt s) ≡ firstOf (stmt s)
-    first-of low = rw (ne-eqb rule 6 (λ e. omega arith))
+    walked-under : r ≡ walkOn t (node (levels - 1) (suc n) next) (under rule (stmt s)) (behind first) (suc n)
+    walked-under = rw (add-one, there .is) at walked
 
-    from-two : rule < 4 → walkOn t (node levels n at) (stmt s) n ≡ thenWalk r (λ a e. walkOn t (node (levels - 1) a e) (secondOf (stmt s)) a)
+    no-weaken : rule < 4 → eqb rule 6 ≡ false
+    no-weaken low = ne-eqb rule 6 (λ e. omega arith)
+
+    from-two : rule < 4 → walkOn t (node levels n at) (stmt s) (behind s) n ≡ thenWalk r (λ a e. walkOn t (node (levels - 1) a e) (secondOf (stmt s)) (behind s) a)
     from-two low =
-        let r-is : r ≡ walkOn t (node (levels - 1) (suc n) next) (firstOf (stmt s)) (suc n) = rw (first-of low) at walked-under in
-        rw (up, r-is) (walk-two t pb (c .sets) (c .relations) (stmt s) (levels - 1) n at rule P R G Q K W next head over low d after end level clear)
+        let r-is : r ≡ walkOn t (node (levels - 1) (suc n) next) (firstOf (stmt s)) (behind first) (suc n) = rw (no-weaken low) at walked-under in
+        rw (up, r-is) (walk-two t pb (c .sets) (c .relations) (stmt s) (behind s) (levels - 1) n at rule P R G Q K W next head over low d after end level clear (behind first))
 
-    from-one : 4 ≤ rule → walkOn t (node levels n at) (stmt s) n ≡ r
-    from-one past = rw up (walk-one t pb (c .sets) (c .relations) (stmt s) (levels - 1) n at rule P R G Q K W next head past low-rule d after end level clear ∙ sym walked-under)
+    -- The one child's statement ends where the node's does.
+    same-end : 4 ≤ rule → behind first ≡ behind s
+    same-end past = by (eqb rule 6) refl
+      where
+        by : (b : Bool) → eqb rule 6 ≡ b → behind first ≡ behind s
+        by true e = ap behind (rw e at first-at)
+        by false e =
+            let code = fits over (eqb-false rule 6 e) in
+            rw e at (there .ends) ∙ ap (λ k. k + stmtWidth (firstOf (stmt s))) (rw e at first-at)
+            ∙ body-ends hb (c .variables) s (stmt s) whole-stmt (omega arith) ∙ sym (placed hb (c .variables) s (stmt s) whole-stmt .ends)
 
-    pub stops : (k place : ℕ) → r ≡ Broken k place → Broken k place ≡ walkOn t (node levels n at) (stmt s) n
+    from-one : 4 ≤ rule → walkOn t (node levels n at) (stmt s) (behind s) n ≡ r
+    from-one past =
+        rw up (walk-one t pb (c .sets) (c .relations) (stmt s) (behind s) (levels - 1) n at rule P R G Q K W next head past low-rule d after end level clear
+        ∙ sym (rw (same-end past) at walked-under))
+
+    pub stops : (k place : ℕ) → r ≡ Broken k place → Broken k place ≡ walkOn t (node levels n at) (stmt s) (behind s) n
     stops k place is = by (ltb rule 4) refl
       where
-        by : (b : Bool) → ltb rule 4 ≡ b → Broken k place ≡ walkOn t (node levels n at) (stmt s) n
+        by : (b : Bool) → ltb rule 4 ≡ b → Broken k place ≡ walkOn t (node levels n at) (stmt s) (behind s) n
         by true e = sym (rw is at (from-two (ltb-true rule 4 e)))
         by false e = sym (from-one (ltb-false rule 4 e) ∙ is)
 
-    pub ends : (a e : ℕ) → r ≡ Through a e → 4 ≤ rule → Through a e ≡ walkOn t (node levels n at) (stmt s) n
-    ends a e is past = sym (from-one past ∙ is)
+    -- Where the first child was walked through.
+    module _ (a e b : ℕ) (is : r ≡ Through a e b) where
+      pub ends : 4 ≤ rule → Through a e b ≡ walkOn t (node levels n at) (stmt s) (behind s) n
+      ends past = sym (from-one past ∙ is)
 
-    -- The second child, where the first one ended.
-    pub second-node : (a e : ℕ) → r ≡ Through a e → rule < 4 → isNode (node (levels - 1) a e) ≡ true
-    second-node a e is low =
-        let kids = two-kids over low in
-        let way = rw (kids .left-read) at (sym walked-under ∙ is) in
-        by (firstFault t (kids .left) (under rule (stmt s)) (suc n)) kids way
-      where
-        by : (o : Option Checking.Broken) (kids : Children (overTwo rule (record { P = P; R = R; G = G; Q = Q })) (node (levels - 1) (suc n) next) (node (levels - 1)) d after end)
-            → wayOf o (kids .between) (kids .middle) ≡ Through a e → isNode (node (levels - 1) a e) ≡ true
-        by none kids way =
-            let a-is : kids .between ≡ a = cc in
-            let e-is : kids .middle ≡ e = cc in
-            rw (← a-is, ← e-is, kids .right-read)
-        by (some b) kids way = absurd (let y : _≡_ {A = ℕ} 0 1 = cc in omega arith)
+      -- The second child stands where the first one ended, and so does its statement.
+      pub second-node : rule < 4 → (isNode (node (levels - 1) a e) ≡ true) × (b ≡ behind first)
+      second-node low =
+          let kids = two-kids over low in
+          by (firstFault t (kids .left) (under rule (stmt s)) (suc n)) kids (rw (kids .left-read) at (sym walked-under ∙ is))
+        where
+          by : (o : Option Checking.Broken) (kids : Children (overTwo rule (record { P = P; R = R; G = G; Q = Q })) (node (levels - 1) (suc n) next) (node (levels - 1)) d after end)
+              → wayOf o (kids .between) (kids .middle) (behind first) ≡ Through a e b → (isNode (node (levels - 1) a e) ≡ true) × (b ≡ behind first)
+          by none kids way =
+              let a-is : kids .between ≡ a = cc in
+              let e-is : kids .middle ≡ e = cc in
+              let b-is : behind first ≡ b = cc in
+              (rw (← a-is, ← e-is, kids .right-read), sym b-is)
+          by (some x) kids way = absurd (let y : _≡_ {A = ℕ} 0 1 = cc in omega arith)
 
-    pub second-stands : rule < 4 → Placed hb (c .variables) (secondAt s (partAt hb (c .variables) s)) (secondOf (stmt s))
-    second-stands low =
-        let kids = two-kids over low in
-        let fits = fits-two t (stmt s) rule _ (kids .left) (kids .right) over low (rw (kids .is) at clear) in
-        second-placed hb (c .variables) s (stmt s) (stands hb (c .variables) s standing) (omega arith) (omega arith)
+      code-is : rule < 4 → codeOf (stmt s) ≡ rule
+      code-is low = fits over (λ e. omega arith)
 
-    pub goes-on : (a e : ℕ) → r ≡ Through a e → rule < 4 → (second : ℕ) → stmt second ≡ secondOf (stmt s) → (q : Walked)
-        → q ≡ walkOn t (node (levels - 1) a e) (stmt second) a → q ≡ walkOn t (node levels n at) (stmt s) n
-    goes-on a e is low second second-is q q-is = rw second-is at q-is ∙ sym (rw is at (from-two low))
+      second-at : rule < 4 → b ≡ firstAt s (partAt hb (c .variables) s) + stmtWidth (firstOf (stmt s))
+      second-at low =
+          second-node low .1 ∙ rw (no-weaken low) at (there .ends) ∙ ap (λ k. k + stmtWidth (firstOf (stmt s))) (rw (no-weaken low) at first-at)
+
+      pub second-stands : rule < 4 → Placed hb (c .variables) b (secondOf (stmt s))
+      second-stands low = let code = code-is low in rw (second-at low) (second-placed hb (c .variables) s (stmt s) whole-stmt (omega arith) (omega arith))
+
+      pub goes-on : rule < 4 → (q : Walked) → q ≡ walkOn t (node (levels - 1) a e) (stmt b) (behind b) a → q ≡ walkOn t (node levels n at) (stmt s) (behind s) n
+      goes-on low q q-is =
+          let code = code-is low in
+          let last = second-stands low .ends ∙ ap (λ k. k + stmtWidth (secondOf (stmt s))) (second-at low)
+          ∙ second-ends hb (c .variables) s (stmt s) whole-stmt (omega arith) (omega arith) ∙ sym (placed hb (c .variables) s (stmt s) whole-stmt .ends) in
+          rw (second-stands low .is, last) at q-is ∙ sym (rw is at (from-two low))

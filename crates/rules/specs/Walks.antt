@@ -44,14 +44,14 @@ abbrev pub isNode : NodeRead → Bool
 isNode (whole d before next) = true
 isNode (fault k place) = false
 
-abbrev pub wayOf : Option Broken → ℕ → ℕ → Walked
-wayOf none after next = Way.Through after next
-wayOf (some b) after next = Way.Broken (b .number) (b .node)
+abbrev pub wayOf : Option Broken → ℕ → ℕ → ℕ → Walked
+wayOf none after next behind = Way.Through after next behind
+wayOf (some b) after next behind = Way.Broken (b .number) (b .node)
 
--- What walking a derivation that was read finds over a statement, its root being a node of some number.
-abbrev pub walkOn : Tables → NodeRead → Stmt → ℕ → Walked
-walkOn t (whole d after next) S node = wayOf (firstFault t d S node) after next
-walkOn t (fault k place) S node = Way.Broken 0 node
+-- What walking a derivation that was read finds over a statement that ends at a bit, its root being a node of some number.
+abbrev pub walkOn : Tables → NodeRead → Stmt → ℕ → ℕ → Walked
+walkOn t (whole d after next) S behind node = wayOf (firstFault t d S node) after next behind
+walkOn t (fault k place) S behind node = Way.Broken 0 node
 
 -- What the walk rests on: both files were read, and the words hold the proof file's tables.
 pub record Ready (hb pb work : List ℕ) (c : Counts) : Type 0 where
@@ -71,25 +71,18 @@ pub record Walkable (hb pb work : List ℕ) (c : Counts) (levels node at stmt : 
   pub derivation : isNode (nodeAt levels pb (c .sets) (c .relations) node at) ≡ true
   pub statement : isStmt (Stmts.wholeStmt hb (c .variables) stmt) ≡ true
 
--- Where the parts of the statement at a bit stand: the left part or the body, and the right part.
+-- Where the left part or the body of the statement at a bit stands.
 abbrev pub firstAt : ℕ → Part → ℕ
 firstAt stmt Nil = stmt
 firstAt stmt (Assign v e) = stmt
-firstAt stmt (Pair code left right) = left
+firstAt stmt (Pair code left) = left
 firstAt stmt (Test code e body) = body
 firstAt stmt Nothing = stmt
-
-abbrev pub secondAt : ℕ → Part → ℕ
-secondAt stmt Nil = stmt
-secondAt stmt (Assign v e) = stmt
-secondAt stmt (Pair code left right) = right
-secondAt stmt (Test code e body) = stmt
-secondAt stmt Nothing = stmt
 
 -- The verdict by what the walk finds and a step number; 80 last, at node 0.
 abbrev pub decided : Walked → ℕ → Verdict
 decided (Way.Broken k node) steps = refusedAt k (Node node)
-decided (Way.Through after next) steps = cond (ltb (2 ^ 32 - 1) steps) (refusedAt 80 (Node 0)) (Accepted steps)
+decided (Way.Through after next behind) steps = cond (ltb (2 ^ 32 - 1) steps) (refusedAt 80 (Node 0)) (Accepted steps)
 
 -- A handler file that was read, with its step number as far as 2 ^ 32.
 pub record Handled (hb : List ℕ) (variables states stmt steps : ℕ) : Type 0 where

@@ -9,6 +9,7 @@ ghost use mathlib.Core.Path.{_≡_};
 ghost use Prim.Native.Nat.{_≤_};
 ghost use lib.ListN.{length};
 ghost use Rattle.handler.specs.Statements.{wholeStmt};
+ghost use Rattle.handler.specs.Shapes.{behindOf};
 ghost use Rattle.handler.specs.Reading.{readHandler};
 ghost use Rattle.derivation.specs.Nodes.{nodeAt};
 ghost use Rattle.derivation.specs.Tables.{written};
@@ -26,9 +27,10 @@ pub struct Counts {
     pub relations: u32,
 }
 
-// What walking a derivation finds: the number of the next node and its first bit, or the first fault's number and node.
+// What walking a derivation over a statement finds: the number of the next node, its first bit and the first bit behind the
+// statement; or the first fault's number and node.
 pub enum Walked {
-    Through(u32, usize),
+    Through(u32, usize, usize),
     Broken(u32, u32),
 }
 
@@ -76,7 +78,7 @@ fn decide(way: Walked, steps: u64) -> Verdict
 {
     match way {
         Walked::Broken(number, node) => at_node(number, node),
-        Walked::Through(_, _) => {
+        Walked::Through(_, _, _) => {
             if steps > 4294967295 {
                 return at_node(80, 0);
             }
@@ -99,7 +101,8 @@ fn judge(
     ensures { λ r.
         ⌜ r ≡ decided (walkOn (tablesOf (now (handler .entry)) (now (proof .entry)) (c .variables) (c .states) (c .sets))
         (nodeAt 25 (now (proof .entry)) (c .sets) (c .relations) 0 root)
-        (stmtIn (wholeStmt (now (handler .entry)) (c .variables) stmt)) 0) steps ⌝ }
+        (stmtIn (wholeStmt (now (handler .entry)) (c .variables) stmt)) (behindOf (wholeStmt (now (handler .entry)) (c .variables) stmt))
+        0) steps ⌝ }
 {
     decide(walk(handler, proof, work, c, 25, 0, root, stmt), steps)
 }

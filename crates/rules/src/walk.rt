@@ -1,5 +1,5 @@
 // The walk over the derivation's nodes in file order. Statement and node are positions in their files, read again where they
-// stand; sequence and parallel find their right parts by where the left ones end, and weaken keeps its statement.
+// stand; the right part of a sequence or parallel stands where the walk of the left one ended, and weaken keeps its statement.
 use crate::Counts;
 use crate::Walked;
 use derivation::NodeHead;
@@ -7,6 +7,7 @@ use derivation::nodes::node_end;
 use derivation::nodes::node_head_at;
 use handler::Part;
 use handler::reading::part_at;
+use handler::reading::stmt_end;
 use nodes::Own;
 use nodes::assignment_fault;
 use nodes::code_of;
@@ -24,12 +25,12 @@ ghost use mathlib.Core.Path.{_≡_};
 ghost use mathlib.Core.Bool.{true, cond};
 ghost use lib.Dec.{eqb};
 ghost use Rattle.handler.specs.Statements.{wholeStmt};
-ghost use Rattle.handler.specs.Shapes.{partAt};
+ghost use Rattle.handler.specs.Shapes.{partAt, behindOf};
 ghost use Rattle.semantics.specs.Checking.{firstBroken, owed};
 ghost use Rattle.derivation.specs.Nodes.{nodeAt, wholeNode};
 ghost use Rattle.rules.specs.Verdicts.{tablesOf};
 ghost use Rattle.nodes.specs.Owing.{ownOf};
-ghost use Rattle.rules.specs.Walks.{stmtIn, isStmt, nodeIn, isNode, walkOn, Ready, Walkable, firstAt, secondAt};
+ghost use Rattle.rules.specs.Walks.{stmtIn, isStmt, nodeIn, isNode, walkOn, Ready, Walkable, firstAt};
 
 // The first bit of the left part or the body.
 fn left_or_body(part: Part, stmt: usize) -> usize
@@ -38,7 +39,7 @@ fn left_or_body(part: Part, stmt: usize) -> usize
     match part {
         Part::Nil => stmt,
         Part::Assign(_, _) => stmt,
-        Part::Pair(_, left, _) => left,
+        Part::Pair(_, left) => left,
         Part::Test(_, _, body) => body,
         Part::Nothing => stmt,
     }
@@ -52,19 +53,6 @@ fn first_part(part: Part, rule: u32, stmt: usize) -> usize
         return stmt;
     }
     left_or_body(part, stmt)
-}
-
-// The first bit of the right part.
-fn second_part(part: Part, stmt: usize) -> usize
-    ensures { λ r. ⌜ r ≡ secondAt stmt part ⌝ }
-{
-    match part {
-        Part::Nil => stmt,
-        Part::Assign(_, _) => stmt,
-        Part::Pair(_, _, right) => right,
-        Part::Test(_, _, _) => stmt,
-        Part::Nothing => stmt,
-    }
 }
 
 // The first condition that the node at a bit breaks of its own over the statement at a bit, whose parts were found.
@@ -132,7 +120,8 @@ pub(crate) fn walk(
     ensures { λ r.
         ⌜ r ≡ walkOn (tablesOf (now (handler .entry)) (now (proof .entry)) (c .variables) (c .states) (c .sets))
         (nodeAt levels (now (proof .entry)) (c .sets) (c .relations) node at)
-        (stmtIn (wholeStmt (now (handler .entry)) (c .variables) stmt)) node ⌝ }
+        (stmtIn (wholeStmt (now (handler .entry)) (c .variables) stmt)) (behindOf (wholeStmt (now (handler .entry)) (c .variables) stmt))
+        node ⌝ }
 {
     if levels == 0 {
         return Walked::Broken(0, node);
@@ -145,17 +134,16 @@ pub(crate) fn walk(
                 return Walked::Broken(number, node);
             }
             if rule < 2 {
-                return Walked::Through(node + 1, next);
+                return Walked::Through(node + 1, next, stmt_end(handler, c.variables, stmt));
             }
             let first = first_part(part, rule, stmt);
             match walk(handler, proof, work, c, levels - 1, node + 1, next, first) {
                 Walked::Broken(number, place) => Walked::Broken(number, place),
-                Walked::Through(so_far, end) => {
+                Walked::Through(so_far, end, behind) => {
                     if rule < 4 {
-                        let second = second_part(part, stmt);
-                        return walk(handler, proof, work, c, levels - 1, so_far, end, second);
+                        return walk(handler, proof, work, c, levels - 1, so_far, end, behind);
                     }
-                    Walked::Through(so_far, end)
+                    Walked::Through(so_far, end, behind)
                 }
             }
         }

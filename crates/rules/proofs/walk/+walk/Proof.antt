@@ -2,6 +2,8 @@
 -- What each call asks and finds is said by the laws of Walking.
 use Prim.Native.Nat.{ℕ, _≤_, _<_}
 use mathlib.Core.Path.{_≡_, sym, _∙_}
+use mathlib.Core.Bool.{cond}
+use lib.Dec.{eqb}
 use native.Mathlib.Omega.{arith}
 use borrow.Author.Needs.{needs}
 use borrow.Fn.Kinds.{In}
@@ -9,10 +11,10 @@ use borrow.Fn.PlainCycle.{Measures, is, falls, and}
 use Rattle.derivation.proofs.Heads.{head-few, node-sound}
 use Rattle.derivation.proofs.nodes.node_head_at.Reads as node-head-at-reads
 use Rattle.derivation.specs.Nodes.{nodeAt}
-use Rattle.handler.specs.Statements.{wholeStmt}
 use Rattle.handler.proofs.reading.part_at.Reads as part-at-reads
-use Rattle.rules.specs.Walks.{stmtIn}
-use Rattle.rules.proofs.Faults.{under}
+use Rattle.handler.proofs.reading.stmt_end.Reads as stmt-end-reads
+use Rattle.handler.specs.Shapes.{partAt}
+use Rattle.rules.specs.Walks.{firstAt}
 use Rattle.rules.proofs.Standing.{Found, found}
 use Rattle.rules.proofs.Walking.{Seen, more-levels, no-fault, own-there, breach, low-rule, leaf, first-stands, first-node, stops, ends, second-node, second-stands, goes-on}
 use Rattle.rules.proofs.walk.walk.Reads as walk
@@ -20,7 +22,6 @@ use Rattle.rules.proofs.walk.walk.Kinds as walk-kinds
 use Rattle.rules.proofs.walk.+walk.Lts-walk as lts
 use Rattle.rules.proofs.walk.first_part.Reads as first-part-reads
 use Rattle.rules.proofs.walk.own_fault.Reads as own-fault-reads
-use Rattle.rules.proofs.walk.second_part.Reads as second-part-reads
 use Rattle.rules.proofs.walk.+walk.{statement}
 use Rattle.rules.proofs.walk.+walk.Tie.{close}
 
@@ -41,12 +42,12 @@ callees t = (
   part-at-reads.Learnt,
   own-fault-reads.Asked,
   own-fault-reads.Learnt,
+  stmt-end-reads.Asked,
+  stmt-end-reads.Learnt,
   first-part-reads.Asked,
   first-part-reads.Learnt,
   below t,
   walk.Post,
-  second-part-reads.Asked,
-  second-part-reads.Learnt,
 )
 
 -- The derivation that was read at the node.
@@ -118,38 +119,35 @@ walk-requires t c κs =
       record { ready = s .pre .1 .ready; shallow = omega (arith, x .low); derivation = first-node x (over t (c .before)); statement = rw (c .first-part .ensures, c .before .before .before .before .before .part-at .ensures) (part .there) },
     )
 
--- The statement at the first child, by the law of where it stands.
-first-is : (t : ℕ) (c : lts.After-first-part (callees t) (given t) walk.Post) →
+-- Where the first child's statement stands.
+first-at : (t : ℕ) (c : lts.After-first-part (callees t) (given t) walk.Post) →
     let a = c .before .before .before .before .before .before .before .before .before .before .before .before .before .before .args in
-    stmtIn (wholeStmt (a .handler .now) (a .c .variables) (c .first-part .result))
-    ≡ under (c .before .before .before .before .before .before .before .rule .given .0 .0) (stmtIn (wholeStmt (a .handler .now) (a .c .variables) (a .stmt)))
-first-is t c = rw (c .first-part .ensures, c .before .before .before .before .before .part-at .ensures) (first-stands (seen t (c .before .before)) (over t (c .before)) .is)
+    c .first-part .result ≡ cond (eqb (c .before .before .before .before .before .before .before .rule .given .0 .0) 6) (a .stmt)
+    (firstAt (a .stmt) (partAt (a .handler .now) (a .c .variables) (a .stmt)))
+first-at t c = rw (← c .before .before .before .before .before .part-at .ensures) (c .first-part .ensures)
 
 walk-requires-2 : (t : ℕ) → lts.Need-walk-requires-2 (callees t) (given t) walk.Post
 walk-requires-2 t c κs =
-    let w = c .before .before .before .before .before in
+    let w = c .before .before .before .before in
     let x = seen t (w .before .before .before) in
     let o = over t (w .before .before) in
-    let s = w .before .before .before .before .before .before .before .before .before .before .before .before .before .before .before in (
+    let s = w .before .before .before .before .before .before .before .before .before .before .before .before .before .before .before in
+    let through = c .before .before .so-far .given .1 in (
       omega (arith, s .pre .0, w .before .before .before .before .before .before .before .before .before .before .before .if1 .left),
       record {
         ready = s .pre .1 .ready;
         shallow = omega (arith, x .low);
-        derivation = second-node x o _ (first-is t (w .before)) (w .walk .result) (w .walk .ensures) _ _ (c .before .before .before .so-far .given .1) (c .before .if3 .taken);
-        statement = rw (c .second-part .ensures, w .before .before .before .before .before .before .part-at .ensures) (second-stands x o _ (first-is t (w .before)) (w .walk .result) (w .walk .ensures) (c .before .if3 .taken) .there);
+        derivation = second-node x o _ (first-at t (w .before)) (w .walk .result) (w .walk .ensures) _ _ _ through (c .if3 .taken) .0;
+        statement = second-stands x o _ (first-at t (w .before)) (w .walk .result) (w .walk .ensures) _ _ _ through (c .if3 .taken) .there;
       },
     )
 
 returns-4 : (t : ℕ) → lts.Need-returns-4 (callees t) (given t) walk.Post
 returns-4 t c =
     let q = c .before in
-    let w = q .before .before .before .before .before in
-    let x = seen t (w .before .before .before) in
-    let o = over t (w .before .before) in
-    goes-on x o _ (first-is t (w .before)) (w .walk .result) (w .walk .ensures) _ _ (q .before .before .before .so-far .given .1) (q .before .if3 .taken)
-    (q .second-part .result)
-    (rw (q .second-part .ensures, w .before .before .before .before .before .before .part-at .ensures) (second-stands x o _ (first-is t (w .before)) (w .walk .result) (w .walk .ensures) (q .before .if3 .taken) .is))
-    (c .walk2 .result) (c .walk2 .ensures)
+    let w = q .before .before .before .before in
+    goes-on (seen t (w .before .before .before)) (over t (w .before .before)) _ (first-at t (w .before)) (w .walk .result) (w .walk .ensures) _ _ _
+    (q .before .before .so-far .given .1) (q .if3 .taken) (c .walk2 .result) (c .walk2 .ensures)
 
 returns-5 : (t : ℕ) → lts.Need-returns-5 (callees t) (given t) walk.Post
 returns-5 t c =
@@ -161,12 +159,12 @@ returns-5 t c =
 returns-6 : (t : ℕ) → lts.Need-returns-6 (callees t) (given t) walk.Post
 returns-6 t c =
     let w = c .before .before .before in
-    stops (seen t (w .before .before .before)) (over t (w .before .before)) _ (first-is t (w .before)) (w .walk .result) (w .walk .ensures) _ _ (c .before .number2 .given .1)
+    stops (seen t (w .before .before .before)) (over t (w .before .before)) _ (first-at t (w .before)) (w .walk .result) (w .walk .ensures) _ _ (c .before .number2 .given .1)
 
 returns-7 : (t : ℕ) → lts.Need-returns-7 (callees t) (given t) walk.Post
 returns-7 t c =
     let w = c .before .before .before .before in
-    ends (seen t (w .before .before .before)) (over t (w .before .before)) _ (first-is t (w .before)) (w .walk .result) (w .walk .ensures) _ _ (c .before .before .so-far .given .1) (c .if3 .left)
+    ends (seen t (w .before .before .before)) (over t (w .before .before)) _ (first-at t (w .before)) (w .walk .result) (w .walk .ensures) _ _ _ (c .before .before .so-far .given .1) (c .if3 .left)
 
 pub +walk-spec : {M : Type 1} → statement M
 +walk-spec =
@@ -179,11 +177,12 @@ pub +walk-spec : {M : Type 1} → statement M
     (returns-2 t)
     (λ c. search needs)
     (λ c. omega (arith, few t (c .before)))
-    (λ c. leaf (seen t (c .before)) (c .if2 .taken))
+    (λ c κs. search needs)
+    (λ c. rw (c .stmt-end .ensures) (leaf (seen t (c .before .before)) (c .before .if2 .taken)))
     (λ c κs. search needs) (λ c. search needs)
     (λ c. omega (arith, few t (c .before .before)))
     (walk-requires t)
-    (λ c. search needs) (λ c. search needs) (λ c κs. search needs) (λ c. search needs)
+    (λ c. search needs) (λ c. search needs) (λ c. search needs)
     (walk-requires-2 t)
     (returns-4 t)
     (returns-5 t)
