@@ -14,11 +14,13 @@ use Rattle.handler.specs.Reading.{handler, readHandler}
 use Rattle.expressions.specs.Header.{headerAt}
 use Rattle.expressions.specs.declared.Header.the-variants.{Sizes}
 use Rattle.handler.specs.Statements as Stmts
+use Rattle.handler.specs.Shapes.{partAt}
 use Rattle.handler.specs.declared.Part.{Part}
 use Rattle.handler.specs.declared.Part.the-variants.{Nil, Assign, Pair, Test, Nothing}
 use Rattle.derivation.specs.Tables.{written}
 use Rattle.derivation.specs.Reading.{proof, readProof, wordsOf}
-use Rattle.derivation.specs.Nodes.{NodeRead, whole, fault, nodeAt}
+use Rattle.derivation.specs.declared.NodeHead.{NodeHead}
+use Rattle.derivation.specs.Nodes.{NodeRead, whole, fault, nodeHead, nodeAt, wholeNode}
 use Rattle.rules.specs.declared.Counts.{Counts}
 use Rattle.rules.specs.declared.Place.the-variants.{Node}
 use Rattle.rules.specs.declared.Verdict.{Verdict}
@@ -70,6 +72,13 @@ pub record Walkable (hb pb work : List ℕ) (c : Counts) (levels node at stmt : 
   pub shallow : levels ≤ 25
   pub derivation : isNode (nodeAt levels pb (c .sets) (c .relations) node at) ≡ true
   pub statement : isStmt (Stmts.wholeStmt hb (c .variables) stmt) ≡ true
+
+-- A node's head and a statement's parts as they were read, and where.
+pub record Met (hb pb : List ℕ) (c : Counts) (head : NodeHead) (part : Part) (at stmt : ℕ) : Type 0 where
+  pub node : isNode (wholeNode pb (c .sets) (c .relations) at) ≡ true
+  pub statement : isStmt (Stmts.wholeStmt hb (c .variables) stmt) ≡ true
+  pub head-is : head ≡ nodeHead pb (c .sets) (c .relations) 24 0 at
+  pub part-is : part ≡ partAt hb (c .variables) stmt
 
 -- Where the left part or the body of the statement at a bit stands.
 abbrev pub firstAt : ℕ → Part → ℕ

@@ -22,15 +22,16 @@ use nodes::target_of;
 use nodes::weaken_fault;
 use nodes::while_fault;
 ghost use mathlib.Core.Path.{_≡_};
-ghost use mathlib.Core.Bool.{true, cond};
+ghost use mathlib.Core.Bool.{cond};
+ghost use Prim.Native.Nat.{ℕ};
 ghost use lib.Dec.{eqb};
 ghost use Rattle.handler.specs.Statements.{wholeStmt};
-ghost use Rattle.handler.specs.Shapes.{partAt, behindOf};
+ghost use Rattle.handler.specs.Shapes.{behindOf};
 ghost use Rattle.semantics.specs.Checking.{firstBroken, owed};
 ghost use Rattle.derivation.specs.Nodes.{nodeAt, wholeNode};
 ghost use Rattle.rules.specs.Verdicts.{tablesOf};
 ghost use Rattle.nodes.specs.Owing.{ownOf};
-ghost use Rattle.rules.specs.Walks.{stmtIn, isStmt, nodeIn, isNode, walkOn, Ready, Walkable, firstAt};
+ghost use Rattle.rules.specs.Walks.{stmtIn, nodeIn, walkOn, Ready, Met, Walkable, firstAt};
 
 // The first bit of the left part or the body.
 fn left_or_body(part: Part, stmt: usize) -> usize
@@ -55,26 +56,22 @@ fn first_part(part: Part, rule: u32, stmt: usize) -> usize
     left_or_body(part, stmt)
 }
 
-// The first condition that the node at a bit breaks of its own over the statement at a bit, whose parts were found.
+// The first condition that a node breaks of its own over a statement, by the node's head and the statement's parts.
 fn own_fault(
     handler: &[u8],
     proof: &[u8],
     work: &[u64],
     c: Counts,
-    at: usize,
-    stmt: usize,
+    head: NodeHead,
     part: Part,
 ) -> Own
     requires { ⌜ Ready (now handler) (now proof) (now work) c ⌝ }
-    requires { ⌜ isNode (wholeNode (now proof) (c .sets) (c .relations) at) ≡ true ⌝ }
-    requires { ⌜ isStmt (wholeStmt (now handler) (c .variables) stmt) ≡ true ⌝ }
-    requires { ⌜ part ≡ partAt (now handler) (c .variables) stmt ⌝ }
     ensures { λ r.
-        ⌜ r ≡ ownOf (firstBroken (owed (tablesOf (now (handler .entry)) (now (proof .entry)) (c .variables) (c .states) (c .sets))
+        ⌜ ((at stmt : ℕ) → Met (now (handler .entry)) (now (proof .entry)) c head part at stmt
+        → r ≡ ownOf (firstBroken (owed (tablesOf (now (handler .entry)) (now (proof .entry)) (c .variables) (c .states) (c .sets))
         (nodeIn (wholeNode (now (proof .entry)) (c .sets) (c .relations) at))
-        (stmtIn (wholeStmt (now (handler .entry)) (c .variables) stmt)))) ⌝ }
+        (stmtIn (wholeStmt (now (handler .entry)) (c .variables) stmt))))) ⌝ }
 {
-    let head = node_head_at(proof, c.sets, c.relations, 24, 0, at);
     let own = names_of(head);
     let NodeHead::Node(rule, _, _, _, _, k, w, first) = head else {
         return Own::Holds;
@@ -126,11 +123,12 @@ pub(crate) fn walk(
     if levels == 0 {
         return Walked::Broken(0, node);
     }
-    match node_head_at(proof, c.sets, c.relations, levels - 1, node, at) {
+    let head = node_head_at(proof, c.sets, c.relations, levels - 1, node, at);
+    match head {
         NodeHead::Fault(_, _) => Walked::Broken(0, node),
         NodeHead::Node(rule, _, _, _, _, _, _, next) => {
             let part = part_at(handler, c.variables, stmt);
-            if let Own::Breaks(number) = own_fault(handler, proof, work, c, at, stmt, part) {
+            if let Own::Breaks(number) = own_fault(handler, proof, work, c, head, part) {
                 return Walked::Broken(number, node);
             }
             if rule < 2 {

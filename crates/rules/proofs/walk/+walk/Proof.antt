@@ -8,13 +8,14 @@ use native.Mathlib.Omega.{arith}
 use borrow.Author.Needs.{needs}
 use borrow.Fn.Kinds.{In}
 use borrow.Fn.PlainCycle.{Measures, is, falls, and}
-use Rattle.derivation.proofs.Heads.{head-few, node-sound}
+use Rattle.derivation.specs.declared.NodeHead.the-variants.{Node}
+use Rattle.derivation.proofs.Heads.{head-few, head-same, node-sound}
 use Rattle.derivation.proofs.nodes.node_head_at.Reads as node-head-at-reads
 use Rattle.derivation.specs.Nodes.{nodeAt}
 use Rattle.handler.proofs.reading.part_at.Reads as part-at-reads
 use Rattle.handler.proofs.reading.stmt_end.Reads as stmt-end-reads
 use Rattle.handler.specs.Shapes.{partAt}
-use Rattle.rules.specs.Walks.{firstAt}
+use Rattle.rules.specs.Walks.{Met, firstAt}
 use Rattle.rules.proofs.Standing.{Found, found}
 use Rattle.rules.proofs.Walking.{Seen, more-levels, no-fault, own-there, breach, low-rule, leaf, first-stands, first-node, stops, ends, second-node, second-stands, goes-on}
 use Rattle.rules.proofs.walk.walk.Reads as walk
@@ -60,26 +61,39 @@ walk-returns t c =
     let s = c .before .before .before .before in let a = s .args in let f = here t s in
     absurd (more-levels (a .handler .now) (a .proof .now) (a .c) (a .node) (a .at) (a .levels) (a .stmt) (f .d) (f .after) (f .next) (f .read) (s .pre .1 .shallow) (c .if1 .taken))
 
-own-fault-requires : (t : ℕ) → lts.Need-own-fault-requires (callees t) (given t) walk.Post
-own-fault-requires t c κs =
-    let s = c .before .before .before .before .before .before .before .before .before in let a = s .args in let f = here t s in
-    (s .pre .1 .ready, (own-there (a .handler .now) (a .proof .now) (a .c) (a .node) (a .at) (a .levels) (a .stmt) (f .d) (f .after) (f .next) (f .read) (s .pre .1 .shallow), (s .pre .1 .statement, c .part-at .ensures)))
+-- The node and the statement that the node's own conditions are about.
+met : (t : ℕ) (c : lts.After-part-at (callees t) (given t) walk.Post) →
+    let h = c .before .before .before .before in let a = h .before .before .before .before .before .args in
+    let g = c .before .before .head .given .0 in
+    Met (a .handler .now) (a .proof .now) (a .c)
+    (Node (g .0) (g .1 .0) (g .1 .1 .0) (g .1 .1 .1 .0) (g .1 .1 .1 .1 .0) (g .1 .1 .1 .1 .1 .0) (g .1 .1 .1 .1 .1 .1 .0) (g .1 .1 .1 .1 .1 .1 .1 .0))
+    (c .part-at .result) (a .at) (a .stmt)
+met t c =
+    let h = c .before .before .before .before in
+    let s = h .before .before .before .before .before in let a = s .args in let f = here t s in
+    let read = sym (h .node-head-at .ensures) ∙ c .before .before .head .given .1 in
+    record {
+      node = own-there (a .handler .now) (a .proof .now) (a .c) (a .node) (a .at) (a .levels) (a .stmt) (f .d) (f .after) (f .next) (f .read) (s .pre .1 .shallow);
+      statement = s .pre .1 .statement;
+      head-is = sym (head-same _ _ _ _ _ _ 24 0 (node-sound _ _ _ _ _ _ _ _ _ read) (omega arith) (omega arith) ∙ read);
+      part-is = c .part-at .ensures;
+    }
 
 returns-2 : (t : ℕ) → lts.Need-returns-2 (callees t) (given t) walk.Post
 returns-2 t c =
     let o = c .before .before .before in
     let s = o .before .before .before .before .before .before .before .before .before .before in let a = s .args in let f = here t s in
     breach (a .handler .now) (a .proof .now) (a .c) (a .node) (a .at) (a .levels) (a .stmt) (f .d) (f .after) (f .next) (f .read) (s .pre .1 .shallow)
-    (o .own-fault .result) (o .own-fault .ensures) _ (c .before .number .given .1)
+    (o .own-fault .result) (o .own-fault .ensures _ _ (met t (o .before))) _ (c .before .number .given .1)
 
 -- What is known once the node's own conditions hold.
 seen : (t : ℕ) (c : lts.After-enum-told2 (callees t) (given t) walk.Post) →
-    let rule = c .before .before .before .before .before .rule .given .0 in
+    let rule = c .before .before .before .before .before .head .given .0 in
     let a = c .before .before .before .before .before .before .before .before .before .before .before .before .args in
     Seen (a .handler .now) (a .proof .now) (a .c) (a .node) (a .at) (a .levels) (a .stmt) (rule .0) (rule .1 .1 .1 .1 .1 .1 .1 .0)
 seen t c =
     let o = c .before .before in
-    let rule = o .before .before .before .rule .given in
+    let rule = o .before .before .before .head .given in
     let h = o .before .before .before .before .before in
     let s = h .before .before .before .before .before in let f = here t s in
     record {
@@ -89,7 +103,7 @@ seen t c =
       read = f .read;
       low = s .pre .1 .shallow;
       own = o .own-fault .result;
-      owes = o .own-fault .ensures;
+      owes = o .own-fault .ensures _ _ (met t (o .before));
       holds = c .enum-told2 .given .1;
       P = rule .0 .1 .0;
       R = rule .0 .1 .1 .0;
@@ -106,7 +120,7 @@ few : (t : ℕ) (c : lts.After-enum-told2 (callees t) (given t) walk.Post) → c
 few t c = head-few _ _ _ _ _ _ (node-sound _ _ _ _ _ _ _ _ _ (seen t c .head)) .1
 
 -- What the first child's call asks, and what it found.
-over : (t : ℕ) (c : lts.Else2 (callees t) (given t) walk.Post) → 2 ≤ c .before .before .before .before .before .before .rule .given .0 .0
+over : (t : ℕ) (c : lts.Else2 (callees t) (given t) walk.Post) → 2 ≤ c .before .before .before .before .before .before .head .given .0 .0
 over t c = c .if2 .left
 
 walk-requires : (t : ℕ) → lts.Need-walk-requires (callees t) (given t) walk.Post
@@ -122,7 +136,7 @@ walk-requires t c κs =
 -- Where the first child's statement stands.
 first-at : (t : ℕ) (c : lts.After-first-part (callees t) (given t) walk.Post) →
     let a = c .before .before .before .before .before .before .before .before .before .before .before .before .before .before .args in
-    c .first-part .result ≡ cond (eqb (c .before .before .before .before .before .before .before .rule .given .0 .0) 6) (a .stmt)
+    c .first-part .result ≡ cond (eqb (c .before .before .before .before .before .before .before .head .given .0 .0) 6) (a .stmt)
     (firstAt (a .stmt) (partAt (a .handler .now) (a .c .variables) (a .stmt)))
 first-at t c = rw (← c .before .before .before .before .before .part-at .ensures) (c .first-part .ensures)
 
@@ -172,7 +186,7 @@ pub +walk-spec : {M : Type 1} → statement M
     lts.spec (callees t) (given t) walk.Post
     (walk-returns t)
     (λ c. search needs) (λ c κs. search needs) (λ c. search needs) (λ c. search needs) (λ c κs. search needs)
-    (own-fault-requires t)
+    (λ c κs. search needs)
     (λ c. search needs)
     (returns-2 t)
     (λ c. search needs)
