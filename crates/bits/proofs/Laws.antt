@@ -1,5 +1,5 @@
 -- Laws of the packed reader's definitions, for the proofs here and for callers: bits, then fields, then the fill.
-use Prim.Native.Nat.{ℕ, zero, suc, _+_, _*_, _/_, _^_, _≤_, _<_}
+use Prim.Native.Nat.{ℕ, zero, suc, _+_, _*_, _/_, _%_, _^_, _≤_, _<_}
 use mathlib.Core.Bool.{Bool, true, false, cond, _&&_, and-eq-true-iff, true≢false}
 use mathlib.Core.List.{List}
 use mathlib.Core.Logic.{⊎-elim}
@@ -12,6 +12,7 @@ use borrow.Author.Tests.{leb-true, ltb-true, le-leb, lt-ltb, eqb-true, eqb-false
 use lib.Dec.{ltb, eqb}
 use lib.ListN.{length, List·getD-eq-default}
 use lib.Pow.{pow-mono}
+use lib.Arith.{digits-div, digits-mod}
 use Rattle.bits.specs.Fields.{bitAt, bitsAt, isThere, fieldAt, firstSet, fillBits, furtherByte, fillFrom, fillAt}
 use Rattle.bits.specs.declared.Field.{Field}
 use Rattle.bits.specs.declared.Field.the-variants.{Value, Missing}
@@ -99,6 +100,16 @@ there s at w v next e = rw e at (of-field s at w)
 
 pub missing : (s : List ℕ) (at w : ℕ) → fieldAt s at w ≡ Missing → isThere s at w ≡ false
 missing s at w e = rw e at (of-field s at w)
+
+-- A field that is there is two that touch.
+pub parted : (s : List ℕ) (at w k v next : ℕ) → 1 ≤ w → 1 ≤ k → fieldAt s at (w + k) ≡ Value v next
+    → (fieldAt s at w ≡ Value (v / 2 ^ k) (at + w)) × (fieldAt s (at + w) k ≡ Value (v % 2 ^ k) next)
+parted s at w k v next least more e =
+    let t = there s at (w + k) v next e in
+    let small = bits-below s (at + w) k in
+    let v-is = t .value ∙ bits-join s at w k in
+    let end = t .moved ∙ sym (add-assoc at w k) in
+    (rw (v-is, digits-div (bitsAt s at w) small) (found s at w least (omega (arith, t)) (omega (arith, t)) (omega (arith, t))), rw (v-is, digits-mod (bitsAt s at w) small, end) (found s (at + w) k more (omega (arith, t)) (omega (arith, t)) (omega (arith, t))))
 
 -- Where cursors reach the end of the file, a field of 1 to 64 bits is missing only by running past it.
 pub runs-past : (s : List ℕ) (at w : ℕ) → 1 ≤ w → w ≤ 64 → 8 * length s < 2 ^ 64 → fieldAt s at w ≡ Missing → 8 * length s < at + w

@@ -1,8 +1,8 @@
 -- Laws of what stands at a node: a name by what its field holds, and what a node that is read without fault shows.
-use Prim.Native.Nat.{ℕ, _+_, _≤_, _<_}
+use Prim.Native.Nat.{ℕ, _+_, _/_, _%_, _^_, _≤_, _<_}
 use mathlib.Core.Bool.{Bool, true, false, cond, _||_}
 use mathlib.Core.List.{List}
-use mathlib.Core.Path.{_≡_, refl, sym, _∙_}
+use mathlib.Core.Path.{_≡_, refl, sym, _∙_, ap}
 use native.Mathlib.Nat.{pos-of-ne-zero}
 use native.Mathlib.Omega.{arith}
 use borrow.Author.Tests.{lt-ltb, le-ltb, lt-leb, leb-false, ne-eqb, eqb-false, ltb-true}
@@ -10,7 +10,7 @@ use lib.Dec.{leb, ltb, eqb}
 use Rattle.bits.specs.Fields.{bitLength, fieldAt}
 use Rattle.bits.specs.declared.Field.{Field}
 use Rattle.bits.specs.declared.Field.the-variants.{Value, Missing}
-use Rattle.bits.proofs.Laws.{There, there}
+use Rattle.bits.proofs.Laws.{There, there, parted}
 use Rattle.semantics.specs.Derivations.{Names}
 use Rattle.derivation.specs.declared.NodeHead.{NodeHead}
 use Rattle.derivation.specs.declared.NodeHead.the-variants.{Node, Fault}
@@ -37,6 +37,28 @@ second-name bytes first second at i next e under f =
     let moved : next ≡ at + 4 = there bytes at 4 i next e .moved in
     let end : next + 4 ≡ at + 8 = omega arith in
     rw (end, moved) (named-there bytes first at _ i next e under)
+
+-- Four names that 16 bits hold, each of a table that is there.
+pub four-names : (bytes : List ℕ) (sets relations rule at v next : ℕ) → fieldAt bytes at 16 ≡ Value v next → v / 4096 % 16 < sets
+    → v / 256 % 16 < relations → v / 16 % 16 < relations → v % 16 < relations
+    → namesHead bytes sets relations rule at ≡ loopHead bytes sets relations rule (v / 4096 % 16) (v / 256 % 16) (v / 16 % 16) (v % 16) next
+unfolding namesHead
+four-names bytes sets relations rule at v next e p-there r-there g-there q-there =
+    let t = there bytes at 16 v next e in
+    let first = parted bytes at 4 12 v next (omega arith) (omega arith) e in
+    let second = parted bytes (at + 4) 4 8 _ next (omega arith) (omega arith) (first .1) in
+    let last = parted bytes (at + 4 + 4) 4 4 _ next (omega arith) (omega arith) (second .1) in
+    let P : v / 2 ^ 12 ≡ v / 4096 % 16 = omega (arith, t .small) in
+    let R : v % 2 ^ 12 / 2 ^ 8 ≡ v / 256 % 16 = omega arith in
+    let G : v % 2 ^ 12 % 2 ^ 8 / 2 ^ 4 ≡ v / 16 % 16 = omega arith in
+    let Q : v % 2 ^ 12 % 2 ^ 8 % 2 ^ 4 ≡ v % 16 = omega arith in
+    let third : at + 4 + 4 ≡ at + 8 = omega arith in
+    let fourth : at + 8 + 4 ≡ at + 12 = omega arith in
+    named-there bytes sets at _ _ _ (rw P at (first .0)) p-there
+    ∙ named-there bytes relations (at + 4) _ _ _ (rw R at (second .0)) r-there
+    ∙ named-there bytes relations (at + 8) _ _ _ (rw (G, third) at (last .0)) g-there
+    ∙ named-there bytes relations (at + 12) _ _ _ (rw (Q, third, fourth) at (last .1)) q-there
+    ∙ ap (loopHead bytes sets relations rule _ _ _ _) (sym (t .moved))
 
 -- The four tables that every node names.
 abbrev pub names : ℕ → ℕ → ℕ → ℕ → Names

@@ -4,7 +4,9 @@ use super::NodeEnd;
 use super::NodeHead;
 use bits::Field;
 ghost use mathlib.Core.Path.{_≡_};
+ghost use mathlib.Core.Bool.{_&&_};
 ghost use Prim.Native.Nat.{ℕ, _+_};
+ghost use lib.Dec.{ltb};
 ghost use Rattle.derivation.specs.Nodes.{named, onPair, loopHead, namesHead, nodeHead, nodeAt, wholeNode, endOf};
 
 // The two tables named at a cursor, each below its limit. The promise is over whatever is read behind them.
@@ -50,8 +52,8 @@ fn loop_head(
     }
 }
 
-// The tables that a node of a rule names, from the cursor behind its rule.
-fn names_head(src: &[u8], sets: u32, relations: u32, rule: u32, at: usize) -> NodeHead
+// The tables that a node of a rule names, from the cursor behind its rule, pair by pair: so that the first fault is met first.
+fn names_in_turn(src: &[u8], sets: u32, relations: u32, rule: u32, at: usize) -> NodeHead
     ensures { λ r. ⌜ r ≡ namesHead (now (src .entry)) sets relations rule at ⌝ }
 {
     match names_at(src, sets, relations, at) {
@@ -61,6 +63,30 @@ fn names_head(src: &[u8], sets: u32, relations: u32, rule: u32, at: usize) -> No
             Names::Pair(g, q, next) => loop_head(src, sets, relations, rule, p, r, g, q, next),
         },
     }
+}
+
+// Whether there are such tables.
+fn all_there(sets: u32, relations: u32, p: u32, r: u32, g: u32, q: u32) -> bool
+    ensures { λ there. ⌜ there ≡ (ltb p sets && ltb r relations && ltb g relations && ltb q relations) ⌝ }
+{
+    (p < sets) & (r < relations) & (g < relations) & (q < relations)
+}
+
+// The same tables, read at once where they are all there.
+fn names_head(src: &[u8], sets: u32, relations: u32, rule: u32, at: usize) -> NodeHead
+    ensures { λ r. ⌜ r ≡ namesHead (now (src .entry)) sets relations rule at ⌝ }
+{
+    let Field::Value(names, next) = bits::read(src, at, 16) else {
+        return names_in_turn(src, sets, relations, rule, at);
+    };
+    let p = (names / 4096 % 16) as u32;
+    let r = (names / 256 % 16) as u32;
+    let g = (names / 16 % 16) as u32;
+    let q = (names % 16) as u32;
+    if all_there(sets, relations, p, r, g, q) {
+        return loop_head(src, sets, relations, rule, p, r, g, q, next);
+    }
+    names_in_turn(src, sets, relations, rule, at)
 }
 
 // What stands at a node with `before` nodes before it, where `below` levels are left below it.
