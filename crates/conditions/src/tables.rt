@@ -102,7 +102,7 @@ pub fn chains_into(n: u32, work: &[u64], p: u32, a: u32, b: u32, whole: u32) -> 
     while rest.bits != 0 {
         let first = u64::trailing_zeros(rest.bits);
         held = held & row_chains_into(n, work, a, through, b, whole, first);
-        rest = rest.narrow(StateSet::single(first));
+        rest = rest.without_least();
     }
     held
 }

@@ -41,7 +41,7 @@ pub fn image(n: u32, set: StateSet, rows: &[u64]) -> StateSet
         let first = u64::trailing_zeros(rest.bits);
         let bits = word(rows, first as usize);
         ends = ends.join(StateSet { bits });
-        rest = rest.narrow(StateSet::single(first));
+        rest = rest.without_least();
     }
     ends.meet(states)
 }

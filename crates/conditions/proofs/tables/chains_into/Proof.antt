@@ -66,11 +66,9 @@ ended c rest held e done =
     ∙ inSet-part n _ _ _ (λ s at out. full-within n _ _ _ (relation-small n (a .work .now) (a .b))
     (and-right (ltb s 64 && ltb s n) _ (sym (whole s) ∙ not-false _ out)))
 
-one : (c : tie.After-narrow2 Inv-loop μ-loop) → let set = c .before .before .before .before .before .before .loop .rest in
-    Taken (has set) (has (c .narrow2 .result)) (trailingZeros 64 (set .bits))
-one c =
-    let d = c .before .before .before in
-    first-taken _ (d .struct-known4 .given .0 .fits) (d .before .if3 .taken) _ _ (c .before .single .ensures) (c .narrow2 .ensures)
+one : (c : tie.After-without-least Inv-loop μ-loop) → let set = c .before .before .before .before .before .loop .rest in
+    Taken (has set) (has (c .without-least .result)) (trailingZeros 64 (set .bits))
+one c = let d = c .before .before in first-taken _ (d .struct-known4 .given .0 .fits) (d .before .if3 .taken) _ (c .without-least .ensures)
 
 returns : tie.Need-returns Inv-loop μ-loop
 returns c = let d = c .before .before in ended d _ _ (c .if1 .taken) (started d)
@@ -88,17 +86,17 @@ loop-holds c = started (c .before .before .before .before .before .before)
 
 loop-less : tie.Need-loop-less Inv-loop μ-loop
 loop-less c =
-    let d = c .before .before .before in
+    let d = c .before .before in
     fewer _ _ _ (one c) 64 (first-below _ (d .struct-known4 .given .0 .fits) (d .before .if3 .taken))
 
 loop-again : tie.Need-loop-again Inv-loop μ-loop
 unfolding wordRelation
 loop-again c =
-    let l = c .before .before .before .before .before .before in
+    let l = c .before .before .before .before .before in
     let e = l .before .before .before in
     let a = e .before .before .before .before .before .before .before .before .before .before .before .before .args in
     passed-more (a .n) (λ s. holds (chains (a .n) (a .work .now) (a .a) (a .b) (a .whole) s)) _ _ _ _ _ _ (one c)
-    (c .before .before .row-chains-into .ensures
+    (c .before .row-chains-into .ensures
     ∙ inSet-starting (a .n) _ _ _ _ (relation-small (a .n) (a .work .now) (a .a) _) (rw (e .before .rows-of3 .ensures) at (e .starting2 .ensures)))
     (l .loop .inv)
 
@@ -119,7 +117,7 @@ chains-into-spec =
     (λ c κs. search needs) (λ c κs. search needs)
     returns-2
     loop-holds
-    (λ c κs. search needs) (λ c κs. search needs) (λ c κs. search needs)
+    (λ c κs. search needs) (λ c κs. search needs)
     loop-less
     loop-again
     returns-3)
