@@ -11,7 +11,7 @@ use mathlib.Core.List.{List, [], _∷_}
 use lib.ListN.{getD}
 use lib.Dec.{ltb, eqb}
 use lib.Count.{trailingZeros, under}
-use borrow.Author.Tests.{eqb-true, eq-eqb, ne-eqb, lt-ltb}
+use borrow.Author.Tests.{eqb-true, eq-eqb, ne-eqb, lt-ltb, ltb-true}
 use Rattle.states.specs.declared.StateSet.{StateSet}
 use Rattle.states.specs.Search.{implies, all, any}
 use Rattle.states.specs.Sets.{mem, has}
@@ -124,6 +124,16 @@ module _ (p q : ℕ → Bool) (k : ℕ) (one : Taken p q k) where
           and-both _ _ (implies-at _ _ (all-at n _ h k l) (one .there))
           (all-intro n _ (λ s m. implies-intro _ _ (λ e. implies-at _ _ (all-at n _ h s m) (kept s e))))
 
+-- The states of a set that are below n: those that a loop over them starts from.
+module _ (n : ℕ) (set from : StateSet) (start : (s : ℕ) → has from s ≡ (has set s && (ltb s 64 && ltb s n))) where
+  pub start-below : (s : ℕ) → has from s ≡ true → s < n
+  start-below s e = ltb-true s n (and-right (ltb s 64) _ (and-right (has set s) _ (sym (start s) ∙ e)))
+
+  pub start-same : (s : ℕ) → s < n → has from s ≡ has set s
+  unfolding has
+  start-same s l =
+      start s ∙ bool-ext _ _ (and-left (has set s) _) (λ h. and-both _ _ h (and-both _ _ (lt-ltb s 64 (mem-below _ s h)) (lt-ltb s n l)))
+
 -- f holds of the states taken out of a set, and is still to be asked of those left in it: what a loop over the members keeps.
 pub record Passed (n : ℕ) (f : ℕ → Bool) (from rest : StateSet) (held : Bool) : Type 0 where
   pub low : (s : ℕ) → has rest s ≡ true → s < n
@@ -187,12 +197,9 @@ module _ (n : ℕ) (rows : List ℕ) (from : StateSet) where
       → (t : ℕ) → has found t ≡ any n (λ s. has set s && rel n rows s t)
   unfolding has
   gathered-all set rest ends found e done start masked t =
-      masked t ∙ ap (λ b. b && (ltb t 64 && ltb t n)) (ends-are ∙ any-cong n _ _ (λ s l. ap (λ b. b && mem (getD rows s 0 ∷ []) t) (starts s l)))
+      masked t ∙ ap (λ b. b && (ltb t 64 && ltb t n)) (ends-are ∙ any-cong n _ _ (λ s l. ap (λ b. b && mem (getD rows s 0 ∷ []) t) (start-same n set from start s l)))
       ∙ any-and n _ _ ∙ any-cong n _ _ (λ s l. and-assoc (has set s) (mem (getD rows s 0 ∷ []) t) (ltb t 64 && ltb t n) ∙ ap (λ b. has set s && b) (rel-row n rows s t l))
     where
-      starts : (s : ℕ) → s < n → has from s ≡ has set s
-      starts s l = start s ∙ bool-ext _ _ (and-left (has set s) _) (λ h. and-both _ _ h (and-both _ _ (lt-ltb s 64 (mem-below _ s h)) (lt-ltb s n l)))
-
       none-left : any n (λ s. has rest s && mem (getD rows s 0 ∷ []) t) ≡ false
       none-left = any-none n _ (λ s l. rw (e, mem-nought s))
 

@@ -1,5 +1,4 @@
 -- The word 0 has no bit; of another, `x & (x - 1)` keeps the bits above the lowest.
-use mathlib.Core.Path.{_∙_, sym}
 use native.Mathlib.Omega.{arith}
 use borrow.Author.Needs.{needs}
 use Rattle.states.specs.Sets.{has}
