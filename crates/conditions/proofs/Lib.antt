@@ -2,4 +2,3 @@
 pub mod Searches
 pub mod Words
 pub mod Bare
-pub mod Idle

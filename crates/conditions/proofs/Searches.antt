@@ -3,7 +3,7 @@
 use Prim.Native.Nat.{ℕ, _+_, _<_, _≤_}
 use native.Mathlib.Nat.{le-antisymm}
 use native.Mathlib.Numerals.{add-one}
-use mathlib.Core.Path.{_≡_, refl, sym, ap, _∙_}
+use mathlib.Core.Path.{_≡_, refl, sym, ap, ap₂, _∙_}
 use mathlib.Core.Logic.{_⊎_, inl, inr}
 use mathlib.Core.Bool.{Bool, true, false, _&&_, Bool·beq, true≢false}
 use lib.Dec.{ltb}
@@ -47,11 +47,15 @@ module _ (n : ℕ) (p : ℕ → Bool) (f : ℕ → Search) where
   pub inSet-at : holds (inSet (bare n) p f) ≡ true → (s : ℕ) → s < n → p s ≡ true → holds (f s) ≡ true
   inSet-at h s l = implies-at _ _ (all-at n _ (sym holds-inSet ∙ h) s l)
 
+pub inSet-same : (n : ℕ) (p q : ℕ → Bool) (f g : ℕ → Search) → ((s : ℕ) → p s ≡ q s) → ((s : ℕ) → holds (f s) ≡ holds (g s))
+    → holds (inSet (bare n) p f) ≡ holds (inSet (bare n) q g)
+inSet-same n p q f g members each = holds-inSet n p f ∙ all-cong n _ _ (λ s l. ap₂ implies (members s) (each s)) ∙ sym (holds-inSet n q g)
+
 -- The end of a loop over the members of a set: each was asked.
-pub passed-search : (n : ℕ) (f : ℕ → Search) (p : ℕ → Bool) (from rest : StateSet) (held : Bool) → rest .bits ≡ 0 → ((s : ℕ) → has from s ≡ p s)
+pub passed-search : (n : ℕ) (f : ℕ → Search) (p : ℕ → Bool) (from rest : StateSet) (held : Bool) → rest .bits ≡ 0 → ((s : ℕ) → s < n → has from s ≡ p s)
     → Passed n (λ s. holds (f s)) from rest held → held ≡ holds (inSet (bare n) p f)
 passed-search n f p from rest held e members done =
-    passed-all n _ from rest held e done ∙ all-cong n _ _ (λ s l. ap (λ b. implies b (holds (f s))) (members s)) ∙ sym (holds-inSet n p f)
+    passed-all n _ from rest held e done ∙ all-cong n _ _ (λ s l. ap (λ b. implies b (holds (f s))) (members s l)) ∙ sym (holds-inSet n p f)
 
 -- Every member is a state below n that a word can hold.
 abbrev pub Small : ℕ → (ℕ → Bool) → Type 0

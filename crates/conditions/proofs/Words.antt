@@ -6,7 +6,7 @@ use mathlib.Core.Bool.{Bool, true, false, _&&_, _||_, Bool·beq, true≢false}
 use mathlib.Core.List.{List, [], _∷_}
 use lib.Dec.{ltb, eqb}
 use borrow.Author.Tests.{lt-ltb, ltb-true, eqb-true}
-use Rattle.states.specs.Search.{all, any, must, holds}
+use Rattle.states.specs.Search.{all, any, Search, must, holds}
 use Rattle.states.specs.Sets.{mem, has}
 use Rattle.states.specs.declared.StateSet.{StateSet}
 use Rattle.states.specs.Relations.{rel, Reached, here, more, reach}
@@ -15,7 +15,7 @@ use Rattle.states.proofs.Rows.{rel-between, rel-mem, mem-below}
 use Rattle.states.proofs.Reach.{reach-exact}
 use Rattle.semantics.specs.Conditions.{inSet, sameSet}
 use Rattle.conditions.specs.Words.{bare, wordSet, wordRelation}
-use Rattle.conditions.proofs.Searches.{Small, all-bounds}
+use Rattle.conditions.proofs.Searches.{Small, all-bounds, inSet-same, inSet-part}
 
 -- A word masked to the n states.
 pub masked : (word n s : ℕ) → (mem (word ∷ []) s && (ltb s 64 && ltb s n)) ≡ (ltb s n && mem (word ∷ []) s)
@@ -42,6 +42,15 @@ ends-small n p rows t h = let w = any-true n _ h in rel-small n rows (w .0) t (a
 pub leads-cong : (n : ℕ) (r : ℕ → ℕ → Bool) (x y : StateSet) (p q : ℕ → Bool) → ((s : ℕ) → has x s ≡ p s) → ((s : ℕ) → has y s ≡ q s)
     → holds (inSet (bare n) (has x) (λ s. inSet (bare n) (r s) (λ t. must (has y t)))) ≡ holds (inSet (bare n) p (λ s. inSet (bare n) (r s) (λ t. must (q t))))
 leads-cong n r x y p q from into = ap₂ (λ p q. holds (inSet (bare n) p (λ s. inSet (bare n) (r s) (λ t. must (q t))))) (fun-ext from) (fun-ext into)
+
+-- A search that goes through any of the n states goes by every pair.
+pub all-through : (n : ℕ) (work : List ℕ) (a : ℕ) (f : ℕ → ℕ → Search) (x states : StateSet) (p : ℕ → Bool) → ((s : ℕ) → has x s ≡ p s)
+    → ((t : ℕ) → has states t ≡ (ltb t 64 && ltb t n))
+    → holds (inSet (bare n) (has x) (λ s. inSet (bare n) (λ t. wordRelation n work a s t && has states t) (f s)))
+    ≡ holds (inSet (bare n) p (λ s. inSet (bare n) (wordRelation n work a s) (f s)))
+all-through n work a f x states p from all =
+    inSet-same n _ p _ _ from (λ s. inSet-part n _ _ _ (λ t st out.
+    let low = relation-small n work a s t st in absurd (true≢false (sym (all t ∙ and-both _ _ (lt-ltb t 64 (low .0)) (lt-ltb t n (low .1))) ∙ out))))
 
 pub same-cong : (n : ℕ) (x y : StateSet) (p q : ℕ → Bool) → ((s : ℕ) → has x s ≡ p s) → ((s : ℕ) → has y s ≡ q s)
     → sameSet (bare n) (has x) (has y) ≡ sameSet (bare n) p q

@@ -2,6 +2,7 @@
 // numbers, its children's beside them.
 use states::StateSet;
 use states::relations::reach;
+use states::relations::starting;
 use states::relations::union_of;
 use tables::chains_into;
 use tables::is_ending_in;
@@ -35,26 +36,36 @@ pub struct Names {
     pub q: u32,
 }
 
-// 31: s in P, (s,t) in R: t in P.
-pub fn stable(n: u32, work: &[u64], own: Names) -> bool
-    ensures { λ out. ⌜ out ≡ holds (c31 (bare n) (wordSpec n (now (work .entry)) own)) ⌝ }
+// What others do, by condition: P is stable under it (31), and Q takes it in before (32) and after (33).
+pub struct Kept {
+    pub stable: bool,
+    pub back: bool,
+    pub on: bool,
+}
+
+// 31: s in P, (s,t) in R: t in P. 32: s in P, (s,t) in R, (t,u) in Q: (s,u) in Q. 33: s in P, (s,t) in Q, (t,u) in R: (s,u) in Q.
+// Every rule asks the three, so the states that start a pair of R are found once; where none does, others do nothing.
+pub fn steady(n: u32, work: &[u64], own: Names) -> Kept
+    ensures stable { λ out. ⌜ out .stable ≡ holds (c31 (bare n) (wordSpec n (now (work .entry)) own)) ⌝ }
+    ensures back { λ out. ⌜ out .back ≡ holds (c32 (bare n) (wordSpec n (now (work .entry)) own)) ⌝ }
+    ensures on { λ out. ⌜ out .on ≡ holds (c33 (bare n) (wordSpec n (now (work .entry)) own)) ⌝ }
 {
+    let starts = starting(n, rows_of(work, own.r));
+    if starts.bits == 0 {
+        return Kept {
+            stable: true,
+            back: true,
+            on: true,
+        };
+    }
     let p = set_at(n, work, own.p);
-    leads_into(n, work, p, own.r, p)
-}
-
-// 32: s in P, (s,t) in R, (t,u) in Q: (s,u) in Q.
-pub fn carries_back(n: u32, work: &[u64], own: Names) -> bool
-    ensures { λ out. ⌜ out ≡ holds (c32 (bare n) (wordSpec n (now (work .entry)) own)) ⌝ }
-{
-    chains_into(n, work, own.p, own.r, own.q, own.q)
-}
-
-// 33: s in P, (s,t) in Q, (t,u) in R: (s,u) in Q.
-pub fn carries_on(n: u32, work: &[u64], own: Names) -> bool
-    ensures { λ out. ⌜ out ≡ holds (c33 (bare n) (wordSpec n (now (work .entry)) own)) ⌝ }
-{
-    chains_into(n, work, own.p, own.q, own.r, own.q)
+    let from = p.meet(starts);
+    let states = StateSet::below(n);
+    Kept {
+        stable: leads_into(n, work, from, own.r, p),
+        back: chains_into(n, work, from, own.r, states, own.q, own.q),
+        on: chains_into(n, work, p, own.q, starts, own.r, own.q),
+    }
 }
 
 // 34, if: P and the test true; same R, G, Q. The states where the test is true are given.
@@ -200,7 +211,8 @@ pub fn sequence_post(n: u32, work: &[u64], own: Names, left: Names, right: Names
         ⌜ out ≡ holds (c61 (bare n) (wordSpec n (now (work .entry)) own) (wordSpec n (now (work .entry)) left)
         (wordSpec n (now (work .entry)) right)) ⌝ }
 {
-    chains_into(n, work, own.p, left.q, right.q, own.q)
+    let p = set_at(n, work, own.p);
+    chains_into(n, work, p, left.q, StateSet::below(n), right.q, own.q)
 }
 
 // 65: both children's G lie in G.

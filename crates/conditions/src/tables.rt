@@ -1,16 +1,14 @@
 // The tables in the work words, by number, and what the conditions compare: word i is set i, and the rows of relation r start at
 // word 16 + 64 r. Any n and any words will do: only the states below n are looked at, and a word past the end is empty.
 use states::StateSet;
-use states::relations::full;
 use states::relations::image;
 use states::relations::row;
 use states::relations::same_members;
-use states::relations::starting;
 ghost use mathlib.Core.Path.{_≡_};
-ghost use mathlib.Core.Bool.{not, _&&_, _||_};
+ghost use mathlib.Core.Bool.{_&&_, _||_};
 ghost use Prim.Native.Nat.{ℕ, _+_, _*_};
 ghost use lib.ListN.{drop};
-ghost use Rattle.states.specs.Search.{any, must, given, holds};
+ghost use Rattle.states.specs.Search.{must, given, holds};
 ghost use Rattle.states.specs.Sets.{has};
 ghost use Rattle.semantics.specs.Conditions.{inSet, sameSet, sameRelation, liesIn};
 ghost use Rattle.conditions.specs.Words.{bare, wordSet, wordRelation};
@@ -47,13 +45,6 @@ pub fn row_at(n: u32, work: &[u64], r: u32, s: u32) -> StateSet
     row(n, rows_of(work, r), s)
 }
 
-// Whether relation r has no pair at all: an idle rely breaks nothing.
-pub fn idle(n: u32, work: &[u64], r: u32) -> bool
-    ensures { λ out. ⌜ out ≡ not (any 64 (λ s. any n (wordRelation n (now (work .entry)) r s))) ⌝ }
-{
-    starting(n, rows_of(work, r)).is_empty()
-}
-
 // Whether every pair of relation r that starts in the one set ends in the other.
 pub fn leads_into(n: u32, work: &[u64], from: StateSet, r: u32, into: StateSet) -> bool
     ensures { λ out.
@@ -63,7 +54,7 @@ pub fn leads_into(n: u32, work: &[u64], from: StateSet, r: u32, into: StateSet) 
 }
 
 // Whether every pair of relation a from s to a state of the set through, with a pair of b that goes on from it, makes a pair of
-// whole.
+// whole. A row of whole that holds all states takes in whatever comes.
 fn row_chains_into(
     n: u32,
     work: &[u64],
@@ -77,32 +68,35 @@ fn row_chains_into(
         ⌜ out ≡ holds (inSet (bare n) (λ t. wordRelation n (now (work .entry)) a s t && has through t)
         (λ t. inSet (bare n) (wordRelation n (now (work .entry)) b t) (λ u. must (wordRelation n (now (work .entry)) whole s u)))) ⌝ }
 {
-    let from = row_at(n, work, a, s).meet(through);
-    leads_into(n, work, from, b, row_at(n, work, whole, s))
+    let into = row_at(n, work, whole, s);
+    if StateSet::below(n).included(into) {
+        true
+    } else {
+        leads_into(n, work, row_at(n, work, a, s).meet(through), b, into)
+    }
 }
 
-// Whether every pair of relation a that starts in set p, with a pair of b that goes on from it, makes a pair of whole. Only the
-// states of p that start a pair of a and do not lead to all states by whole are looked at, and of their ends only those that start
-// a pair of b: often there are none.
-pub fn chains_into(n: u32, work: &[u64], p: u32, a: u32, b: u32, whole: u32) -> bool
+// Whether every pair of relation a that starts in the one set and ends in the other, with a pair of b that goes on from it, makes a
+// pair of whole.
+pub fn chains_into(
+    n: u32,
+    work: &[u64],
+    from: StateSet,
+    a: u32,
+    through: StateSet,
+    b: u32,
+    whole: u32,
+) -> bool
     ensures { λ out.
-        ⌜ out ≡ holds (inSet (bare n) (wordSet n (now (work .entry)) p) (λ s. inSet (bare n) (wordRelation n (now (work .entry)) a s)
+        ⌜ out ≡ holds (inSet (bare n) (has from) (λ s. inSet (bare n) (λ t. wordRelation n (now (work .entry)) a s t && has through t)
         (λ t. inSet (bare n) (wordRelation n (now (work .entry)) b t) (λ u. must (wordRelation n (now (work .entry)) whole s u))))) ⌝ }
 {
-    let open = set_at(n, work, p).narrow(full(n, rows_of(work, whole)));
-    let mut rest = open.meet(starting(n, rows_of(work, a)));
-    if rest.bits == 0 {
-        return true;
-    }
-    let through = starting(n, rows_of(work, b));
-    if through.bits == 0 {
-        return true;
-    }
+    let mut rest = from.meet(StateSet::below(n));
     let mut held = true;
     while rest.bits != 0 {
         let first = u64::trailing_zeros(rest.bits);
         held = held & row_chains_into(n, work, a, through, b, whole, first);
-        rest = rest.narrow(StateSet::single(first));
+        rest = rest.without_least();
     }
     held
 }

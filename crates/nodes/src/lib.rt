@@ -1,8 +1,6 @@
 // What a node owes, by its rule: its conditions in the order of their numbers, each put in front of those behind it. All are
 // looked at; the first that is broken is the answer.
 use conditions::Names;
-use conditions::carries_back;
-use conditions::carries_on;
 use conditions::guarantee_within;
 use conditions::guarantees_within;
 use conditions::if_tables;
@@ -17,9 +15,8 @@ use conditions::rely_descends;
 use conditions::rely_within;
 use conditions::sequence_post;
 use conditions::sequence_tables;
-use conditions::stable;
+use conditions::steady;
 use conditions::strict_order;
-use conditions::tables::idle;
 use conditions::while_tables;
 use derivation::NodeEnd;
 use derivation::NodeHead;
@@ -60,16 +57,14 @@ pub fn unless(held: bool, number: u32, rest: Own) -> Own
     if held { rest } else { Own::Breaks(number) }
 }
 
-// 30 to 33, which every node owes, in front of what its rule asks besides. Where R is idle, 30 alone is left to ask.
+// 30 to 33, which every node owes, in front of what its rule asks besides.
 pub fn common(n: u32, work: &[u64], own: Names, fits: bool, rest: Own) -> Own
     ensures { λ r. ⌜ r ≡ guarded (commonOwes (bare n) fits (wordSpec n (now (work .entry)) own)) rest ⌝ }
 {
-    if idle(n, work, own.r) {
-        return unless(fits, 30, rest);
-    }
-    let rest = unless(carries_on(n, work, own), 33, rest);
-    let rest = unless(carries_back(n, work, own), 32, rest);
-    let rest = unless(stable(n, work, own), 31, rest);
+    let held = steady(n, work, own);
+    let rest = unless(held.on, 33, rest);
+    let rest = unless(held.back, 32, rest);
+    let rest = unless(held.stable, 31, rest);
     unless(fits, 30, rest)
 }
 

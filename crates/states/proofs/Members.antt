@@ -1,38 +1,43 @@
 -- The states of a set one by one, the least first: the lowest set bit of a word is a member, and with it taken out the members are
 -- one fewer.
 use Prim.Native.Nat.{ℕ, zero, suc, _/_, _%_, _*_, _^_, _<_, suc-le-suc}
-use native.Mathlib.Nat.{pow-suc, pow-succ', div-one, div-div-eq-div-mul, zero-lt-suc}
+use native.Mathlib.Nat.{pow-suc, zero-lt-suc, le-of-suc-le-suc, not-suc-le-zero}
+use native.Mathlib.Decide.{decLt}
 use native.Mathlib.Omega.{arith}
 use mathlib.Core.Path.{_≡_, refl, sym, ap, _∙_}
 use mathlib.Core.Logic.{_⊎_, ⊎-elim, inl, inr}
-use mathlib.Core.Bool.{Bool, true, false, not, _&&_, _||_, and-false, and-true, and-assoc, or-false, or-assoc}
+use mathlib.Core.Bool.{Bool, true, false, not, _&&_, _||_, and-false, and-true, and-assoc, or-false, or-assoc, true≢false}
 use mathlib.Core.List.{List, [], _∷_}
 use lib.ListN.{getD}
 use lib.Dec.{ltb, eqb}
 use lib.Count.{trailingZeros, under}
-use borrow.Author.Tests.{eqb-true, eq-eqb, lt-ltb}
+use borrow.Author.Tests.{eqb-true, eq-eqb, ne-eqb, lt-ltb, ltb-true}
 use Rattle.states.specs.declared.StateSet.{StateSet}
 use Rattle.states.specs.Search.{implies, all, any}
 use Rattle.states.specs.Sets.{mem, has}
 use Rattle.states.specs.Relations.{rel}
 use Rattle.states.proofs.Search.{and-left, and-right, and-both, or-left, or-right, or-cases, implies-intro, implies-at, bool-ext, true-or-false, all-intro, all-at, all-cong, all-and, any-intro, any-true, any-cong, any-none}
-use Rattle.states.proofs.Words.{mem-bit, mem-nought}
+use Rattle.states.proofs.Words.{bit, bit-zero, bit-suc, mem-bit, mem-nought}
 use Rattle.states.proofs.Rows.{mem-below, rel-row}
 use Rattle.states.proofs.Reach.{count, count-more}
 
--- The lowest set digit of a number of d digits that is not 0 is one of the d, and it is 1.
-lowest : (d q : ℕ) → 0 < q → q < 2 ^ d → (trailingZeros d q < d) × (q / 2 ^ trailingZeros d q % 2 ≡ 1)
+-- The lowest set digit of a number of d digits that is not 0 is one of the d, it is 1, and those below it are 0.
+abbrev Lowest : ℕ → ℕ → ℕ → Type 0
+Lowest d q z = (z < d) × (bit q z ≡ true) × ((t : ℕ) → t < z → bit q t ≡ false)
+
+lowest : (d q : ℕ) → 0 < q → q < 2 ^ d → Lowest d q (trailingZeros d q)
 unfolding trailingZeros
 lowest zero q h k = absurd (let k : q < 1 = k in omega arith)
 lowest (suc d) q h k =
-    at (q % 2) refl (λ e. lowest d (q / 2) (omega arith) (let k : q < 2 ^ d * 2 = rw pow-suc at k in omega arith))
+    at (q % 2) refl (trailingZeros d (q / 2)) (λ e. lowest d (q / 2) (omega arith) (let k : q < 2 ^ d * 2 = rw pow-suc at k in omega arith))
   where
-    at : (r : ℕ) → q % 2 ≡ r → (q % 2 ≡ 0 → (trailingZeros d (q / 2) < d) × (q / 2 / 2 ^ trailingZeros d (q / 2) % 2 ≡ 1))
-        → (under r (trailingZeros d (q / 2)) < suc d) × (q / 2 ^ under r (trailingZeros d (q / 2)) % 2 ≡ 1)
-    at zero e half =
-        let t = trailingZeros d (q / 2) in
-        (suc-le-suc (half e .0), ap (λ x. x % 2) (ap (λ x. q / x) (pow-succ' 2 t) ∙ sym (div-div-eq-div-mul q 2 (2 ^ t))) ∙ half e .1)
-    at (suc r) e half = (zero-lt-suc d, ap (λ x. x % 2) (div-one q) ∙ omega arith)
+    at : (r : ℕ) → q % 2 ≡ r → (z : ℕ) → (q % 2 ≡ 0 → Lowest d (q / 2) z) → Lowest (suc d) q (under r z)
+    at zero e z half = (suc-le-suc (half e .0), bit-suc q z ∙ half e .1, lesser)
+      where
+        lesser : (t : ℕ) → t < suc z → bit q t ≡ false
+        lesser zero l = bit-zero q ∙ ap (λ x. eqb x 1) e
+        lesser (suc t) l = bit-suc q t ∙ half e .2 t (le-of-suc-le-suc l)
+    at (suc r) e z half = (zero-lt-suc d, bit-zero q ∙ eq-eqb (q % 2) 1 (omega arith), λ t l. absurd (not-suc-le-zero l))
 
 -- k is in p, and q is p without it.
 pub record Taken (p q : ℕ → Bool) (k : ℕ) : Type 0 where
@@ -45,7 +50,7 @@ module _ (set : StateSet) (fits : set .bits < 2 ^ 64) (some : set .bits ≡ 0 �
   above zero h = absurd (h refl)
   above (suc q) h = zero-lt-suc q
 
-  low : (trailingZeros 64 (set .bits) < 64) × (set .bits / 2 ^ trailingZeros 64 (set .bits) % 2 ≡ 1)
+  low : Lowest 64 (set .bits) (trailingZeros 64 (set .bits))
   low = lowest 64 (set .bits) (above (set .bits) some) fits
 
   pub first-below : trailingZeros 64 (set .bits) < 64
@@ -53,16 +58,25 @@ module _ (set : StateSet) (fits : set .bits < 2 ^ 64) (some : set .bits ≡ 0 �
 
   pub first-in : has set (trailingZeros 64 (set .bits)) ≡ true
   unfolding has
-  first-in = mem-bit _ _ ∙ and-both _ _ (lt-ltb _ 64 first-below) (eq-eqb _ 1 (low .1))
+  first-in = mem-bit _ _ ∙ and-both _ _ (lt-ltb _ 64 first-below) (low .1)
 
-  pub first-taken : (one left : StateSet) → ((t : ℕ) → has one t ≡ (ltb t 64 && eqb (trailingZeros 64 (set .bits)) t))
-      → ((t : ℕ) → has left t ≡ (has set t && not (has one t))) → Taken (has set) (has left) (trailingZeros 64 (set .bits))
+  none-less : (t : ℕ) → t < trailingZeros 64 (set .bits) → has set t ≡ false
   unfolding has
-  first-taken one left alone without = record { there = first-in; rest = λ s. without s ∙ at s (true-or-false (has set s)) }
+  none-less t l = mem-bit _ t ∙ ap (λ b. ltb t 64 && b) (low .2 t l) ∙ and-false (ltb t 64)
+
+  -- It alone has no member below it.
+  pub first-taken : (left : StateSet) → ((s : ℕ) → has left s ≡ (has set s && any s (has set))) → Taken (has set) (has left) (trailingZeros 64 (set .bits))
+  first-taken left above-one = record { there = first-in; rest = λ s. above-one s ∙ by s (true-or-false (has set s)) }
     where
-      at : (s : ℕ) → (has set s ≡ true) ⊎ (has set s ≡ false) → (has set s && not (has one s)) ≡ (has set s && not (eqb (trailingZeros 64 (set .bits)) s))
-      at s (inl e) = rw (alone s, lt-ltb s 64 (mem-below _ s e))
-      at s (inr e) = rw e
+      at : (first s : ℕ) → has set first ≡ true → ((t : ℕ) → t < first → has set t ≡ false) → has set s ≡ true
+          → Dec (s < first) → Dec (first < s) → any s (has set) ≡ not (eqb first s)
+      at first s there less e (yes l) m = absurd (true≢false (sym e ∙ less s l))
+      at first s there less e (no l) (yes m) = rw (ne-eqb first s (omega arith)) (any-intro s _ first m there)
+      at first s there less e (no l) (no m) = rw (eq-eqb first s (omega arith)) (any-none s _ (λ t k. less t (omega arith)))
+
+      by : (s : ℕ) → (has set s ≡ true) ⊎ (has set s ≡ false) → (has set s && any s (has set)) ≡ (has set s && not (eqb (trailingZeros 64 (set .bits)) s))
+      by s (inl e) = ap (λ b. has set s && b) (at _ s first-in none-less e (decLt s _) (decLt _ s))
+      by s (inr e) = rw e
 
 module _ (p q : ℕ → Bool) (k : ℕ) (one : Taken p q k) where
   kept : (s : ℕ) → q s ≡ true → p s ≡ true
@@ -109,6 +123,16 @@ module _ (p q : ℕ → Bool) (k : ℕ) (one : Taken p q k) where
       back h =
           and-both _ _ (implies-at _ _ (all-at n _ h k l) (one .there))
           (all-intro n _ (λ s m. implies-intro _ _ (λ e. implies-at _ _ (all-at n _ h s m) (kept s e))))
+
+-- The states of a set that are below n: those that a loop over them starts from.
+module _ (n : ℕ) (set from : StateSet) (start : (s : ℕ) → has from s ≡ (has set s && (ltb s 64 && ltb s n))) where
+  pub start-below : (s : ℕ) → has from s ≡ true → s < n
+  start-below s e = ltb-true s n (and-right (ltb s 64) _ (and-right (has set s) _ (sym (start s) ∙ e)))
+
+  pub start-same : (s : ℕ) → s < n → has from s ≡ has set s
+  unfolding has
+  start-same s l =
+      start s ∙ bool-ext _ _ (and-left (has set s) _) (λ h. and-both _ _ h (and-both _ _ (lt-ltb s 64 (mem-below _ s h)) (lt-ltb s n l)))
 
 -- f holds of the states taken out of a set, and is still to be asked of those left in it: what a loop over the members keeps.
 pub record Passed (n : ℕ) (f : ℕ → Bool) (from rest : StateSet) (held : Bool) : Type 0 where
@@ -173,12 +197,9 @@ module _ (n : ℕ) (rows : List ℕ) (from : StateSet) where
       → (t : ℕ) → has found t ≡ any n (λ s. has set s && rel n rows s t)
   unfolding has
   gathered-all set rest ends found e done start masked t =
-      masked t ∙ ap (λ b. b && (ltb t 64 && ltb t n)) (ends-are ∙ any-cong n _ _ (λ s l. ap (λ b. b && mem (getD rows s 0 ∷ []) t) (starts s l)))
+      masked t ∙ ap (λ b. b && (ltb t 64 && ltb t n)) (ends-are ∙ any-cong n _ _ (λ s l. ap (λ b. b && mem (getD rows s 0 ∷ []) t) (start-same n set from start s l)))
       ∙ any-and n _ _ ∙ any-cong n _ _ (λ s l. and-assoc (has set s) (mem (getD rows s 0 ∷ []) t) (ltb t 64 && ltb t n) ∙ ap (λ b. has set s && b) (rel-row n rows s t l))
     where
-      starts : (s : ℕ) → s < n → has from s ≡ has set s
-      starts s l = start s ∙ bool-ext _ _ (and-left (has set s) _) (λ h. and-both _ _ h (and-both _ _ (lt-ltb s 64 (mem-below _ s h)) (lt-ltb s n l)))
-
       none-left : any n (λ s. has rest s && mem (getD rows s 0 ∷ []) t) ≡ false
       none-left = any-none n _ (λ s l. rw (e, mem-nought s))
 

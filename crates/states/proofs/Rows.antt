@@ -11,10 +11,10 @@ use lib.ListN.{getD, length, set, length-set, List·getD-eq-default}
 use lib.Seq.{getD-set-same, getD-set-other}
 use lib.Dec.{ltb, eqb}
 use borrow.Author.Tests.{ltb-true, lt-ltb, le-ltb, eqb-true, eq-eqb}
-use Rattle.states.specs.Search.{implies, all, any}
+use Rattle.states.specs.Search.{all, any}
 use Rattle.states.specs.Sets.{mem}
 use Rattle.states.specs.Relations.{rel}
-use Rattle.states.proofs.Search.{and-left, and-right, and-both, bool-ext, not-true-false, below-cases, all-at, all-intro, any-intro, any-true, implies-at}
+use Rattle.states.proofs.Search.{and-left, and-right, and-both, bool-ext, not-true-false, below-cases, all-at, all-intro, any-intro, any-true}
 use Rattle.states.proofs.Words.{bit, mem-bit, mem-nought}
 use Rattle.states.proofs.Reach.{Between}
 
@@ -86,29 +86,6 @@ row-starts n rows k enough t = bool-ext _ _ (λ h. there (any-true k _ h)) back
         let w = any-true n _ (and-right (ltb t 64) _ h) in
         any-intro k _ t (enough t (ltb-true t 64 (and-left (ltb t 64) _ h)) (rel-between n rows t (w .0) (w .2) .0) (row-long n rows t (w .0) (w .2)))
         (and-both _ _ h (eq-eqb t t refl))
-
--- Whether s starts a pair with every state, and of the states whose rows are there t alone.
-abbrev pub Full : ℕ → List ℕ → ℕ → Bool
-Full n rows s = all 64 (λ u. implies (ltb u 64 && ltb u n) (rel n rows s u))
-
-pub row-full : (n : ℕ) (rows : List ℕ) (k : ℕ) → k ≤ n → ((s : ℕ) → s < 64 → s < n → s < length rows → s < k) → (t : ℕ)
-    → any k (λ s. ltb t 64 && Full n rows s && eqb s t) ≡ (ltb t 64 && ltb t n && Full n rows t)
-row-full n rows k most enough t = bool-ext _ _ (λ h. there (any-true k _ h)) back
-  where
-    there : (s : ℕ) × (s < k) × ((ltb t 64 && Full n rows s && eqb s t) ≡ true) → (ltb t 64 && ltb t n && Full n rows t) ≡ true
-    there w =
-        let both = and-left (ltb t 64 && Full n rows (w .0)) (eqb (w .0) t) (w .2) in
-        let same = eqb-true (w .0) t (and-right (ltb t 64 && Full n rows (w .0)) _ (w .2)) in
-        and-both _ _ (and-both _ _ (and-left (ltb t 64) _ both) (lt-ltb t n (omega arith))) (rw same at (and-right (ltb t 64) (Full n rows (w .0)) both))
-
-    back : (ltb t 64 && ltb t n && Full n rows t) ≡ true → any k (λ s. ltb t 64 && Full n rows s && eqb s t) ≡ true
-    back h =
-        let low = and-left (ltb t 64 && ltb t n) (Full n rows t) h in
-        let full = and-right (ltb t 64 && ltb t n) (Full n rows t) h in
-        let below = ltb-true t n (and-right (ltb t 64) _ low) in
-        let pair = implies-at _ _ (all-at 64 _ full 0 (omega arith)) (and-both _ _ (lt-ltb 0 64 (omega arith)) (lt-ltb 0 n (omega arith))) in
-        any-intro k _ t (enough t (ltb-true t 64 (and-left (ltb t 64) _ low)) below (row-long n rows t 0 pair))
-        (and-both _ _ (and-both _ _ (and-left (ltb t 64) _ low) full) (eq-eqb t t refl))
 
 -- Of the 64 rows, those below k hold the pairs of f: what a loop that fills the rows keeps.
 pub record Filled (f : ℕ → ℕ → Bool) (k : ℕ) (rows : List ℕ) : Type 0 where

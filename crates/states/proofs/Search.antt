@@ -6,7 +6,7 @@ use native.Mathlib.Omega.{arith}
 use borrow.Author.Tests.{not-true, not-false}
 use mathlib.Core.Path.{_≡_, refl, sym, ap, ap₂, _∙_, subst}
 use mathlib.Core.Logic.{_⊎_, ⊎-elim, inl, inr}
-use mathlib.Core.Bool.{Bool, true, false, not, _&&_, _||_, Bool·beq, true≢false, false≢true}
+use mathlib.Core.Bool.{Bool, true, false, not, _&&_, _||_, Bool·beq, or-false, or-assoc, true≢false, false≢true}
 use mathlib.Core.Option.{none, some}
 use Rattle.states.specs.Search.{implies, all, any, Search, must, given, named, orElse, each, holds}
 
@@ -142,6 +142,12 @@ pub any-cong : (n : ℕ) (p q : ℕ → Bool) → ((s : ℕ) → s < n → p s �
 unfolding any
 any-cong zero p q h = refl
 any-cong (suc n) p q h = ap₂ _||_ (any-cong n p q (λ s l. h s (omega arith))) (h n (omega arith))
+
+-- The first state apart from the others.
+pub any-first : (n : ℕ) (p : ℕ → Bool) → any (suc n) p ≡ (p 0 || any n (λ s. p (suc s)))
+unfolding any
+any-first zero p = sym (or-false (p 0))
+any-first (suc n) p = ap (λ b. b || p (suc n)) (any-first n p) ∙ or-assoc (p 0) _ (p (suc n))
 
 pub any-true : (n : ℕ) (p : ℕ → Bool) → any n p ≡ true → (s : ℕ) × (s < n) × (p s ≡ true)
 unfolding any

@@ -3,7 +3,7 @@ use Prim.Native.Nat.{ℕ, zero, suc, _+_, _-_, _*_, _/_, _%_, _^_, _<_, zero-le}
 use native.Mathlib.Nat.{zero-div, mod-lt, pow-suc, div-one, div-div-eq-div-mul, mul-comm, one-mul}
 use native.Mathlib.Decide.{decLt}
 use native.Mathlib.Omega.{arith}
-use mathlib.Core.Path.{_≡_, refl, sym, ap, _∙_}
+use mathlib.Core.Path.{_≡_, refl, sym, ap, ap₂, _∙_}
 use mathlib.Core.Logic.{_↔_}
 use mathlib.Core.Bool.{Bool, true, false, not, xor, _&&_, _||_, Bool·beq, and-false, true≢false, false≢true}
 use mathlib.Core.List.{List, [], _∷_, zipWith}
@@ -15,7 +15,7 @@ use lib.Pow.{pow-pos, shl-exact}
 use borrow.Author.Tests.{eqb-true, eq-eqb, lt-ltb, le-ltb}
 use Rattle.states.specs.Search.{implies, all, any}
 use Rattle.states.specs.Sets.{mem}
-use Rattle.states.proofs.Search.{all-at, all-intro, all-cong, all-not, bool-ext, beq-refl, beq-true, beq-false}
+use Rattle.states.proofs.Search.{all-at, all-intro, all-cong, all-not, any-intro, any-first, any-cong, bool-ext, beq-refl, beq-true, beq-false}
 
 -- Bit k of a word, the lowest first.
 abbrev pub bit : ℕ → ℕ → Bool
@@ -78,10 +78,10 @@ mem-wise op β wise nought xs ys e s = ap (λ x. bit x (s % 64)) (at xs ys e (s 
 bit-nought : (s : ℕ) → bit 0 s ≡ false
 bit-nought s = ap (λ y. eqb (y % 2) 1) (zero-div (2 ^ s))
 
-bit-zero : (x : ℕ) → bit x 0 ≡ eqb (x % 2) 1
+pub bit-zero : (x : ℕ) → bit x 0 ≡ eqb (x % 2) 1
 bit-zero x = ap (λ y. eqb (y % 2) 1) (div-one x)
 
-bit-suc : (x k : ℕ) → bit x (suc k) ≡ bit (x / 2) k
+pub bit-suc : (x k : ℕ) → bit x (suc k) ≡ bit (x / 2) k
 bit-suc x k = ap (λ y. eqb (y % 2) 1) (ap (λ p. x / p) (pow-suc 2 k ∙ mul-comm (2 ^ k) 2) ∙ sym (div-div-eq-div-mul x 2 (2 ^ k)))
 
 same-digit : (x y : ℕ) → x < 2 → y < 2 → eqb x 1 ≡ eqb y 1 → x ≡ y
@@ -192,3 +192,46 @@ bit-power zero zero = refl
 bit-power zero (suc s) = high-bit 1 0 1 s refl (omega arith) ∙ bit-nought s ∙ sym (eqb·zero-suc s)
 bit-power (suc n) zero = low-bit (2 ^ suc n) (2 ^ n) 0 (omega (arith, pow-suc 2 n)) (omega arith) ∙ sym (eqb·suc-zero n)
 bit-power (suc n) (suc s) = high-bit (2 ^ suc n) (2 ^ n) 0 s (omega (arith, pow-suc 2 n)) (omega arith) ∙ bit-power n s ∙ sym (eqb·suc-suc n s)
+
+-- x & (x - 1) keeps the bits of x that stand above another: up to the lowest the two have none in common, and above it the same.
+abbrev Lower : ℕ → ℕ → Type 0
+Lower x s = (bit x s && bit (x - 1) s) ≡ (bit x s && any s (bit x))
+
+lower-odd : (m x : ℕ) → x ≡ m * 2 + 1 → (s : ℕ) → Lower x s
+unfolding any
+lower-odd m x e zero = ap (λ b. bit x 0 && b) (low-bit (x - 1) m 0 (omega arith) (omega arith))
+lower-odd m x e (suc s) =
+    let up = high-bit x m 1 s e (omega arith) in
+    ap₂ _&&_ up (high-bit (x - 1) m 0 s (omega arith) (omega arith)) ∙ twice (bit m s)
+    ∙ sym (ap₂ _&&_ up (any-intro (suc s) (bit x) 0 (omega arith) (low-bit x m 1 e (omega arith))))
+  where
+    twice : (b : Bool) → (b && b) ≡ (b && true)
+    twice true = refl
+    twice false = refl
+
+lower-even : (m x s : ℕ) → x ≡ m * 2 + 0 → 0 < m → Lower m s → Lower x (suc s)
+lower-even m x s e h half =
+    let up : (t : ℕ) → bit x (suc t) ≡ bit m t = λ t. high-bit x m 0 t e (omega arith) in
+    ap₂ _&&_ (up s) (high-bit (x - 1) (m - 1) 1 s (omega arith) (omega arith)) ∙ half
+    ∙ sym (ap₂ _&&_ (up s) (any-first s (bit x) ∙ ap₂ _||_ (low-bit x m 0 e (omega arith)) (any-cong s _ _ (λ t l. up t))))
+
+bit-lower : (s x : ℕ) → 0 < x → Lower x s
+bit-lower zero x h = at (x % 2) refl
+  where
+    at : (r : ℕ) → x % 2 ≡ r → Lower x 0
+    at zero e = let none = low-bit x (x / 2) 0 (omega arith) (omega arith) in ap (λ b. b && bit (x - 1) 0) none ∙ sym (ap (λ b. b && any 0 (bit x)) none)
+    at (suc r) e = lower-odd (x / 2) x (omega arith) 0
+bit-lower (suc s) x h = at (x % 2) refl (bit-lower s (x / 2))
+  where
+    at : (r : ℕ) → x % 2 ≡ r → (0 < x / 2 → Lower (x / 2) s) → Lower x (suc s)
+    at zero e half = lower-even (x / 2) x s (omega arith) (omega arith) (half (omega arith))
+    at (suc r) e half = lower-odd (x / 2) x (omega arith) (suc s)
+
+pub mem-lower : (x s : ℕ) → 0 < x → mem (bitAnd x (x - 1) ∷ []) s ≡ (mem (x ∷ []) s && any s (mem (x ∷ [])))
+mem-lower x s h = mem-bit _ s ∙ ap (λ b. ltb s 64 && b) (and-bits x (x - 1) s ∙ bit-lower s x h) ∙ at (decLt s 64)
+  where
+    at : Dec (s < 64) → (ltb s 64 && (bit x s && any s (bit x))) ≡ (mem (x ∷ []) s && any s (mem (x ∷ [])))
+    at (yes l) =
+        rw (mem-bit x s, lt-ltb s 64 l)
+        (ap (λ b. bit x s && b) (any-cong s _ _ (λ t k. sym (mem-bit x t ∙ ap (λ b. b && bit x t) (lt-ltb t 64 (omega arith))))))
+    at (no l) = rw (mem-bit x s, le-ltb s 64 (omega arith))

@@ -69,6 +69,19 @@ impl StateSet {
         }
     }
 
+    // The set without its least state; nothing where it is empty.
+    pub fn without_least(self) -> StateSet
+        ensures { λ r. ⌜ ((s : ℕ) → has r s ≡ (has self s && any s (λ t. has self t))) ⌝ }
+    {
+        if self.bits == 0 {
+            self
+        } else {
+            StateSet {
+                bits: self.bits & (self.bits - 1),
+            }
+        }
+    }
+
     pub fn holds_state(self, s: u32) -> bool
         ensures { λ r. ⌜ r ≡ has self s ⌝ }
     {

@@ -41,7 +41,7 @@ pub fn image(n: u32, set: StateSet, rows: &[u64]) -> StateSet
         let first = u64::trailing_zeros(rest.bits);
         let bits = word(rows, first as usize);
         ends = ends.join(StateSet { bits });
-        rest = rest.narrow(StateSet::single(first));
+        rest = rest.without_least();
     }
     ends.meet(states)
 }
@@ -86,32 +86,6 @@ pub fn starting(n: u32, rows: &[u64]) -> StateSet
     for s in 0..rows_there(n, rows) {
         let bits = rows[s as usize];
         found = with_start(StateSet { bits }.meet(states), s, found);
-    }
-    found
-}
-
-// s added to the states found so far where its row holds all of the states.
-fn with_full(row: StateSet, states: StateSet, s: u32, found: StateSet) -> StateSet
-    ensures { λ r.
-        ⌜ ((t : ℕ) → has r t ≡ (has found t || ltb t 64 && all 64 (λ u. implies (has states u) (has row u)) && eqb s t)) ⌝ }
-{
-    if states.included(row) {
-        found.join(StateSet::single(s))
-    } else {
-        found
-    }
-}
-
-// The states that start a pair with every state.
-pub fn full(n: u32, rows: &[u64]) -> StateSet
-    ensures { λ r.
-        ⌜ ((s : ℕ) → has r s ≡ (ltb s 64 && ltb s n && all 64 (λ t. implies (ltb t 64 && ltb t n) (rel n (now (rows .entry)) s t)))) ⌝ }
-{
-    let states = StateSet::below(n);
-    let mut found = StateSet::empty();
-    for s in 0..rows_there(n, rows) {
-        let bits = rows[s as usize];
-        found = with_full(StateSet { bits }.meet(states), states, s, found);
     }
     found
 }

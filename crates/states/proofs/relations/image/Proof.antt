@@ -1,17 +1,15 @@
 -- The rows of the states taken out, with those of the states that are left, are the rows of the set's states below n. `any-taken` takes one out.
 use Prim.Native.Nat.{ℕ}
 use native.Mathlib.Omega.{arith}
-use mathlib.Core.Path.{_≡_, _∙_, sym, ap}
+use mathlib.Core.Path.{_≡_, _∙_, ap}
 use mathlib.Core.Bool.{_&&_, _||_}
 use mathlib.Core.List.{[], _∷_}
 use lib.Count.{trailingZeros, trailing-le}
 use borrow.Author.Needs.{needs}
-use borrow.Author.Tests.{ltb-true}
 use lib.Dec.{ltb}
 use Rattle.states.specs.Sets.{mem, has}
-use Rattle.states.proofs.Search.{and-right}
 use Rattle.states.proofs.Reach.{count}
-use Rattle.states.proofs.Members.{first-below, first-taken, fewer, Taken, Gathered, gathered-none, gathered-more, gathered-all}
+use Rattle.states.proofs.Members.{first-below, first-taken, fewer, Taken, start-below, Gathered, gathered-none, gathered-more, gathered-all}
 use Rattle.states.proofs.relations.image.Statement.{statement}
 use Rattle.states.proofs.relations.image.Tie as tie
 
@@ -26,32 +24,27 @@ start : (c : tie.After-meet Inv-loop μ-loop) → let a = c .before .before .bef
     (s : ℕ) → has (c .meet .result) s ≡ (has (a .set) s && (ltb s 64 && ltb s (a .n)))
 start c s = c .meet .ensures s ∙ ap (λ b. has (c .before .before .before .args .set) s && b) (c .before .below .ensures s)
 
-one : (c : tie.After-narrow Inv-loop μ-loop) → let set = c .before .before .before .before .before .before .before .loop .rest in
-    Taken (has set) (has (c .narrow .result)) (trailingZeros 64 (set .bits))
-one c =
-    let d = c .before .before .before .before in
-    first-taken _ (d .struct-known2 .given .0 .fits) (d .before .if1 .taken) _ _ (c .before .single .ensures) (c .narrow .ensures)
+one : (c : tie.After-without-least Inv-loop μ-loop) → let set = c .before .before .before .before .before .before .loop .rest in
+    Taken (has set) (has (c .without-least .result)) (trailingZeros 64 (set .bits))
+one c = let d = c .before .before .before in first-taken _ (d .struct-known2 .given .0 .fits) (d .before .if1 .taken) _ (c .without-least .ensures)
 
 loop-holds : tie.Need-loop-holds Inv-loop μ-loop
-loop-holds c =
-    gathered-none _ _ _ _
-    (λ s e. ltb-true s _ (and-right (ltb s 64) _ (and-right (has (c .before .before .before .before .args .set) s) _ (sym (start (c .before) s) ∙ e))))
-    (c .empty .ensures)
+loop-holds c = gathered-none _ _ _ _ (start-below _ (c .before .before .before .before .args .set) _ (start (c .before))) (c .empty .ensures)
 
 cast-word : tie.Need-cast-word Inv-loop μ-loop
 cast-word c = record { fits = omega (arith, trailing-le 64 (c .before .before .before .loop .rest .bits)) }
 
 loop-less : tie.Need-loop-less Inv-loop μ-loop
 loop-less c =
-    let d = c .before .before .before .before in
+    let d = c .before .before .before in
     fewer _ _ _ (one c) 64 (first-below _ (d .struct-known2 .given .0 .fits) (d .before .if1 .taken))
 
 loop-again : tie.Need-loop-again Inv-loop μ-loop
 unfolding has
 loop-again c =
-    let l = c .before .before .before .before .before .before .before .loop in
+    let l = c .before .before .before .before .before .before .loop in
     gathered-more _ _ _ _ _ _ _ _ (one c)
-    (λ t. c .before .before .join .ensures t ∙ ap (λ w. has (l .ends) t || mem (w ∷ []) t) (c .before .before .before .word .ensures)) (l .inv)
+    (λ t. c .before .join .ensures t ∙ ap (λ w. has (l .ends) t || mem (w ∷ []) t) (c .before .before .word .ensures)) (l .inv)
 
 returns : tie.Need-returns Inv-loop μ-loop
 returns c t =
@@ -68,7 +61,7 @@ image-spec =
     (λ c κs. search needs) (λ c κs. search needs) (λ c κs. search needs)
     loop-holds
     cast-word
-    (λ c κs. search needs) (λ c κs. search needs) (λ c κs. search needs) (λ c κs. search needs)
+    (λ c κs. search needs) (λ c κs. search needs) (λ c κs. search needs)
     loop-less
     loop-again
     (λ c κs. search needs)
