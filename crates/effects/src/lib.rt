@@ -17,6 +17,7 @@ use states::relations::row;
 use states::relations::starting;
 use values::agreeing;
 use values::successors;
+use values::variable_of;
 ghost use mathlib.Core.Path.{_≡_};
 ghost use mathlib.Core.Bool.{not, _&&_, _||_};
 ghost use Prim.Native.Nat.{ℕ, _<_};
@@ -163,10 +164,11 @@ fn moves_variable(src: &[u8], n: u32, work: &[u64], from: StateSet, r: u32, v: u
     ensures { λ out.
         ⌜ out ≡ any n (λ s. has from s && any n (λ t. wordRelation n (now (work .entry)) r s t && not (agreeAt (now (src .entry)) v s t))) ⌝ }
 {
+    let variable = variable_of(src, v);
     let mut rest = from.meet(StateSet::below(n));
     while rest.bits != 0 {
         let first = u64::trailing_zeros(rest.bits);
-        let agree = agreeing(src, v, first);
+        let agree = agreeing(variable, first);
         let alike = agree.join(StateSet::single(first));
         if leads_into(n, work, rest.meet(alike), r, agree) {
             rest = rest.narrow(alike);
@@ -185,7 +187,8 @@ fn with_variable(mask: u32, v: u32, one: bool) -> u32
     if one { mask | (1 << v) } else { mask }
 }
 
-// The mask of the variables that R moves, over the states that the file declares. Only the states of P that start a pair matter.
+// The mask of the variables that R moves, over the states that the file declares. Only the states of P that start a pair matter:
+// mostly there are none, and then no variable is looked at.
 pub fn moved(src: &[u8], work: &[u64], own: Names) -> u32
     ensures { λ out.
         ⌜ ((v : ℕ) → inMask out v ≡ moves (machineHere (now (src .entry)))
@@ -196,6 +199,9 @@ pub fn moved(src: &[u8], work: &[u64], own: Names) -> u32
     };
     let starts = starting(n, rows_of(work, own.r));
     let from = set_at(n, work, own.p).meet(starts);
+    if from.bits == 0 {
+        return 0;
+    }
     let mut mask = 0;
     for v in 0..count {
         mask = with_variable(mask, v, moves_variable(src, n, work, from, own.r, v));
