@@ -22,7 +22,7 @@ ghost use mathlib.Core.Path.{_≡_};
 ghost use mathlib.Core.Bool.{not, _&&_, _||_};
 ghost use Prim.Native.Nat.{ℕ, _<_};
 ghost use lib.Dec.{leb, ltb, eqb};
-ghost use Rattle.states.specs.Search.{any, must, given, holds};
+ghost use Rattle.states.specs.Search.{implies, all, any, must, given, holds};
 ghost use Rattle.states.specs.Sets.{has};
 ghost use Rattle.states.specs.Relations.{rel};
 ghost use Rattle.semantics.specs.Conditions.{occurrences, inSet, moves, c46, c52, c54, c56};
@@ -61,32 +61,39 @@ pub fn stays_false(n: u32, work: &[u64], own: Names, falsity: StateSet) -> bool
     )
 }
 
-fn leaves_at(n: u32, work: &[u64], own: Names, w: u32, falsity: StateSet, s: u32) -> bool
+// Whether each t of p with the test false, that is s or that w leads to from s, makes a pair (s,t) of Q.
+fn leaves_at(
+    n: u32,
+    work: &[u64],
+    own: Names,
+    w: u32,
+    p: StateSet,
+    falsity: StateSet,
+    s: u32,
+) -> bool
     ensures { λ out.
-        ⌜ out ≡ holds (given (wordSet n (now (work .entry)) (own .p) s) (inSet (bare n)
-        (λ t. (eqb t s || wordRelation n (now (work .entry)) w s t) && wordSet n (now (work .entry)) (own .p) t && has falsity t)
-        (λ t. must (wordRelation n (now (work .entry)) (own .q) s t)))) ⌝ }
+        ⌜ out ≡ all 64 (λ t. implies ((eqb t s || wordRelation n (now (work .entry)) w s t) && has p t && has falsity t)
+        (wordRelation n (now (work .entry)) (own .q) s t)) ⌝ }
 {
-    let p = set_at(n, work, own.p);
-    if p.holds_state(s) {
-        let rounds = StateSet::single(s).join(row_at(n, work, w, s));
-        rounds
-            .meet(p)
-            .meet(falsity)
-            .included(row_at(n, work, own.q, s))
-    } else {
-        true
-    }
+    let rounds = StateSet::single(s).join(row_at(n, work, w, s));
+    rounds
+        .meet(p)
+        .meet(falsity)
+        .included(row_at(n, work, own.q, s))
 }
 
-// 56: s in P, t = s or (s,t) in W, t in P, test false at t: (s,t) in Q.
+// 56: s in P, t = s or (s,t) in W, t in P, test false at t: (s,t) in Q. The states of P are taken out one by one, the least first.
 pub fn leaves(n: u32, work: &[u64], own: Names, w: u32, falsity: StateSet) -> bool
     ensures { λ out.
         ⌜ out ≡ holds (c56 (bare n) (wordSpec n (now (work .entry)) own) (has falsity) (wordRelation n (now (work .entry)) w)) ⌝ }
 {
+    let p = set_at(n, work, own.p);
+    let mut rest = p;
     let mut held = true;
-    for s in 0..n {
-        held = held & leaves_at(n, work, own, w, falsity, s);
+    while rest.bits != 0 {
+        let first = u64::trailing_zeros(rest.bits);
+        held = held & leaves_at(n, work, own, w, p, falsity, first);
+        rest = rest.narrow(StateSet::single(first));
     }
     held
 }
@@ -125,17 +132,13 @@ pub fn store_in_post(n: u32, work: &[u64], own: Names, after: &[u64]) -> bool
     included_from(n, set_at(n, work, own.p), after, rows_of(work, own.q))
 }
 
+// Whether the end of a store at s is s or makes a pair of G.
 fn guaranteed_at(n: u32, work: &[u64], own: Names, after: &[u64], s: u32) -> bool
     ensures { λ out.
-        ⌜ out ≡ holds (given (wordSet n (now (work .entry)) (own .p) s) (inSet (bare n) (rel n (now (after .entry)) s)
-        (λ t. must (eqb t s || wordRelation n (now (work .entry)) (own .g) s t)))) ⌝ }
+        ⌜ out ≡ holds (inSet (bare n) (rel n (now (after .entry)) s) (λ t. must (eqb t s || wordRelation n (now (work .entry)) (own .g) s t))) ⌝ }
 {
-    if set_at(n, work, own.p).holds_state(s) {
-        let allowed = StateSet::single(s).join(row_at(n, work, own.g, s));
-        row(n, after, s).included(allowed)
-    } else {
-        true
-    }
+    let allowed = StateSet::single(s).join(row_at(n, work, own.g, s));
+    row(n, after, s).included(allowed)
 }
 
 // 43, by the same rows: s in P, s′ its end: s′ = s or (s,s′) in G.
@@ -144,9 +147,12 @@ pub fn store_in_guarantee(n: u32, work: &[u64], own: Names, after: &[u64]) -> bo
         ⌜ out ≡ holds (inSet (bare n) (wordSet n (now (work .entry)) (own .p)) (λ s. inSet (bare n) (rel n (now (after .entry)) s)
         (λ t. must (eqb t s || wordRelation n (now (work .entry)) (own .g) s t)))) ⌝ }
 {
+    let mut rest = set_at(n, work, own.p);
     let mut held = true;
-    for s in 0..n {
-        held = held & guaranteed_at(n, work, own, after, s);
+    while rest.bits != 0 {
+        let first = u64::trailing_zeros(rest.bits);
+        held = held & guaranteed_at(n, work, own, after, first);
+        rest = rest.narrow(StateSet::single(first));
     }
     held
 }
