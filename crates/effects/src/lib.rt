@@ -22,7 +22,7 @@ ghost use mathlib.Core.Path.{_≡_};
 ghost use mathlib.Core.Bool.{not, _&&_, _||_};
 ghost use Prim.Native.Nat.{ℕ, _<_};
 ghost use lib.Dec.{leb, ltb, eqb};
-ghost use Rattle.states.specs.Search.{implies, all, any, must, given, holds};
+ghost use Rattle.states.specs.Search.{implies, all, any, must, holds};
 ghost use Rattle.states.specs.Sets.{has};
 ghost use Rattle.states.specs.Relations.{rel};
 ghost use Rattle.semantics.specs.Conditions.{occurrences, inSet, moves, c46, c52, c54, c56};
@@ -98,29 +98,12 @@ pub fn leaves(n: u32, work: &[u64], own: Names, w: u32, falsity: StateSet) -> bo
     held
 }
 
-// Whether s has an end, where it is in P.
-fn in_range_at(n: u32, p: StateSet, after: &[u64], s: u32) -> bool
-    ensures { λ out. ⌜ out ≡ holds (given (has p s) (must (any n (rel n (now (after .entry)) s)))) ⌝ }
-{
-    if p.holds_state(s) {
-        if row(n, after, s).is_empty() {
-            return false;
-        }
-    }
-    true
-}
-
 // 40, by the rows that say where a store leads: every s in P has an end.
 pub fn in_range(n: u32, work: &[u64], own: Names, after: &[u64]) -> bool
     ensures { λ out.
         ⌜ out ≡ holds (inSet (bare n) (wordSet n (now (work .entry)) (own .p)) (λ s. must (any n (rel n (now (after .entry)) s)))) ⌝ }
 {
-    let p = set_at(n, work, own.p);
-    let mut held = true;
-    for s in 0..n {
-        held = held & in_range_at(n, p, after, s);
-    }
-    held
+    set_at(n, work, own.p).included(starting(n, after))
 }
 
 // 42, by the same rows: s in P, s′ its end: (s,s′) in Q.
