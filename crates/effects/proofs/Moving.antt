@@ -32,6 +32,7 @@ use Rattle.conditions.proofs.Searches.{holds-inSet, within, part-within}
 use Rattle.conditions.proofs.Words.{set-small}
 use Rattle.states.specs.Sets.{has}
 use Rattle.states.specs.declared.StateSet.{StateSet}
+use Rattle.states.proofs.Words.{mem-nought}
 use Rattle.states.proofs.Members.{Passed}
 use Rattle.states.proofs.Rows.{mem-below}
 use Rattle.effects.specs.Places.{machineHere, exprRead, movedFrom}
@@ -108,6 +109,11 @@ passed-not n f from rest g old fails =
 pub below-itself : (set : StateSet) (n s : ℕ) → s < n → (has set s && (ltb s 64 && ltb s n)) ≡ has set s
 unfolding has
 below-itself set n s l = bool-ext _ _ (and-left (has set s) _) (λ h. and-both _ _ h (and-both _ _ (lt-ltb s 64 (mem-below _ s h)) (lt-ltb s n l)))
+
+-- A set whose word is 0 has no member with any property.
+pub none-start : (n : ℕ) (set : StateSet) (f : ℕ → Bool) → set .bits ≡ 0 → any n (λ s. has set s && f s) ≡ false
+unfolding has
+none-start n set f e = any-none n _ (λ s l. rw (e, mem-nought s))
 
 -- Of a set those members will do that start a pair.
 pub starts-moved : (bytes : List ℕ) (n : ℕ) (work : List ℕ) (own : Names) (v : ℕ) (from starts : StateSet)

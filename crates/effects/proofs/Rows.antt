@@ -5,12 +5,11 @@ use mathlib.Core.Bool.{Bool, true, false, _&&_, _||_, and-false}
 use lib.Dec.{ltb, eqb}
 use borrow.Author.Tests.{ltb-true, lt-ltb, eqb-true, eq-eqb}
 use Rattle.states.specs.Search.{implies, all, any, Search, must, given, each, holds}
-use Rattle.states.specs.Sets.{has}
 use Rattle.states.proofs.Search.{and-left, and-right, and-both, bool-ext, all-cong, any-intro, any-true}
 use Rattle.semantics.specs.States.{Machine}
 use Rattle.semantics.specs.Conditions.{inSet}
 use Rattle.conditions.specs.Words.{bare}
-use Rattle.conditions.proofs.Searches.{Small, within, holds-inSet, inSet-intro, inSet-at}
+use Rattle.conditions.proofs.Searches.{within, holds-inSet, inSet-intro, inSet-at}
 
 -- Searches that find the same of each member.
 pub inSet-cong : (n : ℕ) (m : Machine) → m .states ≡ n → (p : ℕ → Bool) (f g : ℕ → Search)
@@ -45,10 +44,3 @@ any-itself n p t = bool-ext _ _ (λ h. there (any-true n _ h)) back
 
     back : (ltb t n && p t) ≡ true → any n (λ u. p u && eqb u t) ≡ true
     back h = any-intro n _ t (ltb-true t n (and-left (ltb t n) _ h)) (and-both _ _ (and-right (ltb t n) _ h) (eq-eqb t t refl))
-
--- A word has a member where the n states have one.
-pub any-small : (n : ℕ) (p : ℕ → Bool) → Small n p → any 64 p ≡ any n p
-any-small n p small = bool-ext _ _ (λ h. at n (λ t e. small t e .1) (any-true 64 p h)) (λ h. at 64 (λ t e. small t e .0) (any-true n p h))
-  where
-    at : (k : ℕ) {j : ℕ} → ((t : ℕ) → p t ≡ true → t < k) → (t : ℕ) × (t < j) × (p t ≡ true) → any k p ≡ true
-    at k below w = any-intro k p (w .0) (below (w .0) (w .2)) (w .2)

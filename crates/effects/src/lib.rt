@@ -17,11 +17,12 @@ use states::relations::row;
 use states::relations::starting;
 use values::agreeing;
 use values::successors;
+use values::variable_of;
 ghost use mathlib.Core.Path.{_≡_};
 ghost use mathlib.Core.Bool.{not, _&&_, _||_};
 ghost use Prim.Native.Nat.{ℕ, _<_};
 ghost use lib.Dec.{leb, ltb, eqb};
-ghost use Rattle.states.specs.Search.{any, must, given, holds};
+ghost use Rattle.states.specs.Search.{implies, all, any, must, holds};
 ghost use Rattle.states.specs.Sets.{has};
 ghost use Rattle.states.specs.Relations.{rel};
 ghost use Rattle.semantics.specs.Conditions.{occurrences, inSet, moves, c46, c52, c54, c56};
@@ -60,46 +61,41 @@ pub fn stays_false(n: u32, work: &[u64], own: Names, falsity: StateSet) -> bool
     )
 }
 
-fn leaves_at(n: u32, work: &[u64], own: Names, w: u32, falsity: StateSet, s: u32) -> bool
+// Whether each t of p with the test false, that is s or that w leads to from s, makes a pair (s,t) of Q.
+fn leaves_at(
+    n: u32,
+    work: &[u64],
+    own: Names,
+    w: u32,
+    p: StateSet,
+    falsity: StateSet,
+    s: u32,
+) -> bool
     ensures { λ out.
-        ⌜ out ≡ holds (given (wordSet n (now (work .entry)) (own .p) s) (inSet (bare n)
-        (λ t. (eqb t s || wordRelation n (now (work .entry)) w s t) && wordSet n (now (work .entry)) (own .p) t && has falsity t)
-        (λ t. must (wordRelation n (now (work .entry)) (own .q) s t)))) ⌝ }
+        ⌜ out ≡ all 64 (λ t. implies ((eqb t s || wordRelation n (now (work .entry)) w s t) && has p t && has falsity t)
+        (wordRelation n (now (work .entry)) (own .q) s t)) ⌝ }
 {
-    let p = set_at(n, work, own.p);
-    if p.holds_state(s) {
-        let rounds = StateSet::single(s).join(row_at(n, work, w, s));
-        rounds
-            .meet(p)
-            .meet(falsity)
-            .included(row_at(n, work, own.q, s))
-    } else {
-        true
-    }
+    let rounds = StateSet::single(s).join(row_at(n, work, w, s));
+    rounds
+        .meet(p)
+        .meet(falsity)
+        .included(row_at(n, work, own.q, s))
 }
 
-// 56: s in P, t = s or (s,t) in W, t in P, test false at t: (s,t) in Q.
+// 56: s in P, t = s or (s,t) in W, t in P, test false at t: (s,t) in Q. The states of P are taken out one by one, the least first.
 pub fn leaves(n: u32, work: &[u64], own: Names, w: u32, falsity: StateSet) -> bool
     ensures { λ out.
         ⌜ out ≡ holds (c56 (bare n) (wordSpec n (now (work .entry)) own) (has falsity) (wordRelation n (now (work .entry)) w)) ⌝ }
 {
+    let p = set_at(n, work, own.p);
+    let mut rest = p;
     let mut held = true;
-    for s in 0..n {
-        held = held & leaves_at(n, work, own, w, falsity, s);
+    while rest.bits != 0 {
+        let first = u64::trailing_zeros(rest.bits);
+        held = held & leaves_at(n, work, own, w, p, falsity, first);
+        rest = rest.narrow(StateSet::single(first));
     }
     held
-}
-
-// Whether s has an end, where it is in P.
-fn in_range_at(n: u32, p: StateSet, after: &[u64], s: u32) -> bool
-    ensures { λ out. ⌜ out ≡ holds (given (has p s) (must (any n (rel n (now (after .entry)) s)))) ⌝ }
-{
-    if p.holds_state(s) {
-        if row(n, after, s).is_empty() {
-            return false;
-        }
-    }
-    true
 }
 
 // 40, by the rows that say where a store leads: every s in P has an end.
@@ -107,12 +103,7 @@ pub fn in_range(n: u32, work: &[u64], own: Names, after: &[u64]) -> bool
     ensures { λ out.
         ⌜ out ≡ holds (inSet (bare n) (wordSet n (now (work .entry)) (own .p)) (λ s. must (any n (rel n (now (after .entry)) s)))) ⌝ }
 {
-    let p = set_at(n, work, own.p);
-    let mut held = true;
-    for s in 0..n {
-        held = held & in_range_at(n, p, after, s);
-    }
-    held
+    set_at(n, work, own.p).included(starting(n, after))
 }
 
 // 42, by the same rows: s in P, s′ its end: (s,s′) in Q.
@@ -124,17 +115,13 @@ pub fn store_in_post(n: u32, work: &[u64], own: Names, after: &[u64]) -> bool
     included_from(n, set_at(n, work, own.p), after, rows_of(work, own.q))
 }
 
+// Whether the end of a store at s is s or makes a pair of G.
 fn guaranteed_at(n: u32, work: &[u64], own: Names, after: &[u64], s: u32) -> bool
     ensures { λ out.
-        ⌜ out ≡ holds (given (wordSet n (now (work .entry)) (own .p) s) (inSet (bare n) (rel n (now (after .entry)) s)
-        (λ t. must (eqb t s || wordRelation n (now (work .entry)) (own .g) s t)))) ⌝ }
+        ⌜ out ≡ holds (inSet (bare n) (rel n (now (after .entry)) s) (λ t. must (eqb t s || wordRelation n (now (work .entry)) (own .g) s t))) ⌝ }
 {
-    if set_at(n, work, own.p).holds_state(s) {
-        let allowed = StateSet::single(s).join(row_at(n, work, own.g, s));
-        row(n, after, s).included(allowed)
-    } else {
-        true
-    }
+    let allowed = StateSet::single(s).join(row_at(n, work, own.g, s));
+    row(n, after, s).included(allowed)
 }
 
 // 43, by the same rows: s in P, s′ its end: s′ = s or (s,s′) in G.
@@ -143,9 +130,12 @@ pub fn store_in_guarantee(n: u32, work: &[u64], own: Names, after: &[u64]) -> bo
         ⌜ out ≡ holds (inSet (bare n) (wordSet n (now (work .entry)) (own .p)) (λ s. inSet (bare n) (rel n (now (after .entry)) s)
         (λ t. must (eqb t s || wordRelation n (now (work .entry)) (own .g) s t)))) ⌝ }
 {
+    let mut rest = set_at(n, work, own.p);
     let mut held = true;
-    for s in 0..n {
-        held = held & guaranteed_at(n, work, own, after, s);
+    while rest.bits != 0 {
+        let first = u64::trailing_zeros(rest.bits);
+        held = held & guaranteed_at(n, work, own, after, first);
+        rest = rest.narrow(StateSet::single(first));
     }
     held
 }
@@ -163,10 +153,11 @@ fn moves_variable(src: &[u8], n: u32, work: &[u64], from: StateSet, r: u32, v: u
     ensures { λ out.
         ⌜ out ≡ any n (λ s. has from s && any n (λ t. wordRelation n (now (work .entry)) r s t && not (agreeAt (now (src .entry)) v s t))) ⌝ }
 {
+    let variable = variable_of(src, v);
     let mut rest = from.meet(StateSet::below(n));
     while rest.bits != 0 {
         let first = u64::trailing_zeros(rest.bits);
-        let agree = agreeing(src, v, first);
+        let agree = agreeing(variable, first);
         let alike = agree.join(StateSet::single(first));
         if leads_into(n, work, rest.meet(alike), r, agree) {
             rest = rest.narrow(alike);
@@ -185,7 +176,8 @@ fn with_variable(mask: u32, v: u32, one: bool) -> u32
     if one { mask | (1 << v) } else { mask }
 }
 
-// The mask of the variables that R moves, over the states that the file declares. Only the states of P that start a pair matter.
+// The mask of the variables that R moves, over the states that the file declares. Only the states of P that start a pair matter:
+// mostly there are none, and then no variable is looked at.
 pub fn moved(src: &[u8], work: &[u64], own: Names) -> u32
     ensures { λ out.
         ⌜ ((v : ℕ) → inMask out v ≡ moves (machineHere (now (src .entry)))
@@ -196,6 +188,9 @@ pub fn moved(src: &[u8], work: &[u64], own: Names) -> u32
     };
     let starts = starting(n, rows_of(work, own.r));
     let from = set_at(n, work, own.p).meet(starts);
+    if from.bits == 0 {
+        return 0;
+    }
     let mut mask = 0;
     for v in 0..count {
         mask = with_variable(mask, v, moves_variable(src, n, work, from, own.r, v));

@@ -10,7 +10,7 @@ use Rattle.values.specs.declared.After.the-variants.{State, OutOfRange}
 use Rattle.bits.specs.Fields.{bitLength, bitAt, bitsAt, isThere, fieldAt}
 use Rattle.expressions.specs.Header.{sizeRead, addSize, sizesRead, countRead, headerAt, sizesOf}
 use Rattle.expressions.specs.Expressions.{signed, integerHead, truthHead, variableHead, operationHead, payloadHead, tagHead, exprHead, exprAt, wholeExpr}
-use Rattle.values.specs.Values.{machineAt, valueAt, whereAt, afterAt, agreeAt}
+use Rattle.values.specs.Values.{machineAt, valueAt, whereAt, afterAt, agreeAt, variableAt, isSmall, agreeIn}
 
 -- Variables 0 and 1, at bits 13 and 17.
 two-variables : List ℕ
@@ -26,7 +26,8 @@ less = 66 ∷ 30 ∷ 164 ∷ 2 ∷ []
 
 -- Values 1 and 2 are state 5; a difference below 0 is exact; the test is true at the states whose variable 1 is 0 or 1.
 -- At state 5, a store of 1 in variable 1 leads to state 4; of 2, its size, in variable 0, nowhere; nor does a store at 6, which is
--- no state, or of what is no expression. States 5 and 3 agree in variable 0 and not in variable 1.
+-- no state, or of what is no expression. States 5 and 3 agree in variable 0 and not in variable 1. Of the 6 states one more of variable 0's
+-- value counts 3, and it has 2 values; with a weight of 0 no states agree.
 values :
     (valueAt two-variables 13 5 ≡ some (int (pos 1)))
     × (valueAt two-variables 17 5 ≡ some (int (pos 2)))
@@ -38,5 +39,8 @@ values :
     × (afterAt two-variables 1 24 5 ≡ OutOfRange)
     × (agreeAt two-variables 0 5 3 ≡ true)
     × (agreeAt two-variables 1 5 3 ≡ false)
-unfolding two-variables difference less headerAt countRead sizesRead addSize sizeRead sizesOf fieldAt isThere bitsAt bitAt bitLength exprHead tagHead payloadHead integerHead truthHead variableHead operationHead signed exprAt wholeExpr machineAt valueAt whereAt afterAt agreeAt
-values = (refl, refl, refl, refl, refl, refl, refl, refl, refl, refl)
+    × (variableAt two-variables 0 ≡ record { states = 6; weight = 3; size = 2 })
+    × (agreeIn (record { states = 6; weight = 3; size = 2 }) 5 3 ≡ true)
+    × (agreeIn (record { states = 6; weight = 0; size = 2 }) 5 3 ≡ false)
+unfolding two-variables difference less headerAt countRead sizesRead addSize sizeRead sizesOf fieldAt isThere bitsAt bitAt bitLength exprHead tagHead payloadHead integerHead truthHead variableHead operationHead signed exprAt wholeExpr machineAt valueAt whereAt afterAt agreeAt variableAt isSmall agreeIn
+values = (refl, refl, refl, refl, refl, refl, refl, refl, refl, refl, refl, refl, refl)

@@ -1,25 +1,30 @@
 -- What the values of a file are where its head was read and an expression stands at the cursor: laws for callers.
-use Prim.Native.Nat.{ℕ, _+_, _≤_, _<_}
+use Prim.Native.Nat.{ℕ, suc, _+_, _≤_, _<_}
 use native.Mathlib.Numerals.{add-one}
 use native.Mathlib.Omega.{arith}
-use borrow.Author.Tests.{ltb-true, lt-ltb, le-ltb, eqb-true, eq-eqb}
+use borrow.Author.Tests.{leb-true, ltb-true, lt-ltb, le-ltb, le-leb, eqb-true, eq-eqb}
 use mathlib.Core.Bool.{Bool, true, false, _&&_, _||_}
 use mathlib.Core.List.{List}
 use mathlib.Core.Logic.{⊎-elim}
 use mathlib.Core.Option.{Option}
 use mathlib.Core.Path.{_≡_, refl, sym, _∙_}
-use lib.Dec.{ltb, eqb}
+use lib.Dec.{leb, ltb, eqb}
+use lib.IntN.{pos}
+use lib.ListN.{getD}
 use Rattle.states.specs.declared.StateSet.{StateSet}
 use Rattle.states.specs.Sets.{has}
 use Rattle.states.proofs.Search.{and-left, and-right, and-both, or-left, or-right, or-cases, bool-ext, below-cases}
 use Rattle.semantics.specs.Language.{Val, Expr, eqZ}
-use Rattle.semantics.specs.States.{machineOf, value, isTruth, storeOf}
+use Rattle.semantics.specs.States.{weight, valueOf, machineOf, value, isTruth, storeOf}
+use Rattle.expressions.specs.declared.Header.{Header}
 use Rattle.expressions.specs.declared.Header.the-variants.{Sizes, Fault}
+use Rattle.values.specs.declared.Variable.{Variable}
 use Rattle.values.specs.declared.After.the-variants.{OutOfRange}
 use Rattle.expressions.specs.Header.{headerAt, sizesOf}
 use Rattle.expressions.specs.Expressions.{good, wholeExpr}
-use Rattle.values.specs.Values.{countOf, statesOf, afterOf, machineAt, valueAt, whereAt, afterAt, agreeAt}
+use Rattle.values.specs.Values.{countOf, statesOf, afterOf, machineAt, valueAt, whereAt, afterAt, agreeAt, variableAt, isSmall, agreeIn}
 use Rattle.expressions.proofs.Heads.{head-read}
+use Rattle.values.proofs.Sizes.{sound}
 
 -- Where the head was read.
 module _ (bytes : List ℕ) (count n first : ℕ) (head : headerAt bytes ≡ Sizes count n first) where
@@ -69,15 +74,64 @@ module _ (bytes : List ℕ) (s : ℕ) (past : statesOf (headerAt bytes) ≤ s) w
   unfolding afterAt
   after-past v at = rw (le-ltb s (statesOf (headerAt bytes)) past)
 
-  pub agree-past : (v t : ℕ) → agreeAt bytes v s t ≡ false
-  unfolding agreeAt
-  agree-past v t = rw (le-ltb s (statesOf (headerAt bytes)) past)
-
 pub fault-past : (bytes : List ℕ) (k place s : ℕ) → headerAt bytes ≡ Fault k place → statesOf (headerAt bytes) ≤ s
 fault-past bytes k place s head = rw head (omega arith)
 
 pub state-past : (bytes : List ℕ) (count n first s : ℕ) → headerAt bytes ≡ Sizes count n first → n ≤ s → statesOf (headerAt bytes) ≤ s
 state-past bytes count n first s head past = rw head past
+
+-- Two numbers are the same as integers.
+same-number : (a b : ℕ) → eqZ (pos a) (pos b) ≡ eqb a b
+same-number a b =
+    bool-ext _ _
+    (λ h. eq-eqb a b (omega (arith, leb-true a b (and-left (leb a b) _ h), leb-true b a (and-right (leb a b) _ h))))
+    (λ h. let e = eqb-true a b h in and-both _ _ (le-leb a b (omega arith)) (le-leb b a (omega arith)))
+
+-- What a variable's numbers are where they are small.
+pub record Small (x : Variable) : Type 0 where
+  pub few : x .states ≤ 64
+  pub weighs : 0 < x .weight
+  pub light : x .weight ≤ 64
+  pub sized : 0 < x .size
+  pub short : x .size ≤ 64
+
+pub small : (x : Variable) → isSmall x ≡ true → Small x
+unfolding isSmall
+small x h =
+    let c = and-left _ (leb (x .size) 64) h in
+    let b = and-left _ (ltb 0 (x .size)) c in
+    let a = and-left _ (leb (x .weight) 64) b in
+    record {
+      few = leb-true (x .states) 64 (and-left _ (ltb 0 (x .weight)) a);
+      weighs = ltb-true 0 (x .weight) (and-right (leb (x .states) 64) _ a);
+      light = leb-true (x .weight) 64 (and-right (leb (x .states) 64 && ltb 0 (x .weight)) _ b);
+      sized = ltb-true 0 (x .size) (and-right (leb (x .states) 64 && ltb 0 (x .weight) && leb (x .weight) 64) _ c);
+      short = leb-true (x .size) 64 (and-right (leb (x .states) 64 && ltb 0 (x .weight) && leb (x .weight) 64 && ltb 0 (x .size)) _ h);
+    }
+
+states-most : (bytes : List ℕ) → statesOf (headerAt bytes) ≤ 64
+states-most bytes = by (headerAt bytes) refl
+  where
+    by : (h : Header) → headerAt bytes ≡ h → statesOf h ≤ 64
+    by (Sizes count n first) e = at-most bytes count n first e
+    by (Fault k place) e = omega arith
+
+-- Whether states agree in a variable is whether they agree in it as the code carries it.
+pub agree-variable : (bytes : List ℕ) (v s t : ℕ) → agreeIn (variableAt bytes v) s t ≡ agreeAt bytes v s t
+unfolding variableAt isSmall agreeIn agreeAt machineAt
+agree-variable bytes v s t =
+    let known = sound bytes (countOf (headerAt bytes)) refl in
+    let w = known .later (suc v) in
+    let z = known .size v in
+    let sizes = sizesOf bytes (countOf (headerAt bytes)) in
+    rw (
+      le-leb (statesOf (headerAt bytes)) 64 (states-most bytes),
+      lt-ltb 0 (weight sizes v) (w .0),
+      le-leb (weight sizes v) 64 (w .1),
+      lt-ltb 0 (getD sizes v 1) (z .0),
+      le-leb (getD sizes v 1) 64 (z .1),
+      same-number (valueOf sizes s v) (valueOf sizes t v),
+    )
 
 -- The states below k at which p is true: what a loop over the states keeps.
 abbrev pub Holds : (ℕ → Bool) → ℕ → StateSet → Type 0

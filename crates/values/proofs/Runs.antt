@@ -4,23 +4,13 @@ use Prim.Native.Nat.{ℕ, _+_, _*_, _/_, _%_, _≤_, _<_}
 use native.Mathlib.Nat.{div-lt-iff-lt-mul, le-div-iff-mul-le, div-eq-of-lt-le, div-add-mod, mod-lt, mod-self, mod-add-mod, mod-eq-of-lt, add-mod-right, mul-le-mul-right, le-mul-of-pos-right}
 use native.Mathlib.Decide.{decLt}
 use native.Mathlib.Omega.{arith}
-use borrow.Author.Tests.{lt-ltb, le-ltb, eq-eqb, ne-eqb, eqb-true, leb-true, le-leb}
+use borrow.Author.Tests.{lt-ltb, le-ltb, eq-eqb, ne-eqb}
 use mathlib.Core.Bool.{Bool, true, false, cond, not, _&&_, _||_, and-false, and-true, or-false}
 use mathlib.Core.Path.{_≡_, refl, sym, _∙_}
-use lib.Dec.{ltb, leb, eqb}
-use lib.IntN.{pos}
+use lib.Dec.{ltb, eqb}
 use Rattle.states.specs.declared.StateSet.{StateSet}
 use Rattle.states.specs.Sets.{has}
-use Rattle.states.proofs.Search.{and-left, and-right, and-both, bool-ext}
-use Rattle.semantics.specs.Language.{eqZ}
 use Rattle.values.proofs.Laws.{Holds}
-
--- Two numbers are the same as integers.
-pub same-number : (a b : ℕ) → eqZ (pos a) (pos b) ≡ eqb a b
-same-number a b =
-    bool-ext _ _
-    (λ h. eq-eqb a b (omega (arith, leb-true a b (and-left (leb a b) _ h), leb-true b a (and-right (leb a b) _ h))))
-    (λ h. let e = eqb-true a b h in and-both _ _ (le-leb a b (omega arith)) (le-leb b a (omega arith)))
 
 -- Two numbers less than z apart have different remainders.
 apart : (p q z : ℕ) → p < q → q < p + z → p % z ≡ q % z → ⊥

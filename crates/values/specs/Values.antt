@@ -1,19 +1,20 @@
 -- Document 01, "States and steps": what an expression of the file is worth at a state, and what a store of it leads to.
-use Prim.Native.Nat.{ℕ, _+_, _-_, _*_, _≤_, _<_}
+use Prim.Native.Nat.{ℕ, _+_, _-_, _*_, _/_, _%_, _≤_, _<_}
 use mathlib.Core.Path.{_≡_}
 use mathlib.Core.Bool.{Bool, false, cond, _&&_}
 use mathlib.Core.List.{List, [], _∷_}
 use mathlib.Core.Option.{Option, none, some}
-use lib.Dec.{ltb, eqb}
+use lib.Dec.{leb, ltb, eqb}
 use lib.IntN.{ℤ, pos}
 use lib.ListN.{getD}
 use lib.Signed.{mag}
 use Rattle.states.specs.Sets.{has}
 use Rattle.semantics.specs.Language.{Val, int, truth, eqZ}
-use Rattle.semantics.specs.States.{Machine, machineOf, value, isTruth, storeOf}
+use Rattle.semantics.specs.States.{Machine, machineOf, weight, value, isTruth, storeOf}
 use Rattle.expressions.specs.declared.Header.{Header}
 use Rattle.expressions.specs.declared.Header.the-variants as header
 use Rattle.values.specs.declared.Worths.{Worths}
+use Rattle.values.specs.declared.Variable.{Variable}
 use Rattle.values.specs.declared.After.{After}
 use Rattle.values.specs.declared.After.the-variants.{State, OutOfRange}
 use Rattle.expressions.specs.Header.{headerAt, sizesOf}
@@ -86,3 +87,18 @@ unfoldable pub agreeAt : List ℕ → ℕ → ℕ → ℕ → Bool
 agreeAt bytes v s t =
     ltb s (statesOf (headerAt bytes)) && ltb t (statesOf (headerAt bytes))
     && eqZ (machineAt bytes .get s v) (machineAt bytes .get t v)
+
+-- A variable as the code carries it; one that is not declared has one value, and there is no state where the head is faulty.
+unfoldable pub variableAt : List ℕ → ℕ → Variable
+variableAt bytes v =
+    let sizes = sizesOf bytes (countOf (headerAt bytes)) in
+    record { states = statesOf (headerAt bytes); weight = weight sizes v; size = getD sizes v 1 }
+
+-- Whether the numbers are such as a file of at most 64 states has.
+unfoldable pub isSmall : Variable → Bool
+isSmall x = leb (x .states) 64 && ltb 0 (x .weight) && leb (x .weight) 64 && ltb 0 (x .size) && leb (x .size) 64
+
+-- Whether s and t are states that agree in such a variable; none do in another.
+unfoldable pub agreeIn : Variable → ℕ → ℕ → Bool
+agreeIn x s t =
+    isSmall x && ltb s (x .states) && ltb t (x .states) && eqb (s / x .weight % x .size) (t / x .weight % x .size)

@@ -26,7 +26,7 @@ ghost use Rattle.semantics.specs.Language.{ofIntegers, ofTruths, apply};
 ghost use Rattle.semantics.specs.States.{machineOf, both, weight as weightIn, stored};
 ghost use Rattle.expressions.specs.Header.{headerAt, sizesOf};
 ghost use Rattle.expressions.specs.Expressions.{exprAt};
-ghost use Rattle.values.specs.Values.{countOf, valueIn, integerIn, Applied, Walked, afterOf, leads, whereAt, afterAt, agreeAt};
+ghost use Rattle.values.specs.Values.{countOf, valueIn, integerIn, Applied, Walked, afterOf, leads, whereAt, afterAt, variableAt, isSmall, agreeIn};
 
 // What an expression is worth at each state: of kind 0 an integer, of kind 1 a truth value, of kind 2 nothing, as where the kinds
 // of its operands do not fit. With it go the number of the expression's nodes so far and the cursor behind it.
@@ -42,6 +42,14 @@ pub struct Worths {
 pub struct Truths {
     pub holds: StateSet,
     pub fails: StateSet,
+}
+
+// A variable as a state's number counts it: the number of states, the variable's weight, which is the product of the later sizes,
+// and its size.
+pub struct Variable {
+    pub states: u32,
+    pub weight: u32,
+    pub size: u32,
 }
 
 // The state after a store, or that the value is no integer or out of the variable's range.
@@ -228,20 +236,41 @@ pub fn truths_at(src: &[u8], at: usize) -> Truths
     }
 }
 
-// The states that agree with s in variable v; none where s is no state.
-pub fn agreeing(src: &[u8], v: u32, s: u32) -> StateSet
-    ensures { λ r. ⌜ ((t : ℕ) → has r t ≡ agreeAt (now (src .entry)) v s t) ⌝ }
+// Variable v of the file.
+pub fn variable_of(src: &[u8], v: u32) -> Variable
+    ensures { λ r. ⌜ r ≡ variableAt (now (src .entry)) v ⌝ }
 {
-    let none = StateSet::empty();
-    let Header::Sizes(count, n, _) = read_header(src) else {
-        return none;
+    let Header::Sizes(count, states, _) = read_header(src) else {
+        return Variable {
+            states: 0,
+            weight: 1,
+            size: 1,
+        };
     };
-    if s >= n {
-        return none;
+    Variable {
+        states,
+        weight: weight_of(src, count, v),
+        size: size_of(src, count, v),
     }
-    let weight = weight_of(src, count, v);
-    let size = size_of(src, count, v);
-    states_with(n, weight, size, s / weight % size)
+}
+
+// Whether there are at most 64 states, and numbers to divide by that are not 0 and no larger.
+fn is_small(x: Variable) -> bool
+    ensures { λ r. ⌜ r ≡ isSmall x ⌝ }
+{
+    (x.states <= 64) & (0 < x.weight) & (x.weight <= 64) & (0 < x.size) & (x.size <= 64)
+}
+
+// The states that agree with s in a variable; none where s is no state. A caller with many states to ask for reads the variable
+// once.
+pub fn agreeing(x: Variable, s: u32) -> StateSet
+    ensures { λ r. ⌜ ((t : ℕ) → has r t ≡ agreeIn x s t) ⌝ }
+{
+    if is_small(x) & (s < x.states) {
+        states_with(x.states, x.weight, x.size, s / x.weight % x.size)
+    } else {
+        StateSet::empty()
+    }
 }
 
 // The state after a store of n at state s, in a variable of this weight and size.

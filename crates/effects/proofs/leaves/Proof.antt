@@ -1,38 +1,74 @@
--- From the states of P below s a round or none leads, where the test is false, into Q. `holds-next` adds the next.
-use Prim.Native.Nat.{_≤_, _-_}
-use native.Mathlib.Omega.{arith}
-use mathlib.Core.Path.{_≡_, _∙_, ap₂, refl}
-use mathlib.Core.Bool.{_&&_, _||_}
+-- From the states taken out of P a round or none leads, where the test is false, into Q, and of those left it is still to be asked.
+-- `passed-more` asks the least.
+use Prim.Native.Nat.{ℕ}
+use mathlib.Core.Path.{_∙_, sym, ap, fun-ext}
+use mathlib.Core.Bool.{Bool, _&&_, _||_}
+use mathlib.Core.List.{List}
+use lib.Count.{trailingZeros}
 use lib.Dec.{eqb}
 use borrow.Author.Needs.{needs}
-use Rattle.states.specs.Search.{must, given, each, holds}
+use Rattle.states.specs.Search.{Search, must, holds}
 use Rattle.states.specs.Sets.{has}
+use Rattle.states.proofs.Search.{and-left, and-right}
+use Rattle.states.proofs.Reach.{count}
+use Rattle.states.proofs.Members.{Taken, first-below, first-taken, fewer, Passed, passed-none, passed-more}
 use Rattle.semantics.specs.Conditions.{inSet, c56}
 use Rattle.conditions.specs.Words.{bare, wordSet, wordRelation}
-use Rattle.conditions.proofs.Searches.{holds-next, each-done}
+use Rattle.conditions.proofs.Searches.{Small, small-within, passed-search}
+use Rattle.conditions.proofs.Words.{set-small}
 use Rattle.effects.proofs.leaves.Statement.{statement}
 use Rattle.effects.proofs.leaves.Tie as tie
 
+abbrev exits : ℕ → List ℕ → ℕ → ℕ → (ℕ → Bool) → (ℕ → Bool) → ℕ → Search
+exits n work w q p falsity s =
+    inSet (bare n) (λ t. (eqb t s || wordRelation n work w s t) && p t && falsity t) (λ t. must (wordRelation n work q s t))
+
 abbrev Inv-loop : tie.InvT-loop
-Inv-loop n work own w falsity held₀ s₀ held s =
-    (s ≤ n) × (held ≡ holds (each s (λ u. given (wordSet n work (own .p) u) (inSet (bare n)
-    (λ t. (eqb t u || wordRelation n work w u t) && wordSet n work (own .p) t && has falsity t) (λ t. must (wordRelation n work (own .q) u t))))))
+Inv-loop n work own w falsity p rest₀ held₀ rest held = Passed n (λ s. holds (exits n work w (own .q) (has p) (has falsity) s)) rest₀ rest held
 
 abbrev μ-loop : tie.MeasureT-loop
-μ-loop n work own w falsity held₀ s₀ held s = n - s
+μ-loop n work own w falsity p rest₀ held₀ rest held = count 64 (has rest)
+
+-- P holds states only.
+small : (c : tie.After-set-at Inv-loop μ-loop) → Small (c .before .before .args .n) (has (c .set-at .result))
+small c s e = let a = c .before .before .args in set-small (a .n) (a .work .now) (a .own .p) s (sym (c .set-at .ensures s) ∙ e)
 
 loop-holds : tie.Need-loop-holds Inv-loop μ-loop
-unfolding each holds
-loop-holds c = (omega arith, refl)
+loop-holds c = passed-none _ _ _ (λ s e. small c s e .1)
+
+one : (c : tie.After-narrow Inv-loop μ-loop) → let set = c .before .before .before .before .before .before .loop .rest in
+    Taken (has set) (has (c .narrow .result)) (trailingZeros 64 (set .bits))
+one c =
+    let d = c .before .before .before in
+    first-taken _ (d .struct-known2 .given .0 .fits) (d .before .if1 .taken) _ _ (c .before .single .ensures) (c .narrow .ensures)
+
+loop-less : tie.Need-loop-less Inv-loop μ-loop
+loop-less c =
+    let d = c .before .before .before in
+    fewer _ _ _ (one c) 64 (first-below _ (d .struct-known2 .given .0 .fits) (d .before .if1 .taken))
 
 loop-again : tie.Need-loop-again Inv-loop μ-loop
-loop-again c = (omega arith, ap₂ _&&_ (c .before .before .loop .inv .1) (c .leaves-at .ensures) ∙ holds-next _ _)
+loop-again c =
+    let l = c .before .before .before .before .before .before in
+    let a = l .before .before .before .args in
+    let p = has (l .before .set-at .result) in
+    let s = trailingZeros 64 (l .loop .rest .bits) in
+    passed-more (a .n) (λ s. holds (exits (a .n) (a .work .now) (a .w) (a .own .q) p (has (a .falsity)) s)) _ _ _ _ _ _ (one c)
+    (c .before .before .leaves-at .ensures
+    ∙ small-within (a .n) _ _ (λ t h. small (l .before) t (and-right (eqb t s || wordRelation (a .n) (a .work .now) (a .w) s t) (p t) (and-left _ (has (a .falsity) t) h))))
+    (l .loop .inv)
 
 returns : tie.Need-returns Inv-loop μ-loop
-unfolding c56 inSet
-returns c = c .before .loop .inv .1 ∙ each-done _ _ _ (c .before .loop .inv .0) (c .loop-test .left)
+unfolding c56
+returns c =
+    let l = c .before .before in
+    let a = l .before .before .before .args in
+    passed-search _ _ _ _ _ _ (c .if1 .left) (l .before .set-at .ensures) (l .loop .inv)
+    ∙ ap (λ p. holds (inSet (bare (a .n)) (wordSet (a .n) (a .work .now) (a .own .p)) (exits (a .n) (a .work .now) (a .w) (a .own .q) p (has (a .falsity)))))
+    (fun-ext (l .before .set-at .ensures))
 
 pub leaves-spec : {M : Type 1} → statement M
 leaves-spec =
     tie.close
-    (tie.spec Inv-loop μ-loop loop-holds (λ c κs. search needs) (λ c. search needs) (λ c. search needs) loop-again returns)
+    (tie.spec Inv-loop μ-loop (λ c κs. search needs) loop-holds (λ c κs. search needs) (λ c κs. search needs) (λ c κs. search needs)
+    loop-less loop-again returns)

@@ -13,7 +13,8 @@ use Rattle.states.specs.Sets.{has}
 use Rattle.states.proofs.Search.{and-left, and-right, and-both, or-right, any-cong}
 use Rattle.states.proofs.Reach.{count, count-more}
 use Rattle.states.proofs.Members.{first-below, first-in, Passed, passed-none, passed-part, passed-all}
-use Rattle.values.specs.Values.{agreeAt}
+use Rattle.values.specs.Values.{agreeAt, agreeIn}
+use Rattle.values.proofs.Laws.{agree-variable}
 use Rattle.conditions.specs.Words.{wordRelation}
 use Rattle.conditions.proofs.Words.{leads-cong}
 use Rattle.effects.proofs.Moving.{alike, alike-within, not-kept, passed-not, below-itself}
@@ -25,39 +26,47 @@ abbrev keeps : List ℕ → ℕ → List ℕ → ℕ → ℕ → ℕ → Bool
 keeps src n work r v s = all n (λ t. implies (wordRelation n work r s t) (agreeAt src v s t))
 
 abbrev Inv-loop : tie.InvT-loop
-Inv-loop src n work r v rest₀ rest = Passed n (keeps src n work r v) rest₀ rest true
+Inv-loop src n work r v variable rest₀ rest = Passed n (keeps src n work r v) rest₀ rest true
 
 abbrev μ-loop : tie.MeasureT-loop
-μ-loop src n work r v rest₀ rest = count 64 (has rest)
+μ-loop src n work r v variable rest₀ rest = count 64 (has rest)
+
+-- The variable is asked for once; the states that agree in it are those that agree by the file.
+agrees : (c : tie.After-agreeing Inv-loop μ-loop) → let d = c .before .before .before .before in
+    let a = d .before .before .before .before .before .before .args in
+    (s : ℕ) → has (c .agreeing .result) s ≡ agreeAt (a .src .now) (a .v) (trailingZeros 64 (d .loop .rest .bits)) s
+agrees c s =
+    let d = c .before .before .before .before in
+    c .agreeing .ensures s ∙ ap (λ x. agreeIn x (trailingZeros 64 (d .loop .rest .bits)) s) (d .before .before .before .variable-of .ensures) ∙ agree-variable _ _ _ s
 
 -- What is taken out, and what is asked of it.
 group : (c : tie.After-join Inv-loop μ-loop) → let d = c .before .before .before .before .before .before in
-    let a = d .before .before .before .before .before .args in
+    let a = d .before .before .before .before .before .before .args in
     let first = trailingZeros 64 (d .loop .rest .bits) in
     (s : ℕ) → has (c .join .result) s ≡ (agreeAt (a .src .now) (a .v) first s || ltb s 64 && eqb first s)
-group c s = c .join .ensures s ∙ ap₂ _||_ (c .before .before .agreeing .ensures s) (c .before .single .ensures s)
+group c s = c .join .ensures s ∙ ap₂ _||_ (agrees (c .before .before) s) (c .before .single .ensures s)
 
 asked : (c : tie.After-leads-into Inv-loop μ-loop) → let d = c .before .before in
     let e = d .before .before .before .before .before .before in
-    let a = e .before .before .before .before .before .args in
+    let a = e .before .before .before .before .before .before .args in
     c .leads-into .result ≡ all (a .n) (λ s. implies (has (e .loop .rest) s && has (d .join .result) s) (keeps (a .src .now) (a .n) (a .work .now) (a .r) (a .v) s))
 asked c =
     let d = c .before .before in
     let e = d .before .before .before .before .before .before in
-    let a = e .before .before .before .before .before .args in
+    let a = e .before .before .before .before .before .before .args in
     c .leads-into .ensures
-    ∙ leads-cong _ _ _ _ _ _ (c .before .meet2 .ensures) (d .before .before .agreeing .ensures)
+    ∙ leads-cong _ _ _ _ _ _ (c .before .meet2 .ensures) (agrees (d .before .before))
     ∙ alike-within (a .n) (has (e .loop .rest)) _ (wordRelation (a .n) (a .work .now) (a .r)) (agreeAt (a .src .now) (a .v)) _
     (λ s h. alike (a .src .now) (a .v) _ s (sym (group d s) ∙ h))
 
 -- The states to take out are those of the set that are below n.
-start : (c : tie.After-meet Inv-loop μ-loop) → let a = c .before .before .before .before .args in
+start : (c : tie.After-meet Inv-loop μ-loop) → let a = c .before .before .before .before .before .args in
     (s : ℕ) → has (c .meet .result) s ≡ (has (a .from) s && (ltb s 64 && ltb s (a .n)))
-start c s = c .meet .ensures s ∙ ap (λ b. has (c .before .before .before .before .args .from) s && b) (c .before .below .ensures s)
+start c s = c .meet .ensures s ∙ ap (λ b. has (c .before .before .before .before .before .args .from) s && b) (c .before .below .ensures s)
 
 loop-holds : tie.Need-loop-holds Inv-loop μ-loop
 loop-holds c =
-    passed-none _ _ _ (λ s e. ltb-true s _ (and-right (ltb s 64) _ (and-right (has (c .before .before .before .before .args .from) s) _ (sym (start c s) ∙ e))))
+    passed-none _ _ _ (λ s e. ltb-true s _ (and-right (ltb s 64) _ (and-right (has (c .before .before .before .before .before .args .from) s) _ (sym (start c s) ∙ e))))
 
 loop-less : tie.Need-loop-less Inv-loop μ-loop
 loop-less c =
@@ -78,11 +87,11 @@ loop-again c =
     (d .before .before .before .before .before .before .before .before .loop .inv)
 
 -- Whether r leads to states that agree, from the states that the loop starts with as from the set.
-moved : (c : tie.After-meet Inv-loop μ-loop) (b : Bool) → let a = c .before .before .before .before .args in
+moved : (c : tie.After-meet Inv-loop μ-loop) (b : Bool) → let a = c .before .before .before .before .before .args in
     b ≡ all (a .n) (λ s. implies (has (c .meet .result) s) (keeps (a .src .now) (a .n) (a .work .now) (a .r) (a .v) s))
     → not b ≡ any (a .n) (λ s. has (a .from) s && any (a .n) (λ t. wordRelation (a .n) (a .work .now) (a .r) s t && not (agreeAt (a .src .now) (a .v) s t)))
 moved c b e =
-    let a = c .before .before .before .before .args in
+    let a = c .before .before .before .before .before .args in
     ap not e ∙ not-kept (a .n) _ _ _
     ∙ any-cong (a .n) _ _ (λ s l. ap (λ x. x && any (a .n) (λ t. wordRelation (a .n) (a .work .now) (a .r) s t && not (agreeAt (a .src .now) (a .v) s t)))
     (start c s ∙ below-itself (a .from) (a .n) s l))
@@ -99,6 +108,6 @@ returns-2 c = let d = c .before .before in moved (d .before) true (passed-all _ 
 pub moves-variable-spec : {M : Type 1} → statement M
 moves-variable-spec =
     tie.close
-    (tie.spec Inv-loop μ-loop (λ c κs. search needs) (λ c κs. search needs) loop-holds (λ c κs. search needs) (λ c κs. search needs)
+    (tie.spec Inv-loop μ-loop (λ c κs. search needs) (λ c κs. search needs) (λ c κs. search needs) loop-holds (λ c κs. search needs) (λ c κs. search needs)
     (λ c κs. search needs) (λ c κs. search needs) (λ c κs. search needs) (λ c κs. search needs) loop-less loop-again returns
     returns-2)

@@ -1,38 +1,59 @@
--- The stores at the states of P below s change nothing or are in G. `holds-next` adds the next.
-use Prim.Native.Nat.{_≤_, _-_}
-use native.Mathlib.Omega.{arith}
-use mathlib.Core.Path.{_≡_, _∙_, ap₂, refl}
-use mathlib.Core.Bool.{_&&_, _||_}
+-- The stores at the states taken out of P change nothing or are in G, and those left are still to be asked. `passed-more` asks the least.
+use Prim.Native.Nat.{ℕ}
+use mathlib.Core.Path.{_∙_, sym}
+use mathlib.Core.Bool.{_||_}
+use mathlib.Core.List.{List}
+use lib.Count.{trailingZeros}
 use lib.Dec.{eqb}
 use borrow.Author.Needs.{needs}
-use Rattle.states.specs.Search.{must, given, each, holds}
+use Rattle.states.specs.Search.{Search, must, holds}
+use Rattle.states.specs.Sets.{has}
 use Rattle.states.specs.Relations.{rel}
+use Rattle.states.proofs.Reach.{count}
+use Rattle.states.proofs.Members.{Taken, first-below, first-taken, fewer, Passed, passed-none, passed-more}
 use Rattle.semantics.specs.Conditions.{inSet}
-use Rattle.conditions.specs.Words.{bare, wordSet, wordRelation}
-use Rattle.conditions.proofs.Searches.{holds-next, each-done}
+use Rattle.conditions.specs.Words.{bare, wordRelation}
+use Rattle.conditions.proofs.Searches.{passed-search}
+use Rattle.conditions.proofs.Words.{set-small}
 use Rattle.effects.proofs.store_in_guarantee.Statement.{statement}
 use Rattle.effects.proofs.store_in_guarantee.Tie as tie
 
+abbrev guaranteed : ℕ → List ℕ → ℕ → List ℕ → ℕ → Search
+guaranteed n work g after s = inSet (bare n) (rel n after s) (λ t. must (eqb t s || wordRelation n work g s t))
+
 abbrev Inv-loop : tie.InvT-loop
-Inv-loop n work own after held₀ s₀ held s =
-    (s ≤ n) × (held ≡ holds (each s (λ u. given (wordSet n work (own .p) u) (inSet (bare n) (rel n after u)
-    (λ t. must (eqb t u || wordRelation n work (own .g) u t))))))
+Inv-loop n work own after rest₀ held₀ rest held = Passed n (λ s. holds (guaranteed n work (own .g) after s)) rest₀ rest held
 
 abbrev μ-loop : tie.MeasureT-loop
-μ-loop n work own after held₀ s₀ held s = n - s
+μ-loop n work own after rest₀ held₀ rest held = count 64 (has rest)
 
 loop-holds : tie.Need-loop-holds Inv-loop μ-loop
-unfolding each holds
-loop-holds c = (omega arith, refl)
+loop-holds c =
+    let a = c .before .before .before .args in passed-none _ _ _ (λ s e. set-small (a .n) (a .work .now) (a .own .p) s (sym (c .set-at .ensures s) ∙ e) .1)
+
+one : (c : tie.After-narrow Inv-loop μ-loop) → let set = c .before .before .before .before .before .before .loop .rest in
+    Taken (has set) (has (c .narrow .result)) (trailingZeros 64 (set .bits))
+one c =
+    let d = c .before .before .before in
+    first-taken _ (d .struct-known2 .given .0 .fits) (d .before .if1 .taken) _ _ (c .before .single .ensures) (c .narrow .ensures)
+
+loop-less : tie.Need-loop-less Inv-loop μ-loop
+loop-less c =
+    let d = c .before .before .before in
+    fewer _ _ _ (one c) 64 (first-below _ (d .struct-known2 .given .0 .fits) (d .before .if1 .taken))
 
 loop-again : tie.Need-loop-again Inv-loop μ-loop
-loop-again c = (omega arith, ap₂ _&&_ (c .before .before .loop .inv .1) (c .guaranteed-at .ensures) ∙ holds-next _ _)
+loop-again c =
+    let l = c .before .before .before .before .before .before in
+    let a = l .before .before .before .before .args in
+    passed-more (a .n) (λ s. holds (guaranteed (a .n) (a .work .now) (a .own .g) (a .after .now) s)) _ _ _ _ _ _ (one c)
+    (c .before .before .guaranteed-at .ensures) (l .loop .inv)
 
 returns : tie.Need-returns Inv-loop μ-loop
-unfolding inSet
-returns c = c .before .loop .inv .1 ∙ each-done _ _ _ (c .before .loop .inv .0) (c .loop-test .left)
+returns c = let l = c .before .before in passed-search _ _ _ _ _ _ (c .if1 .left) (l .before .set-at .ensures) (l .loop .inv)
 
 pub store-in-guarantee-spec : {M : Type 1} → statement M
 store-in-guarantee-spec =
     tie.close
-    (tie.spec Inv-loop μ-loop loop-holds (λ c κs. search needs) (λ c. search needs) (λ c. search needs) loop-again returns)
+    (tie.spec Inv-loop μ-loop (λ c κs. search needs) loop-holds (λ c κs. search needs) (λ c κs. search needs) (λ c κs. search needs)
+    loop-less loop-again returns)
