@@ -93,7 +93,7 @@ pub fn leaves(n: u32, work: &[u64], own: Names, w: u32, falsity: StateSet) -> bo
     while rest.bits != 0 {
         let first = u64::trailing_zeros(rest.bits);
         held = held & leaves_at(n, work, own, w, p, falsity, first);
-        rest = rest.narrow(StateSet::single(first));
+        rest = rest.without_least();
     }
     held
 }
@@ -135,7 +135,7 @@ pub fn store_in_guarantee(n: u32, work: &[u64], own: Names, after: &[u64]) -> bo
     while rest.bits != 0 {
         let first = u64::trailing_zeros(rest.bits);
         held = held & guaranteed_at(n, work, own, after, first);
-        rest = rest.narrow(StateSet::single(first));
+        rest = rest.without_least();
     }
     held
 }

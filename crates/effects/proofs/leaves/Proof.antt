@@ -36,25 +36,23 @@ small c s e = let a = c .before .before .args in set-small (a .n) (a .work .now)
 loop-holds : tie.Need-loop-holds Inv-loop μ-loop
 loop-holds c = passed-none _ _ _ (λ s e. small c s e .1)
 
-one : (c : tie.After-narrow Inv-loop μ-loop) → let set = c .before .before .before .before .before .before .loop .rest in
-    Taken (has set) (has (c .narrow .result)) (trailingZeros 64 (set .bits))
-one c =
-    let d = c .before .before .before in
-    first-taken _ (d .struct-known2 .given .0 .fits) (d .before .if1 .taken) _ _ (c .before .single .ensures) (c .narrow .ensures)
+one : (c : tie.After-without-least Inv-loop μ-loop) → let set = c .before .before .before .before .before .loop .rest in
+    Taken (has set) (has (c .without-least .result)) (trailingZeros 64 (set .bits))
+one c = let d = c .before .before in first-taken _ (d .struct-known2 .given .0 .fits) (d .before .if1 .taken) _ (c .without-least .ensures)
 
 loop-less : tie.Need-loop-less Inv-loop μ-loop
 loop-less c =
-    let d = c .before .before .before in
+    let d = c .before .before in
     fewer _ _ _ (one c) 64 (first-below _ (d .struct-known2 .given .0 .fits) (d .before .if1 .taken))
 
 loop-again : tie.Need-loop-again Inv-loop μ-loop
 loop-again c =
-    let l = c .before .before .before .before .before .before in
+    let l = c .before .before .before .before .before in
     let a = l .before .before .before .args in
     let p = has (l .before .set-at .result) in
     let s = trailingZeros 64 (l .loop .rest .bits) in
     passed-more (a .n) (λ s. holds (exits (a .n) (a .work .now) (a .w) (a .own .q) p (has (a .falsity)) s)) _ _ _ _ _ _ (one c)
-    (c .before .before .leaves-at .ensures
+    (c .before .leaves-at .ensures
     ∙ small-within (a .n) _ _ (λ t h. small (l .before) t (and-right (eqb t s || wordRelation (a .n) (a .work .now) (a .w) s t) (p t) (and-left _ (has (a .falsity) t) h))))
     (l .loop .inv)
 
@@ -63,12 +61,12 @@ unfolding c56
 returns c =
     let l = c .before .before in
     let a = l .before .before .before .args in
-    passed-search _ _ _ _ _ _ (c .if1 .left) (l .before .set-at .ensures) (l .loop .inv)
+    passed-search _ _ _ _ _ _ (c .if1 .left) (λ s k. l .before .set-at .ensures s) (l .loop .inv)
     ∙ ap (λ p. holds (inSet (bare (a .n)) (wordSet (a .n) (a .work .now) (a .own .p)) (exits (a .n) (a .work .now) (a .w) (a .own .q) p (has (a .falsity)))))
     (fun-ext (l .before .set-at .ensures))
 
 pub leaves-spec : {M : Type 1} → statement M
 leaves-spec =
     tie.close
-    (tie.spec Inv-loop μ-loop (λ c κs. search needs) loop-holds (λ c κs. search needs) (λ c κs. search needs) (λ c κs. search needs)
+    (tie.spec Inv-loop μ-loop (λ c κs. search needs) loop-holds (λ c κs. search needs) (λ c κs. search needs)
     loop-less loop-again returns)

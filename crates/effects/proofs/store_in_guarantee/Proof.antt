@@ -31,29 +31,27 @@ loop-holds : tie.Need-loop-holds Inv-loop μ-loop
 loop-holds c =
     let a = c .before .before .before .args in passed-none _ _ _ (λ s e. set-small (a .n) (a .work .now) (a .own .p) s (sym (c .set-at .ensures s) ∙ e) .1)
 
-one : (c : tie.After-narrow Inv-loop μ-loop) → let set = c .before .before .before .before .before .before .loop .rest in
-    Taken (has set) (has (c .narrow .result)) (trailingZeros 64 (set .bits))
-one c =
-    let d = c .before .before .before in
-    first-taken _ (d .struct-known2 .given .0 .fits) (d .before .if1 .taken) _ _ (c .before .single .ensures) (c .narrow .ensures)
+one : (c : tie.After-without-least Inv-loop μ-loop) → let set = c .before .before .before .before .before .loop .rest in
+    Taken (has set) (has (c .without-least .result)) (trailingZeros 64 (set .bits))
+one c = let d = c .before .before in first-taken _ (d .struct-known2 .given .0 .fits) (d .before .if1 .taken) _ (c .without-least .ensures)
 
 loop-less : tie.Need-loop-less Inv-loop μ-loop
 loop-less c =
-    let d = c .before .before .before in
+    let d = c .before .before in
     fewer _ _ _ (one c) 64 (first-below _ (d .struct-known2 .given .0 .fits) (d .before .if1 .taken))
 
 loop-again : tie.Need-loop-again Inv-loop μ-loop
 loop-again c =
-    let l = c .before .before .before .before .before .before in
+    let l = c .before .before .before .before .before in
     let a = l .before .before .before .before .args in
     passed-more (a .n) (λ s. holds (guaranteed (a .n) (a .work .now) (a .own .g) (a .after .now) s)) _ _ _ _ _ _ (one c)
-    (c .before .before .guaranteed-at .ensures) (l .loop .inv)
+    (c .before .guaranteed-at .ensures) (l .loop .inv)
 
 returns : tie.Need-returns Inv-loop μ-loop
-returns c = let l = c .before .before in passed-search _ _ _ _ _ _ (c .if1 .left) (l .before .set-at .ensures) (l .loop .inv)
+returns c = let l = c .before .before in passed-search _ _ _ _ _ _ (c .if1 .left) (λ s k. l .before .set-at .ensures s) (l .loop .inv)
 
 pub store-in-guarantee-spec : {M : Type 1} → statement M
 store-in-guarantee-spec =
     tie.close
-    (tie.spec Inv-loop μ-loop (λ c κs. search needs) loop-holds (λ c κs. search needs) (λ c κs. search needs) (λ c κs. search needs)
+    (tie.spec Inv-loop μ-loop (λ c κs. search needs) loop-holds (λ c κs. search needs) (λ c κs. search needs)
     loop-less loop-again returns)
