@@ -65,7 +65,7 @@ module _ (set : StateSet) (fits : set .bits < 2 ^ 64) (some : set .bits ≡ 0 �
   none-less t l = mem-bit _ t ∙ ap (λ b. ltb t 64 && b) (low .2 t l) ∙ and-false (ltb t 64)
 
   -- It alone has no member below it.
-  pub first-taken : (left : StateSet) → ((s : ℕ) → has left s ≡ (has set s && any s (has set))) → Taken (has set) (has left) (trailingZeros 64 (set .bits))
+  first-taken : (left : StateSet) → ((s : ℕ) → has left s ≡ (has set s && any s (has set))) → Taken (has set) (has left) (trailingZeros 64 (set .bits))
   first-taken left above-one = record { there = first-in; rest = λ s. above-one s ∙ by s (true-or-false (has set s)) }
     where
       at : (first s : ℕ) → has set first ≡ true → ((t : ℕ) → t < first → has set t ≡ false) → has set s ≡ true
@@ -93,7 +93,7 @@ module _ (p q : ℕ → Bool) (k : ℕ) (one : Taken p q k) where
       at (inr h) = inr (one .rest s ∙ rw (e, h))
 
   -- The measure of a loop that takes the states out.
-  pub fewer : (n : ℕ) → k < n → count n q < count n p
+  fewer : (n : ℕ) → k < n → count n q < count n p
   fewer n l = count-more n q p kept k l gone (one .there)
 
   -- What a loop that joins what it finds at each keeps.
@@ -123,6 +123,16 @@ module _ (p q : ℕ → Bool) (k : ℕ) (one : Taken p q k) where
       back h =
           and-both _ _ (implies-at _ _ (all-at n _ h k l) (one .there))
           (all-intro n _ (λ s m. implies-intro _ _ (λ e. implies-at _ _ (all-at n _ h s m) (kept s e))))
+
+-- One turn of a loop that takes out the least: it is gone, and the members are fewer.
+pub record Turn (set left : StateSet) : Type 0 where
+  pub taken : Taken (has set) (has left) (trailingZeros 64 (set .bits))
+  pub less : count 64 (has left) < count 64 (has set)
+
+pub turn : (set left : StateSet) → set .bits < 2 ^ 64 → (set .bits ≡ 0 → ⊥) → ((s : ℕ) → has left s ≡ (has set s && any s (has set))) → Turn set left
+turn set left fits some above-one =
+    let one = first-taken set fits some left above-one in
+    record { taken = one; less = fewer _ _ _ one 64 (first-below set fits some) }
 
 -- The states of a set that are below n: those that a loop over them starts from.
 module _ (n : ℕ) (set from : StateSet) (start : (s : ℕ) → has from s ≡ (has set s && (ltb s 64 && ltb s n))) where

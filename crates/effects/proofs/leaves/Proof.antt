@@ -11,7 +11,7 @@ use Rattle.states.specs.Search.{Search, must, holds}
 use Rattle.states.specs.Sets.{has}
 use Rattle.states.proofs.Search.{and-left, and-right}
 use Rattle.states.proofs.Reach.{count}
-use Rattle.states.proofs.Members.{Taken, first-below, first-taken, fewer, Passed, passed-none, passed-more}
+use Rattle.states.proofs.Members.{Passed, passed-none, passed-more, Turn, turn}
 use Rattle.semantics.specs.Conditions.{inSet, c56}
 use Rattle.conditions.specs.Words.{bare, wordSet, wordRelation}
 use Rattle.conditions.proofs.Searches.{Small, small-within, passed-search}
@@ -36,14 +36,8 @@ small c s e = let a = c .before .before .args in set-small (a .n) (a .work .now)
 loop-holds : tie.Need-loop-holds Inv-loop μ-loop
 loop-holds c = passed-none _ _ _ (λ s e. small c s e .1)
 
-one : (c : tie.After-without-least Inv-loop μ-loop) → let set = c .before .before .before .before .before .loop .rest in
-    Taken (has set) (has (c .without-least .result)) (trailingZeros 64 (set .bits))
-one c = let d = c .before .before in first-taken _ (d .struct-known2 .given .0 .fits) (d .before .if1 .taken) _ (c .without-least .ensures)
-
-loop-less : tie.Need-loop-less Inv-loop μ-loop
-loop-less c =
-    let d = c .before .before in
-    fewer _ _ _ (one c) 64 (first-below _ (d .struct-known2 .given .0 .fits) (d .before .if1 .taken))
+one : (c : tie.After-without-least Inv-loop μ-loop) → Turn (c .before .before .before .before .before .loop .rest) (c .without-least .result)
+one c = let d = c .before .before in turn _ _ (d .struct-known2 .given .0 .fits) (d .before .if1 .taken) (c .without-least .ensures)
 
 loop-again : tie.Need-loop-again Inv-loop μ-loop
 loop-again c =
@@ -51,7 +45,7 @@ loop-again c =
     let a = l .before .before .before .args in
     let p = has (l .before .set-at .result) in
     let s = trailingZeros 64 (l .loop .rest .bits) in
-    passed-more (a .n) (λ s. holds (exits (a .n) (a .work .now) (a .w) (a .own .q) p (has (a .falsity)) s)) _ _ _ _ _ _ (one c)
+    passed-more (a .n) (λ s. holds (exits (a .n) (a .work .now) (a .w) (a .own .q) p (has (a .falsity)) s)) _ _ _ _ _ _ (one c .taken)
     (c .before .leaves-at .ensures
     ∙ small-within (a .n) _ _ (λ t h. small (l .before) t (and-right (eqb t s || wordRelation (a .n) (a .work .now) (a .w) s t) (p t) (and-left _ (has (a .falsity) t) h))))
     (l .loop .inv)
@@ -69,4 +63,4 @@ pub leaves-spec : {M : Type 1} → statement M
 leaves-spec =
     tie.close
     (tie.spec Inv-loop μ-loop (λ c κs. search needs) loop-holds (λ c κs. search needs) (λ c κs. search needs)
-    loop-less loop-again returns)
+    (λ c. one c .less) loop-again returns)

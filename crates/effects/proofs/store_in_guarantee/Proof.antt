@@ -3,14 +3,13 @@ use Prim.Native.Nat.{ℕ}
 use mathlib.Core.Path.{_∙_, sym}
 use mathlib.Core.Bool.{_||_}
 use mathlib.Core.List.{List}
-use lib.Count.{trailingZeros}
 use lib.Dec.{eqb}
 use borrow.Author.Needs.{needs}
 use Rattle.states.specs.Search.{Search, must, holds}
 use Rattle.states.specs.Sets.{has}
 use Rattle.states.specs.Relations.{rel}
 use Rattle.states.proofs.Reach.{count}
-use Rattle.states.proofs.Members.{Taken, first-below, first-taken, fewer, Passed, passed-none, passed-more}
+use Rattle.states.proofs.Members.{Passed, passed-none, passed-more, Turn, turn}
 use Rattle.semantics.specs.Conditions.{inSet}
 use Rattle.conditions.specs.Words.{bare, wordRelation}
 use Rattle.conditions.proofs.Searches.{passed-search}
@@ -31,20 +30,14 @@ loop-holds : tie.Need-loop-holds Inv-loop μ-loop
 loop-holds c =
     let a = c .before .before .before .args in passed-none _ _ _ (λ s e. set-small (a .n) (a .work .now) (a .own .p) s (sym (c .set-at .ensures s) ∙ e) .1)
 
-one : (c : tie.After-without-least Inv-loop μ-loop) → let set = c .before .before .before .before .before .loop .rest in
-    Taken (has set) (has (c .without-least .result)) (trailingZeros 64 (set .bits))
-one c = let d = c .before .before in first-taken _ (d .struct-known2 .given .0 .fits) (d .before .if1 .taken) _ (c .without-least .ensures)
-
-loop-less : tie.Need-loop-less Inv-loop μ-loop
-loop-less c =
-    let d = c .before .before in
-    fewer _ _ _ (one c) 64 (first-below _ (d .struct-known2 .given .0 .fits) (d .before .if1 .taken))
+one : (c : tie.After-without-least Inv-loop μ-loop) → Turn (c .before .before .before .before .before .loop .rest) (c .without-least .result)
+one c = let d = c .before .before in turn _ _ (d .struct-known2 .given .0 .fits) (d .before .if1 .taken) (c .without-least .ensures)
 
 loop-again : tie.Need-loop-again Inv-loop μ-loop
 loop-again c =
     let l = c .before .before .before .before .before in
     let a = l .before .before .before .before .args in
-    passed-more (a .n) (λ s. holds (guaranteed (a .n) (a .work .now) (a .own .g) (a .after .now) s)) _ _ _ _ _ _ (one c)
+    passed-more (a .n) (λ s. holds (guaranteed (a .n) (a .work .now) (a .own .g) (a .after .now) s)) _ _ _ _ _ _ (one c .taken)
     (c .before .guaranteed-at .ensures) (l .loop .inv)
 
 returns : tie.Need-returns Inv-loop μ-loop
@@ -54,4 +47,4 @@ pub store-in-guarantee-spec : {M : Type 1} → statement M
 store-in-guarantee-spec =
     tie.close
     (tie.spec Inv-loop μ-loop (λ c κs. search needs) loop-holds (λ c κs. search needs) (λ c κs. search needs)
-    loop-less loop-again returns)
+    (λ c. one c .less) loop-again returns)

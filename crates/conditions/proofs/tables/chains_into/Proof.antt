@@ -3,13 +3,12 @@
 use Prim.Native.Nat.{ℕ}
 use mathlib.Core.Path.{_≡_, _∙_, ap}
 use mathlib.Core.Bool.{_&&_}
-use lib.Count.{trailingZeros}
 use lib.Dec.{ltb}
 use borrow.Author.Needs.{needs}
 use Rattle.states.specs.Search.{must, holds}
 use Rattle.states.specs.Sets.{has}
 use Rattle.states.proofs.Reach.{count}
-use Rattle.states.proofs.Members.{Taken, first-below, first-taken, fewer, start-below, start-same, Passed, passed-none, passed-more}
+use Rattle.states.proofs.Members.{start-below, start-same, Passed, passed-none, passed-more, Turn, turn}
 use Rattle.semantics.specs.Conditions.{inSet}
 use Rattle.conditions.specs.Words.{bare, wordRelation}
 use Rattle.conditions.proofs.Searches.{passed-search}
@@ -29,20 +28,14 @@ start : (c : tie.After-meet Inv-loop μ-loop) → let a = c .before .before .bef
     (s : ℕ) → has (c .meet .result) s ≡ (has (a .from) s && (ltb s 64 && ltb s (a .n)))
 start c s = c .meet .ensures s ∙ ap (λ b. has (c .before .before .before .args .from) s && b) (c .before .below .ensures s)
 
-one : (c : tie.After-without-least Inv-loop μ-loop) → let set = c .before .before .before .before .before .loop .rest in
-    Taken (has set) (has (c .without-least .result)) (trailingZeros 64 (set .bits))
-one c = let d = c .before .before in first-taken _ (d .struct-known2 .given .0 .fits) (d .before .if1 .taken) _ (c .without-least .ensures)
+one : (c : tie.After-without-least Inv-loop μ-loop) → Turn (c .before .before .before .before .before .loop .rest) (c .without-least .result)
+one c = let d = c .before .before in turn _ _ (d .struct-known2 .given .0 .fits) (d .before .if1 .taken) (c .without-least .ensures)
 
 loop-holds : tie.Need-loop-holds Inv-loop μ-loop
 loop-holds c = passed-none _ _ _ (start-below _ (c .before .before .before .args .from) _ (start c))
 
-loop-less : tie.Need-loop-less Inv-loop μ-loop
-loop-less c =
-    let d = c .before .before in
-    fewer _ _ _ (one c) 64 (first-below _ (d .struct-known2 .given .0 .fits) (d .before .if1 .taken))
-
 loop-again : tie.Need-loop-again Inv-loop μ-loop
-loop-again c = passed-more _ _ _ _ _ _ _ _ (one c) (c .before .row-chains-into .ensures) (c .before .before .before .before .before .loop .inv)
+loop-again c = passed-more _ _ _ _ _ _ _ _ (one c .taken) (c .before .row-chains-into .ensures) (c .before .before .before .before .before .loop .inv)
 
 returns : tie.Need-returns Inv-loop μ-loop
 returns c =
@@ -58,6 +51,6 @@ chains-into-spec =
     (λ c κs. search needs) (λ c κs. search needs)
     loop-holds
     (λ c κs. search needs) (λ c κs. search needs)
-    loop-less
+    (λ c. one c .less)
     loop-again
     returns)

@@ -4,12 +4,12 @@ use native.Mathlib.Omega.{arith}
 use mathlib.Core.Path.{_≡_, _∙_, ap}
 use mathlib.Core.Bool.{_&&_, _||_}
 use mathlib.Core.List.{[], _∷_}
-use lib.Count.{trailingZeros, trailing-le}
+use lib.Count.{trailing-le}
 use borrow.Author.Needs.{needs}
 use lib.Dec.{ltb}
 use Rattle.states.specs.Sets.{mem, has}
 use Rattle.states.proofs.Reach.{count}
-use Rattle.states.proofs.Members.{first-below, first-taken, fewer, Taken, start-below, Gathered, gathered-none, gathered-more, gathered-all}
+use Rattle.states.proofs.Members.{start-below, Gathered, gathered-none, gathered-more, gathered-all, Turn, turn}
 use Rattle.states.proofs.relations.image.Statement.{statement}
 use Rattle.states.proofs.relations.image.Tie as tie
 
@@ -24,9 +24,8 @@ start : (c : tie.After-meet Inv-loop μ-loop) → let a = c .before .before .bef
     (s : ℕ) → has (c .meet .result) s ≡ (has (a .set) s && (ltb s 64 && ltb s (a .n)))
 start c s = c .meet .ensures s ∙ ap (λ b. has (c .before .before .before .args .set) s && b) (c .before .below .ensures s)
 
-one : (c : tie.After-without-least Inv-loop μ-loop) → let set = c .before .before .before .before .before .before .loop .rest in
-    Taken (has set) (has (c .without-least .result)) (trailingZeros 64 (set .bits))
-one c = let d = c .before .before .before in first-taken _ (d .struct-known2 .given .0 .fits) (d .before .if1 .taken) _ (c .without-least .ensures)
+one : (c : tie.After-without-least Inv-loop μ-loop) → Turn (c .before .before .before .before .before .before .loop .rest) (c .without-least .result)
+one c = let d = c .before .before .before in turn _ _ (d .struct-known2 .given .0 .fits) (d .before .if1 .taken) (c .without-least .ensures)
 
 loop-holds : tie.Need-loop-holds Inv-loop μ-loop
 loop-holds c = gathered-none _ _ _ _ (start-below _ (c .before .before .before .before .args .set) _ (start (c .before))) (c .empty .ensures)
@@ -34,16 +33,11 @@ loop-holds c = gathered-none _ _ _ _ (start-below _ (c .before .before .before .
 cast-word : tie.Need-cast-word Inv-loop μ-loop
 cast-word c = record { fits = omega (arith, trailing-le 64 (c .before .before .before .loop .rest .bits)) }
 
-loop-less : tie.Need-loop-less Inv-loop μ-loop
-loop-less c =
-    let d = c .before .before .before in
-    fewer _ _ _ (one c) 64 (first-below _ (d .struct-known2 .given .0 .fits) (d .before .if1 .taken))
-
 loop-again : tie.Need-loop-again Inv-loop μ-loop
 unfolding has
 loop-again c =
     let l = c .before .before .before .before .before .before .loop in
-    gathered-more _ _ _ _ _ _ _ _ (one c)
+    gathered-more _ _ _ _ _ _ _ _ (one c .taken)
     (λ t. c .before .join .ensures t ∙ ap (λ w. has (l .ends) t || mem (w ∷ []) t) (c .before .before .word .ensures)) (l .inv)
 
 returns : tie.Need-returns Inv-loop μ-loop
@@ -62,7 +56,7 @@ image-spec =
     loop-holds
     cast-word
     (λ c κs. search needs) (λ c κs. search needs) (λ c κs. search needs)
-    loop-less
+    (λ c. one c .less)
     loop-again
     (λ c κs. search needs)
     returns)
