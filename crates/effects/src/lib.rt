@@ -177,7 +177,7 @@ fn with_variable(mask: u32, v: u32, one: bool) -> u32
 }
 
 // The mask of the variables that R moves, over the states that the file declares. Only the states of P that start a pair matter:
-// mostly there are none, and then no variable is looked at.
+// where there are none, as with an idle R, no variable is looked at.
 pub fn moved(src: &[u8], work: &[u64], own: Names) -> u32
     ensures { λ out.
         ⌜ ((v : ℕ) → inMask out v ≡ moves (machineHere (now (src .entry)))
