@@ -3,6 +3,7 @@ pub mod Demand
 pub mod Faults
 pub mod Loaded
 pub mod Standing
+pub mod Meeting
 pub mod Walking
 pub mod Stages
 pub mod Judging

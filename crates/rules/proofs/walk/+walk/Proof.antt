@@ -17,7 +17,8 @@ use Rattle.handler.proofs.reading.stmt_end.Reads as stmt-end-reads
 use Rattle.handler.specs.Shapes.{partAt}
 use Rattle.rules.specs.Walks.{Met, firstAt}
 use Rattle.rules.proofs.Standing.{Found, found}
-use Rattle.rules.proofs.Walking.{Seen, more-levels, no-fault, own-there, breach, low-rule, leaf, first-stands, first-node, stops, ends, second-node, second-stands, goes-on}
+use Rattle.rules.proofs.Meeting.{more-levels, no-fault, own-there, breach}
+use Rattle.rules.proofs.Walking.{Seen, low-rule, leaf, first-stands, first-node, stops, ends, second-node, second-stands, goes-on}
 use Rattle.rules.proofs.walk.walk.Reads as walk
 use Rattle.rules.proofs.walk.walk.Kinds as walk-kinds
 use Rattle.rules.proofs.walk.+walk.Lts-walk as lts
