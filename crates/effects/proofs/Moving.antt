@@ -35,9 +35,14 @@ use Rattle.states.specs.declared.StateSet.{StateSet}
 use Rattle.states.proofs.Words.{mem-nought}
 use Rattle.states.proofs.Members.{Passed}
 use Rattle.states.proofs.Rows.{mem-below}
-use Rattle.effects.specs.Places.{machineHere, exprRead, movedFrom}
+use Rattle.effects.specs.Places.{machineHere, exprRead}
 use Rattle.effects.proofs.Places.{states-here}
 use Rattle.effects.proofs.Rows.{any-itself}
+
+-- Whether s is in P and R leads from it to a state that differs in variable v.
+unfoldable pub movedFrom : List ℕ → ℕ → List ℕ → Names → ℕ → ℕ → Bool
+movedFrom bytes n work own v s =
+    wordSet n work (own .p) s && any n (λ t. wordRelation n work (own .r) s t && not (agreeAt bytes v s t))
 
 -- 41, 45 and 50 by any property of variables that says what R moves.
 module _ (m : Machine) (c : Spec) (p : ℕ → Bool) (same : (v : ℕ) → p v ≡ moves m c v) (e : Expr) where
@@ -104,11 +109,6 @@ pub passed-not : (n : ℕ) (f : ℕ → Bool) (from rest : StateSet) (g : ℕ �
     → all n (λ s. implies (has rest s && g s) (f s)) ≡ false → all n (λ s. implies (has from s) (f s)) ≡ false
 passed-not n f from rest g old fails =
     not-true-false _ (λ e. true≢false (sym (part-within n (has rest) g f (old .same ∙ e)) ∙ fails))
-
--- A set met with the states below n has those of its members.
-pub below-itself : (set : StateSet) (n s : ℕ) → s < n → (has set s && (ltb s 64 && ltb s n)) ≡ has set s
-unfolding has
-below-itself set n s l = bool-ext _ _ (and-left (has set s) _) (λ h. and-both _ _ h (and-both _ _ (lt-ltb s 64 (mem-below _ s h)) (lt-ltb s n l)))
 
 -- A set whose word is 0 has no member with any property.
 pub none-start : (n : ℕ) (set : StateSet) (f : ℕ → Bool) → set .bits ≡ 0 → any n (λ s. has set s && f s) ≡ false

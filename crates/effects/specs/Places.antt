@@ -1,12 +1,11 @@
 -- What stands in a handler file, total: the variables that its head declares, the expression at a cursor, and where a store of
 -- it leads.
 use Prim.Native.Nat.{ℕ}
-use mathlib.Core.Bool.{Bool, false, not, _&&_}
+use mathlib.Core.Bool.{Bool, false, _&&_}
 use mathlib.Core.List.{List}
 use mathlib.Core.Option.{Option, none, some}
 use lib.Dec.{ltb, eqb}
 use lib.IntN.{pos}
-use Rattle.states.specs.Search.{any}
 use Rattle.semantics.specs.Language.{Expr, lit, op, int}
 use Rattle.semantics.specs.States.{Machine, machineOf}
 use Rattle.semantics.specs.Conditions.{afterStore}
@@ -14,9 +13,7 @@ use Rattle.expressions.specs.declared.Header.{Header}
 use Rattle.expressions.specs.declared.Header.the-variants.{Sizes, Fault}
 use Rattle.expressions.specs.Header.{headerAt, sizesOf}
 use Rattle.expressions.specs.Expressions.{ExprRead, good, bad, wholeExpr}
-use Rattle.values.specs.Values.{agreeAt}
-use Rattle.conditions.specs.declared.Names.{Names}
-use Rattle.conditions.specs.Words.{bare, wordSet, wordRelation}
+use Rattle.conditions.specs.Words.{bare}
 
 -- No state where the head is faulty.
 abbrev pub machineUnder : List ℕ → Header → Machine
@@ -50,8 +47,3 @@ leadsTo (some s′) t = eqb s′ t
 unfoldable pub afterHere : List ℕ → ℕ → ℕ → ℕ → ℕ → Bool
 afterHere bytes v at s t =
     ltb s (machineHere bytes .states) && leadsTo (afterStore (machineHere bytes) v (exprHere bytes at) s) t
-
--- Whether s is in P and R leads from it to a state that differs in variable v.
-unfoldable pub movedFrom : List ℕ → ℕ → List ℕ → Names → ℕ → ℕ → Bool
-movedFrom bytes n work own v s =
-    wordSet n work (own .p) s && any n (λ t. wordRelation n work (own .r) s t && not (agreeAt bytes v s t))

@@ -14,8 +14,7 @@ use Rattle.expressions.specs.Header.{headerAt}
 use Rattle.expressions.specs.Shapes.{inMask}
 use Rattle.expressions.proofs.Heads.{head-read}
 use Rattle.values.specs.Values.{agreeAt}
-use Rattle.effects.specs.Places.{movedFrom}
-use Rattle.effects.proofs.Moving.{mask-moves, mask-none, moves-none, none-start, starts-moved}
+use Rattle.effects.proofs.Moving.{movedFrom, mask-moves, mask-none, moves-none, none-start, starts-moved}
 use Rattle.effects.proofs.moved.Statement.{statement}
 use Rattle.effects.proofs.moved.Tie as tie
 

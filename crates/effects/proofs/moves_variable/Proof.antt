@@ -12,12 +12,12 @@ use Rattle.states.specs.Search.{implies, all, any}
 use Rattle.states.specs.Sets.{has}
 use Rattle.states.proofs.Search.{and-left, and-right, and-both, or-right, any-cong}
 use Rattle.states.proofs.Reach.{count, count-more}
-use Rattle.states.proofs.Members.{first-below, first-in, Passed, passed-none, passed-part, passed-all}
+use Rattle.states.proofs.Members.{first-below, first-in, start-below, start-same, Passed, passed-none, passed-part, passed-all}
 use Rattle.values.specs.Values.{agreeAt, agreeIn}
 use Rattle.values.proofs.Laws.{agree-variable}
 use Rattle.conditions.specs.Words.{wordRelation}
 use Rattle.conditions.proofs.Words.{leads-cong}
-use Rattle.effects.proofs.Moving.{alike, alike-within, not-kept, passed-not, below-itself}
+use Rattle.effects.proofs.Moving.{alike, alike-within, not-kept, passed-not}
 use Rattle.effects.proofs.moves_variable.Statement.{statement}
 use Rattle.effects.proofs.moves_variable.Tie as tie
 
@@ -66,7 +66,7 @@ start c s = c .meet .ensures s ∙ ap (λ b. has (c .before .before .before .bef
 
 loop-holds : tie.Need-loop-holds Inv-loop μ-loop
 loop-holds c =
-    passed-none _ _ _ (λ s e. ltb-true s _ (and-right (ltb s 64) _ (and-right (has (c .before .before .before .before .before .args .from) s) _ (sym (start c s) ∙ e))))
+    passed-none _ _ _ (start-below _ (c .before .before .before .before .before .args .from) _ (start c))
 
 loop-less : tie.Need-loop-less Inv-loop μ-loop
 loop-less c =
@@ -94,7 +94,7 @@ moved c b e =
     let a = c .before .before .before .before .before .args in
     ap not e ∙ not-kept (a .n) _ _ _
     ∙ any-cong (a .n) _ _ (λ s l. ap (λ x. x && any (a .n) (λ t. wordRelation (a .n) (a .work .now) (a .r) s t && not (agreeAt (a .src .now) (a .v) s t)))
-    (start c s ∙ below-itself (a .from) (a .n) s l))
+    (start-same (a .n) (a .from) _ (start c) s l))
 
 returns : tie.Need-returns Inv-loop μ-loop
 returns c =
