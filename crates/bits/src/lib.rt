@@ -2,7 +2,7 @@
 // cursor and width, and assumes nothing of its host.
 ghost use mathlib.Core.Path.{_≡_};
 ghost use Prim.Native.Nat.{_+_, _*_, _^_, _≤_, _<_};
-ghost use Rattle.bits.specs.Fields.{bitLength, bitAt, bitsAt, isThere, fieldAt, furtherByte, fillAt};
+ghost use Rattle.bits.specs.Fields.{bitLength, bitAt, bitsAt, isThere, fieldAt, numberAt, furtherByte, fillAt};
 
 // The largest cursor.
 const LAST: usize = 18446744073709551615;
@@ -82,6 +82,17 @@ fn gather(src: &[u8], at: usize, width: usize) -> u64
     let left = width - done;
     let last = byte_at(src, at + done) >> (8 - left);
     (value << left) + last
+}
+
+// The number that `width` bits from a cursor on write, those past the end 0; 0 where they are more than 64 or no cursor can stand
+// behind them.
+pub fn number_at(src: &[u8], at: usize, width: usize) -> u64
+    ensures { λ r. ⌜ r ≡ numberAt (now (src .entry)) at width ⌝ }
+{
+    if width > 64 || width > LAST - at {
+        return 0;
+    }
+    gather(src, at, width)
 }
 
 // The field of `width` bits at a cursor, with the next cursor, or that it is missing.

@@ -32,19 +32,6 @@ fn eight_bytes(src: &[u8], i: usize) -> u64
     high * 4294967296 + low
 }
 
-// The 64 bits from a cursor on, a byte at a time; those past the end are 0.
-fn bits_near_end(src: &[u8], at: usize) -> u64
-    requires { ⌜ at ≤ 70666 ⌝ }
-    ensures { λ r. ⌜ r ≡ bitsAt (now (src .entry)) at 64 ⌝ }
-{
-    let mut value = 0;
-    for k in 0..8 {
-        let next = bits::byte_at(src, at + 8 * k);
-        value = value * 256 + next;
-    }
-    value
-}
-
 // The 64 bits from a cursor on, the first of them the most significant; those past the end are 0.
 pub(crate) fn bits_from(src: &[u8], at: usize) -> u64
     requires { ⌜ at ≤ 70666 ⌝ }
@@ -55,5 +42,5 @@ pub(crate) fn bits_from(src: &[u8], at: usize) -> u64
         let high = eight_bytes(src, i) << (at % 8);
         return high + (src[i + 8] as u64 >> (8 - at % 8));
     }
-    bits_near_end(src, at)
+    bits::number_at(src, at, 64)
 }

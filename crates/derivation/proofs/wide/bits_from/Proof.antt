@@ -1,7 +1,9 @@
 -- The 64 bits lie within nine bytes, where the file has them.
-use Prim.Native.Nat.{_+_, _/_}
+use Prim.Native.Nat.{_+_, _/_, _^_}
 use native.Mathlib.Omega.{arith}
 use borrow.Author.Needs.{needs}
+use borrow.Author.Tests.{lt-ltb}
+use Rattle.bits.specs.Fields.{numberAt}
 use Rattle.bits.proofs.Laws.{bits-fit}
 use Rattle.bits.proofs.Bytes.{byte-bits}
 use Rattle.derivation.proofs.Windows.{wide-window}
@@ -23,6 +25,11 @@ add-result-2 c =
     let a = c .before .before .before .before .args in
     omega (arith, returns c, bits-fit (a .src .now) (a .at) 64 (omega arith))
 
+-- Near the end the reader's own loop serves.
+returns-2 : tie.Need-returns-2
+unfolding numberAt
+returns-2 c = rw (lt-ltb (c .before .before .before .args .at + 64) (2 ^ 64) (omega arith)) at (c .number-at .ensures)
+
 pub bits-from-spec : {M : Type 1} → statement M
 bits-from-spec =
     tie.close
@@ -33,4 +40,4 @@ bits-from-spec =
     add-result-2
     returns
     (λ c κs. search needs)
-    (λ c. search needs))
+    returns-2)
