@@ -1,6 +1,6 @@
 -- The states of a set one by one, the least first: the lowest set bit of a word is a member, and with it taken out the members are
 -- one fewer.
-use Prim.Native.Nat.{ℕ, zero, suc, _/_, _%_, _*_, _^_, _<_, suc-le-suc}
+use Prim.Native.Nat.{ℕ, zero, suc, _/_, _%_, _*_, _^_, _<_, _≤_, suc-le-suc}
 use native.Mathlib.Nat.{pow-suc, zero-lt-suc, le-of-suc-le-suc, not-suc-le-zero}
 use native.Mathlib.Decide.{decLt}
 use native.Mathlib.Omega.{arith}
@@ -8,7 +8,7 @@ use mathlib.Core.Path.{_≡_, refl, sym, ap, _∙_}
 use mathlib.Core.Logic.{_⊎_, ⊎-elim, inl, inr}
 use mathlib.Core.Bool.{Bool, true, false, not, _&&_, _||_, and-false, and-true, and-assoc, or-false, or-assoc, true≢false}
 use mathlib.Core.List.{List, [], _∷_}
-use lib.ListN.{getD}
+use lib.ListN.{getD, length}
 use lib.Dec.{ltb, eqb}
 use lib.Count.{trailingZeros, under}
 use borrow.Author.Tests.{eqb-true, eq-eqb, ne-eqb, lt-ltb, ltb-true}
@@ -18,7 +18,7 @@ use Rattle.states.specs.Sets.{mem, has}
 use Rattle.states.specs.Relations.{rel}
 use Rattle.states.proofs.Search.{and-left, and-right, and-both, or-left, or-right, or-cases, implies-intro, implies-at, bool-ext, true-or-false, all-intro, all-at, all-cong, all-and, any-intro, any-true, any-cong, any-none}
 use Rattle.states.proofs.Words.{bit, bit-zero, bit-suc, mem-bit, mem-nought}
-use Rattle.states.proofs.Rows.{mem-below, rel-row}
+use Rattle.states.proofs.Rows.{mem-below, rel-row, row-long}
 use Rattle.states.proofs.Reach.{count, count-more}
 
 -- The lowest set digit of a number of d digits that is not 0 is one of the d, it is 1, and those below it are 0.
@@ -202,20 +202,36 @@ module _ (n : ℕ) (rows : List ℕ) (from : StateSet) where
         ∙ old .same t;
   }
 
-  pub gathered-all : (set rest ends found : StateSet) → rest .bits ≡ 0 → Gathered n rows from rest ends
-      → ((s : ℕ) → has from s ≡ (has set s && (ltb s 64 && ltb s n))) → ((t : ℕ) → has found t ≡ (has ends t && (ltb t 64 && ltb t n)))
-      → (t : ℕ) → has found t ≡ any n (λ s. has set s && rel n rows s t)
+-- Where the states of a set that have one of the k rows were all taken out, the rows are those of the set.
+module _ (n k : ℕ) (rows : List ℕ) (set from : StateSet) (most : k ≤ n) (enough : (s : ℕ) → s < 64 → s < n → s < length rows → s < k)
+    (start : (s : ℕ) → has from s ≡ (has set s && (ltb s 64 && ltb s k))) where
+  pub gathered-all : (rest ends found : StateSet) → rest .bits ≡ 0 → Gathered k rows from rest ends
+      → ((t : ℕ) → has found t ≡ (has ends t && (ltb t 64 && ltb t n))) → (t : ℕ) → has found t ≡ any n (λ s. has set s && rel n rows s t)
   unfolding has
-  gathered-all set rest ends found e done start masked t =
-      masked t ∙ ap (λ b. b && (ltb t 64 && ltb t n)) (ends-are ∙ any-cong n _ _ (λ s l. ap (λ b. b && mem (getD rows s 0 ∷ []) t) (start-same n set from start s l)))
-      ∙ any-and n _ _ ∙ any-cong n _ _ (λ s l. and-assoc (has set s) (mem (getD rows s 0 ∷ []) t) (ltb t 64 && ltb t n) ∙ ap (λ b. has set s && b) (rel-row n rows s t l))
+  gathered-all rest ends found e done masked t =
+      masked t ∙ ap (λ b. b && (ltb t 64 && ltb t n)) ends-are ∙ any-and k _ _
+      ∙ any-cong k _ _ (λ s l. and-assoc (has from s) (mem (getD rows s 0 ∷ []) t) (ltb t 64 && ltb t n) ∙ ap (λ b. has from s && b) (rel-row n rows s t (omega arith)))
+      ∙ bool-ext _ _ (λ h. there (any-true k _ h)) (λ h. back (any-true n _ h))
     where
-      none-left : any n (λ s. has rest s && mem (getD rows s 0 ∷ []) t) ≡ false
-      none-left = any-none n _ (λ s l. rw (e, mem-nought s))
+      none-left : any k (λ s. has rest s && mem (getD rows s 0 ∷ []) t) ≡ false
+      none-left = any-none k _ (λ s l. rw (e, mem-nought s))
 
-      ends-are : has ends t ≡ any n (λ s. has from s && mem (getD rows s 0 ∷ []) t)
+      ends-are : has ends t ≡ any k (λ s. has from s && mem (getD rows s 0 ∷ []) t)
       ends-are = sym (or-false (has ends t)) ∙ ap (λ b. has ends t || b) (sym none-left) ∙ done .same t
 
       any-and : (k : ℕ) (p : ℕ → Bool) (b : Bool) → (any k p && b) ≡ any k (λ s. p s && b)
       any-and k p true = and-true (any k p) ∙ any-cong k _ _ (λ s l. sym (and-true (p s)))
       any-and k p false = and-false (any k p) ∙ sym (any-none k _ (λ s l. and-false (p s)))
+
+      there : (s : ℕ) × (s < k) × ((has from s && rel n rows s t) ≡ true) → any n (λ s. has set s && rel n rows s t) ≡ true
+      there w =
+          let in-set = and-left (has set (w .0)) _ (sym (start (w .0)) ∙ and-left (has from (w .0)) _ (w .2)) in
+          any-intro n _ (w .0) (omega (arith, w .1)) (and-both _ _ in-set (and-right (has from (w .0)) _ (w .2)))
+
+      back : (s : ℕ) × (s < n) × ((has set s && rel n rows s t) ≡ true) → any k (λ s. has from s && rel n rows s t) ≡ true
+      back w =
+          let in-set = and-left (has set (w .0)) _ (w .2) in
+          let pair = and-right (has set (w .0)) _ (w .2) in
+          let small = mem-below _ (w .0) in-set in
+          let low = enough (w .0) small (w .1) (row-long n rows (w .0) t pair) in
+          any-intro k _ (w .0) low (and-both _ _ (start (w .0) ∙ and-both _ _ in-set (and-both _ _ (lt-ltb (w .0) 64 small) (lt-ltb (w .0) k low))) pair)

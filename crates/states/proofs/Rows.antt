@@ -64,7 +64,7 @@ row-any n rows s =
     at k below w = any-intro k _ (w .0) (below (w .0) (w .2)) (w .2)
 
 -- A state that starts a pair has its row there.
-row-long : (n : ℕ) (rows : List ℕ) (t u : ℕ) → rel n rows t u ≡ true → t < length rows
+pub row-long : (n : ℕ) (rows : List ℕ) (t u : ℕ) → rel n rows t u ≡ true → t < length rows
 row-long n rows t u h = by (decLt t (length rows))
   where
     by : Dec (t < length rows) → t < length rows

@@ -29,23 +29,6 @@ pub fn row(n: u32, rows: &[u64], s: u32) -> StateSet
     }
 }
 
-// The ends of the pairs that start in the set. Its states are taken out one by one, the least first; the rows are joined as they
-// are, and what is not below n goes once at the end.
-pub fn image(n: u32, set: StateSet, rows: &[u64]) -> StateSet
-    ensures { λ r. ⌜ ((t : ℕ) → has r t ≡ any n (λ s. has set s && rel n (now (rows .entry)) s t)) ⌝ }
-{
-    let states = StateSet::below(n);
-    let mut rest = set.meet(states);
-    let mut ends = StateSet::empty();
-    while rest.bits != 0 {
-        let first = u64::trailing_zeros(rest.bits);
-        let bits = word(rows, first as usize);
-        ends = ends.join(StateSet { bits });
-        rest = rest.without_least();
-    }
-    ends.meet(states)
-}
-
 // How many of n states have a row in 64 rows.
 fn rows_held(n: u32) -> u32
     ensures { λ r. ⌜ (r ≤ 64) × ((s : ℕ) → s < 64 → s < n → s < r) × (r ≤ n) ⌝ }
@@ -64,6 +47,23 @@ fn rows_there(n: u32, rows: &[u64]) -> u32
     } else {
         rows.len() as u32
     }
+}
+
+// The ends of the pairs that start in the set. Its states that have a row are taken out one by one, the least first; the rows are
+// joined as they are, and what is not below n goes once at the end.
+pub fn image(n: u32, set: StateSet, rows: &[u64]) -> StateSet
+    ensures { λ r. ⌜ ((t : ℕ) → has r t ≡ any n (λ s. has set s && rel n (now (rows .entry)) s t)) ⌝ }
+{
+    let there = rows_there(n, rows);
+    let mut rest = set.meet(StateSet::below(there));
+    let mut ends = StateSet::empty();
+    while rest.bits != 0 {
+        let first = u64::trailing_zeros(rest.bits);
+        let bits = rows[first as usize];
+        ends = ends.join(StateSet { bits });
+        rest = rest.without_least();
+    }
+    ends.meet(StateSet::below(n))
 }
 
 // The states found so far, with s where its row is not empty.

@@ -1,50 +1,54 @@
--- The rows of the states taken out, with those of the states that are left, are the rows of the set's states below n. `any-taken` takes one out.
+-- The rows of the states taken out, with those of the states that are left, are the rows of the set's states that have one. `turn` takes one out.
 use Prim.Native.Nat.{ℕ}
 use native.Mathlib.Omega.{arith}
 use mathlib.Core.Path.{_≡_, _∙_, ap}
 use mathlib.Core.Bool.{_&&_, _||_}
 use mathlib.Core.List.{[], _∷_}
 use lib.Count.{trailing-le}
-use borrow.Author.Needs.{needs}
 use lib.Dec.{ltb}
+use borrow.Author.Needs.{needs}
 use Rattle.states.specs.Sets.{mem, has}
 use Rattle.states.proofs.Reach.{count}
-use Rattle.states.proofs.Members.{start-below, Gathered, gathered-none, gathered-more, gathered-all, Turn, turn}
+use Rattle.states.proofs.Members.{first-in, start-below, Turn, turn, Gathered, gathered-none, gathered-more, gathered-all}
 use Rattle.states.proofs.relations.image.Statement.{statement}
 use Rattle.states.proofs.relations.image.Tie as tie
 
 abbrev Inv-loop : tie.InvT-loop
-Inv-loop n rows states rest₀ ends₀ rest ends = Gathered n rows rest₀ rest ends
+Inv-loop n rows there rest₀ ends₀ rest ends = Gathered there rows rest₀ rest ends
 
 abbrev μ-loop : tie.MeasureT-loop
-μ-loop n rows states rest₀ ends₀ rest ends = count 64 (has rest)
+μ-loop n rows there rest₀ ends₀ rest ends = count 64 (has rest)
 
 -- The states to take out, and one taken out.
-start : (c : tie.After-meet Inv-loop μ-loop) → let a = c .before .before .before .args in
-    (s : ℕ) → has (c .meet .result) s ≡ (has (a .set) s && (ltb s 64 && ltb s (a .n)))
-start c s = c .meet .ensures s ∙ ap (λ b. has (c .before .before .before .args .set) s && b) (c .before .below .ensures s)
+start : (c : tie.After-meet Inv-loop μ-loop) → let a = c .before .before .before .before .args in
+    (s : ℕ) → has (c .meet .result) s ≡ (has (a .set) s && (ltb s 64 && ltb s (c .before .before .rows-there .result)))
+start c s = c .meet .ensures s ∙ ap (λ b. has (c .before .before .before .before .args .set) s && b) (c .before .below .ensures s)
+
+loop-holds : tie.Need-loop-holds Inv-loop μ-loop
+loop-holds c = gathered-none _ _ _ _ (start-below _ (c .before .before .before .before .before .args .set) _ (start (c .before))) (c .empty .ensures)
 
 one : (c : tie.After-without-least Inv-loop μ-loop) → Turn (c .before .before .before .before .before .before .loop .rest) (c .without-least .result)
 one c = let d = c .before .before .before in turn _ _ (d .struct-known2 .given .0 .fits) (d .before .if1 .taken) (c .without-least .ensures)
 
-loop-holds : tie.Need-loop-holds Inv-loop μ-loop
-loop-holds c = gathered-none _ _ _ _ (start-below _ (c .before .before .before .before .args .set) _ (start (c .before))) (c .empty .ensures)
-
-cast-word : tie.Need-cast-word Inv-loop μ-loop
-cast-word c = record { fits = omega (arith, trailing-le 64 (c .before .before .before .loop .rest .bits)) }
+-- A state that is left has a row.
+read : tie.Need-shared-slice-read-bits Inv-loop μ-loop
+read c =
+    let d = c .before in
+    let l = d .before .before .before in
+    omega (arith, l .loop .inv .low _ (first-in _ (d .struct-known2 .given .0 .fits) (d .before .if1 .taken)), l .before .before .before .before .rows-there .ensures)
 
 loop-again : tie.Need-loop-again Inv-loop μ-loop
 unfolding has
 loop-again c =
-    let l = c .before .before .before .before .before .before .loop in
-    gathered-more _ _ _ _ _ _ _ _ (one c .taken)
-    (λ t. c .before .join .ensures t ∙ ap (λ w. has (l .ends) t || mem (w ∷ []) t) (c .before .before .word .ensures)) (l .inv)
+    let l = c .before .before .before .before .before .before in
+    gathered-more _ _ _ _ _ _ _ _ (one c .taken) (c .before .join .ensures) (l .loop .inv)
 
 returns : tie.Need-returns Inv-loop μ-loop
 returns c t =
-    let d = c .before .before .before in
-    gathered-all _ _ _ _ _ _ _ (c .before .if1 .left) (d .loop .inv) (start (d .before .before))
-    (λ t. c .meet2 .ensures t ∙ ap (λ b. has (d .loop .ends) t && b) (d .before .before .before .below .ensures t)) t
+    let l = c .before .before .before .before in
+    let there = l .before .before .before .before .rows-there .ensures in
+    gathered-all _ _ _ _ _ (there .0) (there .2) (start (l .before .before)) _ _ _ (c .before .before .if1 .left) (l .loop .inv)
+    (λ t. c .meet2 .ensures t ∙ ap (λ b. has (l .loop .ends) t && b) (c .before .below2 .ensures t)) t
 
 pub image-spec : {M : Type 1} → statement M
 image-spec =
@@ -52,11 +56,13 @@ image-spec =
     (tie.spec
     Inv-loop
     μ-loop
-    (λ c κs. search needs) (λ c κs. search needs) (λ c κs. search needs)
+    (λ c κs. search needs) (λ c κs. search needs) (λ c κs. search needs) (λ c κs. search needs)
     loop-holds
-    cast-word
-    (λ c κs. search needs) (λ c κs. search needs) (λ c κs. search needs)
+    (λ c. record { fits = omega (arith, trailing-le 64 (c .before .before .before .loop .rest .bits)) })
+    (λ c. record { fits = omega (arith, trailing-le 64 (c .before .before .before .loop .rest .bits)) })
+    read
+    (λ c κs. search needs) (λ c κs. search needs)
     (λ c. one c .less)
     loop-again
-    (λ c κs. search needs)
+    (λ c κs. search needs) (λ c κs. search needs)
     returns)
