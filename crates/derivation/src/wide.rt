@@ -12,24 +12,16 @@ fn two_bytes(src: &[u8], i: usize) -> u64
     src[i] as u64 * 256 + src[i + 1] as u64
 }
 
-// The 32 bits of the 4 bytes from byte i on.
-fn four_bytes(src: &[u8], i: usize) -> u64
-    requires { ⌜ i + 4 ≤ length (now src) ⌝ }
-    ensures { λ r. ⌜ r ≡ bitsAt (now (src .entry)) (8 * i) 32 ⌝ }
-{
-    let high = two_bytes(src, i);
-    let low = two_bytes(src, i + 2);
-    high * 65536 + low
-}
-
 // The 64 bits of the 8 bytes from byte i on.
 fn eight_bytes(src: &[u8], i: usize) -> u64
     requires { ⌜ i + 8 ≤ length (now src) ⌝ }
     ensures { λ r. ⌜ r ≡ bitsAt (now (src .entry)) (8 * i) 64 ⌝ }
 {
-    let high = four_bytes(src, i);
-    let low = four_bytes(src, i + 4);
-    high * 4294967296 + low
+    let first = two_bytes(src, i);
+    let second = two_bytes(src, i + 2);
+    let third = two_bytes(src, i + 4);
+    let fourth = two_bytes(src, i + 6);
+    ((first * 65536 + second) * 65536 + third) * 65536 + fourth
 }
 
 // The 64 bits from a cursor on, the first of them the most significant; those past the end are 0.

@@ -1,27 +1,30 @@
--- The two halves touch.
+-- The four pairs of bytes touch, and no number of at most 64 bits is too large.
 use Prim.Native.Nat.{_+_, _*_, _^_, _<_}
 use native.Mathlib.Omega.{arith}
 use borrow.Author.Needs.{needs}
-use Rattle.bits.proofs.Laws.{bits-fit}
+use Rattle.bits.proofs.Laws.{bits-below}
 use Rattle.derivation.proofs.Windows.{bytes-join}
 use Rattle.derivation.proofs.wide.eight_bytes.Statement.{statement}
 use Rattle.derivation.proofs.wide.eight_bytes.Tie as tie
 
 returns : tie.Need-returns
 returns c =
-    let a = c .before .before .before .args in
-    omega (arith, bytes-join (a .src .now) (a .i) 4 32)
+    let a = c .before .before .before .before .before .args in
+    omega (arith, bytes-join (a .src .now) (a .i) 2 16, bytes-join (a .src .now) (a .i) 4 16, bytes-join (a .src .now) (a .i) 6 16)
 
-room : (c : tie.After-four-bytes2) → c .before .four-bytes .result * 4294967296 + c .four-bytes2 .result < 2 ^ 64
+-- Each pair is below 2 ^ 16.
+room : (c : tie.After-two-bytes4) → let third = c .before in let second = third .before in let first = second .before in
+    (first .two-bytes .result < 2 ^ 16) × (second .two-bytes2 .result < 2 ^ 16) × (third .two-bytes3 .result < 2 ^ 16) × (c .two-bytes4 .result < 2 ^ 16)
 room c =
-    let a = c .before .before .before .args in
-    omega (arith, returns c, bits-fit (a .src .now) (8 * a .i) 64 (omega arith))
+    let a = c .before .before .before .before .before .args in
+    (omega (arith, bits-below (a .src .now) (8 * a .i) 16), omega (arith, bits-below (a .src .now) (8 * (a .i + 2)) 16), omega (arith, bits-below (a .src .now) (8 * (a .i + 4)) 16), omega (arith, bits-below (a .src .now) (8 * (a .i + 6)) 16))
 
 pub eight-bytes-spec : {M : Type 1} → statement M
 eight-bytes-spec =
     tie.close
     (tie.spec
-    (λ c κs. search needs) (λ c. search needs) (λ c κs. search needs)
-    (λ c. omega (arith, room c))
-    (λ c. omega (arith, room c))
+    (λ c κs. search needs) (λ c. search needs) (λ c κs. search needs) (λ c. search needs) (λ c κs. search needs) (λ c. search needs)
+    (λ c κs. search needs)
+    (λ c. omega (arith, room c)) (λ c. omega (arith, room c)) (λ c. omega (arith, room c)) (λ c. omega (arith, room c))
+    (λ c. omega (arith, room c)) (λ c. omega (arith, room c))
     returns)
