@@ -109,7 +109,9 @@ parted s at w k v next least more e =
     let small = bits-below s (at + w) k in
     let v-is = t .value ∙ bits-join s at w k in
     let end = t .moved ∙ sym (add-assoc at w k) in
-    (rw (v-is, digits-div (bitsAt s at w) small) (found s at w least (omega (arith, t)) (omega (arith, t)) (omega (arith, t))), rw (v-is, digits-mod (bitsAt s at w) small, end) (found s (at + w) k more (omega (arith, t)) (omega (arith, t)) (omega (arith, t))))
+    let first = found s at w least (omega (arith, t)) (omega (arith, t)) (omega (arith, t)) in
+    let second = found s (at + w) k more (omega (arith, t)) (omega (arith, t)) (omega (arith, t)) in
+    (rw (v-is, digits-div (bitsAt s at w) small) first, rw (v-is, digits-mod (bitsAt s at w) small, end) second)
 
 -- Where cursors reach the end of the file, a field of 1 to 64 bits is missing only by running past it.
 pub runs-past : (s : List ℕ) (at w : ℕ) → 1 ≤ w → w ≤ 64 → 8 * length s < 2 ^ 64 → fieldAt s at w ≡ Missing → 8 * length s < at + w

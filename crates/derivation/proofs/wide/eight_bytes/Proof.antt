@@ -16,8 +16,12 @@ returns c =
 room : (c : tie.After-two-bytes4) → let third = c .before in let second = third .before in let first = second .before in
     (first .two-bytes .result < 2 ^ 16) × (second .two-bytes2 .result < 2 ^ 16) × (third .two-bytes3 .result < 2 ^ 16) × (c .two-bytes4 .result < 2 ^ 16)
 room c =
-    let a = c .before .before .before .before .before .args in
-    (omega (arith, bits-below (a .src .now) (8 * a .i) 16), omega (arith, bits-below (a .src .now) (8 * (a .i + 2)) 16), omega (arith, bits-below (a .src .now) (8 * (a .i + 4)) 16), omega (arith, bits-below (a .src .now) (8 * (a .i + 6)) 16))
+    let a = c .before .before .before .before .before .args in (
+      omega (arith, bits-below (a .src .now) (8 * a .i) 16),
+      omega (arith, bits-below (a .src .now) (8 * (a .i + 2)) 16),
+      omega (arith, bits-below (a .src .now) (8 * (a .i + 4)) 16),
+      omega (arith, bits-below (a .src .now) (8 * (a .i + 6)) 16),
+    )
 
 pub eight-bytes-spec : {M : Type 1} → statement M
 eight-bytes-spec =

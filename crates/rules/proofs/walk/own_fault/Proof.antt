@@ -71,14 +71,16 @@ returns-4 c at stmt m =
     let two = c .before .before in
     let one = two .before .before .before .before .before in
     c .sequence-fault .ensures
-    ∙ sequence-owes _ _ _ _ _ _ _ _ _ (site (one .before .before .before .before) at stmt m) _ _ (first-child one) (second-child two) (one .before .before .before .if1 .left) (one .before .before .if2 .left) (two .before .before .before .before .if3 .taken) (c .before .if4 .taken)
+    ∙ sequence-owes _ _ _ _ _ _ _ _ _ (site (one .before .before .before .before) at stmt m) _ _ (first-child one) (second-child two)
+    (one .before .before .before .if1 .left) (one .before .before .if2 .left) (two .before .before .before .before .if3 .taken) (c .before .if4 .taken)
 
 returns-5 : tie.Need-returns-5
 returns-5 c at stmt m =
     let two = c .before .before in
     let one = two .before .before .before .before .before in
     c .parallel-fault .ensures
-    ∙ parallel-owes _ _ _ _ _ _ _ _ _ (site (one .before .before .before .before) at stmt m) _ _ (first-child one) (second-child two) (one .before .before .before .if1 .left) (one .before .before .if2 .left) (two .before .before .before .before .if3 .taken) (c .before .if4 .left)
+    ∙ parallel-owes _ _ _ _ _ _ _ _ _ (site (one .before .before .before .before) at stmt m) _ _ (first-child one) (second-child two)
+    (one .before .before .before .if1 .left) (one .before .before .if2 .left) (two .before .before .before .before .if3 .taken) (c .before .if4 .left)
 
 returns-6 : tie.Need-returns-6
 returns-6 c at stmt m =
@@ -98,4 +100,21 @@ returns-8 c at stmt m =
 pub own-fault-spec : {M : Type 1} → statement M
 own-fault-spec =
     tie.close
-    (tie.spec (λ c κs. search needs) (λ c. search needs) (λ c. search needs) returns (λ c κs. search needs) (λ c κs. search needs) (λ c κs. search needs) returns-2 (λ c κs. search needs) (λ c κs. search needs) returns-3 (λ c κs. search needs) (λ c κs. search needs) (λ c κs. search needs) (λ c κs. search needs) (λ c κs. search needs) (λ c κs. search needs) (λ c κs. search needs) returns-4 (λ c κs. search needs) returns-5 (λ c κs. search needs) returns-6 (λ c κs. search needs) returns-7 (λ c κs. search needs) returns-8)
+    (tie.spec
+    (λ c κs. search needs) (λ c. search needs) (λ c. search needs)
+    returns
+    (λ c κs. search needs) (λ c κs. search needs) (λ c κs. search needs)
+    returns-2
+    (λ c κs. search needs) (λ c κs. search needs)
+    returns-3
+    (λ c κs. search needs) (λ c κs. search needs) (λ c κs. search needs) (λ c κs. search needs) (λ c κs. search needs)
+    (λ c κs. search needs) (λ c κs. search needs)
+    returns-4
+    (λ c κs. search needs)
+    returns-5
+    (λ c κs. search needs)
+    returns-6
+    (λ c κs. search needs)
+    returns-7
+    (λ c κs. search needs)
+    returns-8)
