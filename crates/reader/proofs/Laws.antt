@@ -1,7 +1,7 @@
 -- Document 01's sentence on the reader, as two laws of its definitions: what is there is given and passed, and nothing else is.
 use Prim.Native.Nat.{ℕ, _+_, _*_, _^_, _≤_, _<_}
 use mathlib.Core.Bool.{Bool, true, false}
-use mathlib.Core.Path.{_≡_, refl}
+use mathlib.Core.Path.{_≡_, refl, ap}
 use lib.ListN.{length}
 use denote.Ref.{now}
 use Rattle.bits.specs.Fields.{bitsAt, isThere, fieldAt}
@@ -18,7 +18,7 @@ pub gives-and-moves : (r : Reader) (w : ℕ) → Within r w → (answerOf r w �
 unfolding fieldOf movedTo
 gives-and-moves r w (least, most, inside, fits) =
     let e = found (now (r .file)) (r .at) w least most inside fits in
-    (rw e, rw e)
+    (ap fieldOf e, ap (λ f. record { file = r .file; at = movedTo (r .at) f }) e)
 
 pub gives-none-and-stays : (r : Reader) (w : ℕ) → (Within r w → ⊥) → (answerOf r w ≡ None) × (movedOn r w ≡ r)
 unfolding fieldOf movedTo fieldAt
