@@ -14,8 +14,7 @@ use Rattle.states.specs.Sets.{has}
 use Rattle.states.specs.declared.StateSet.{StateSet}
 use Rattle.states.proofs.Words.{mem-nought}
 use Rattle.states.proofs.Members.{Passed, passed-all}
-use Rattle.semantics.specs.Conditions.{inSet, sameSet, sameRelation, liesIn}
-use Rattle.conditions.specs.Words.{bare}
+use Rattle.semantics.specs.Conditions.{inSet, sameSet, sameRelation, setLiesIn, relationLiesIn}
 
 -- The step and the end of a loop that counts the states up.
 pub holds-next : (s : ℕ) (f : ℕ → Search) → (holds (each s f) && holds (f s)) ≡ holds (each (s + 1) f)
@@ -37,23 +36,23 @@ all-bounds j k p low =
 
 -- A search through the members of a set.
 module _ (n : ℕ) (p : ℕ → Bool) (f : ℕ → Search) where
-  pub holds-inSet : holds (inSet (bare n) p f) ≡ all n (λ s. implies (p s) (holds (f s)))
+  pub holds-inSet : holds (inSet n p f) ≡ all n (λ s. implies (p s) (holds (f s)))
   unfolding inSet
   holds-inSet = holds-each _ _ ∙ all-cong _ _ _ (λ s l. holds-given (p s) (f s))
 
-  pub inSet-intro : ((s : ℕ) → s < n → p s ≡ true → holds (f s) ≡ true) → holds (inSet (bare n) p f) ≡ true
+  pub inSet-intro : ((s : ℕ) → s < n → p s ≡ true → holds (f s) ≡ true) → holds (inSet n p f) ≡ true
   inSet-intro h = holds-inSet ∙ all-intro n _ (λ s l. implies-intro _ _ (h s l))
 
-  pub inSet-at : holds (inSet (bare n) p f) ≡ true → (s : ℕ) → s < n → p s ≡ true → holds (f s) ≡ true
+  pub inSet-at : holds (inSet n p f) ≡ true → (s : ℕ) → s < n → p s ≡ true → holds (f s) ≡ true
   inSet-at h s l = implies-at _ _ (all-at n _ (sym holds-inSet ∙ h) s l)
 
 pub inSet-same : (n : ℕ) (p q : ℕ → Bool) (f g : ℕ → Search) → ((s : ℕ) → p s ≡ q s) → ((s : ℕ) → holds (f s) ≡ holds (g s))
-    → holds (inSet (bare n) p f) ≡ holds (inSet (bare n) q g)
+    → holds (inSet n p f) ≡ holds (inSet n q g)
 inSet-same n p q f g members each = holds-inSet n p f ∙ all-cong n _ _ (λ s l. ap₂ implies (members s) (each s)) ∙ sym (holds-inSet n q g)
 
 -- The end of a loop over the members of a set: each was asked.
 pub passed-search : (n : ℕ) (f : ℕ → Search) (p : ℕ → Bool) (from rest : StateSet) (held : Bool) → rest .bits ≡ 0 → ((s : ℕ) → s < n → has from s ≡ p s)
-    → Passed n (λ s. holds (f s)) from rest held → held ≡ holds (inSet (bare n) p f)
+    → Passed n (λ s. holds (f s)) from rest held → held ≡ holds (inSet n p f)
 passed-search n f p from rest held e members done =
     passed-all n _ from rest held e done ∙ all-cong n _ _ (λ s l. ap (λ b. implies b (holds (f s))) (members s l)) ∙ sym (holds-inSet n p f)
 
@@ -61,28 +60,28 @@ passed-search n f p from rest held e members done =
 abbrev pub Small : ℕ → (ℕ → Bool) → Type 0
 Small n p = (t : ℕ) → p t ≡ true → (t < 64) × (t < n)
 
-pub within : (n : ℕ) (p q : ℕ → Bool) → all n (λ t. implies (p t) (q t)) ≡ holds (inSet (bare n) p (λ t. must (q t)))
+pub within : (n : ℕ) (p q : ℕ → Bool) → all n (λ t. implies (p t) (q t)) ≡ holds (inSet n p (λ t. must (q t)))
 within n p q = sym (holds-inSet n p _ ∙ all-cong n _ _ (λ t l. ap (implies (p t)) (holds-must (q t))))
 
 -- A relation lies in itself and is the same as itself.
-pub lies-in-itself : (n : ℕ) (r : ℕ → ℕ → Bool) → holds (liesIn (bare n) r r) ≡ true
-unfolding liesIn
-lies-in-itself n r = holds-each n _ ∙ all-intro n _ (λ s l. inSet-intro n (r s) _ (λ t k e. holds-must (r s t) ∙ e))
+pub lies-in-itself : (n : ℕ) (r : ℕ → ℕ → Bool) → relationLiesIn n r r ≡ true
+unfolding relationLiesIn setLiesIn
+lies-in-itself n r = all-intro n _ (λ s l. all-intro n _ (λ t k. implies-intro _ _ (λ e. e)))
 
-pub same-as-itself : (n : ℕ) (r : ℕ → ℕ → Bool) → sameRelation (bare n) r r ≡ true
+pub same-as-itself : (n : ℕ) (r : ℕ → ℕ → Bool) → sameRelation n r r ≡ true
 unfolding sameRelation sameSet
 same-as-itself n r = all-intro n _ (λ s l. all-intro n _ (λ t k. beq-refl (r s t)))
 
 -- Ends of pairs that start in a set, each in another set.
 pub ends-within : (n : ℕ) (p : ℕ → Bool) (r : ℕ → ℕ → Bool) (q : ℕ → Bool)
-    → all n (λ t. implies (any n (λ s. p s && r s t)) (q t)) ≡ holds (inSet (bare n) p (λ s. inSet (bare n) (r s) (λ t. must (q t))))
+    → all n (λ t. implies (any n (λ s. p s && r s t)) (q t)) ≡ holds (inSet n p (λ s. inSet n (r s) (λ t. must (q t))))
 ends-within n p r q =
     bool-ext _ _
     (λ h. inSet-intro n p _ (λ s l ps. sym (within n (r s) q) ∙ all-intro n _ (λ t k. implies-intro _ _ (λ st.
     implies-at _ _ (all-at n _ h t k) (any-intro n _ s l (and-both _ _ ps st))))))
     (λ h. all-intro n _ (λ t k. implies-intro _ _ (λ e. from h t k (any-true n _ e))))
   where
-    from : holds (inSet (bare n) p (λ s. inSet (bare n) (r s) (λ t. must (q t)))) ≡ true → (t : ℕ) → t < n
+    from : holds (inSet n p (λ s. inSet n (r s) (λ t. must (q t)))) ≡ true → (t : ℕ) → t < n
         → (s : ℕ) × (s < n) × ((p s && r s t) ≡ true) → q t ≡ true
     from h t k w =
         let ps = and-left (p (w .0)) _ (w .2) in
@@ -91,18 +90,18 @@ ends-within n p r q =
 
 -- Of a set those members will do at which a search may find something.
 pub inSet-part : (n : ℕ) (p d : ℕ → Bool) (f : ℕ → Search) → ((s : ℕ) → p s ≡ true → d s ≡ false → holds (f s) ≡ true)
-    → holds (inSet (bare n) (λ s. p s && d s) f) ≡ holds (inSet (bare n) p f)
+    → holds (inSet n (λ s. p s && d s) f) ≡ holds (inSet n p f)
 inSet-part n p d f clear =
     bool-ext _ _ (λ h. inSet-intro n p f (λ s l e. at h s l e (true-or-false (d s))))
     (λ h. inSet-intro n _ f (λ s l e. inSet-at n p f h s l (and-left (p s) _ e)))
   where
-    at : holds (inSet (bare n) (λ s. p s && d s) f) ≡ true → (s : ℕ) → s < n → p s ≡ true → (d s ≡ true) ⊎ (d s ≡ false) → holds (f s) ≡ true
+    at : holds (inSet n (λ s. p s && d s) f) ≡ true → (s : ℕ) → s < n → p s ≡ true → (d s ≡ true) ⊎ (d s ≡ false) → holds (f s) ≡ true
     at h s l e (inl i) = inSet-at n _ f h s l (and-both _ _ e i)
     at h s l e (inr o) = clear s e o
 
 -- Where a search goes on by pairs, those members will do that start a pair; and where none does, it finds nothing.
 pub inSet-starting : (n : ℕ) (p d : ℕ → Bool) (r : ℕ → ℕ → Bool) (f : ℕ → ℕ → Search) → Small n p → ((s : ℕ) → d s ≡ (ltb s 64 && any n (r s)))
-    → holds (inSet (bare n) (λ s. p s && d s) (λ s. inSet (bare n) (r s) (f s))) ≡ holds (inSet (bare n) p (λ s. inSet (bare n) (r s) (f s)))
+    → holds (inSet n (λ s. p s && d s) (λ s. inSet n (r s) (f s))) ≡ holds (inSet n p (λ s. inSet n (r s) (f s)))
 inSet-starting n p d r f small starts =
     inSet-part n p d _ (λ s at out. inSet-intro n (r s) _ (λ t l e. absurd (true≢false (sym e ∙ any-at n (r s) (none s at out) t l))))
   where
@@ -110,7 +109,7 @@ inSet-starting n p d r f small starts =
     none s at out = rw (lt-ltb s 64 (small s at .0)) at (sym (starts s) ∙ out)
 
 pub inSet-none : (n : ℕ) (p : ℕ → Bool) (d : StateSet) (r : ℕ → ℕ → Bool) (f : ℕ → ℕ → Search) → Small n p
-    → ((s : ℕ) → has d s ≡ (ltb s 64 && any n (r s))) → d .bits ≡ 0 → holds (inSet (bare n) p (λ s. inSet (bare n) (r s) (f s))) ≡ true
+    → ((s : ℕ) → has d s ≡ (ltb s 64 && any n (r s))) → d .bits ≡ 0 → holds (inSet n p (λ s. inSet n (r s) (f s))) ≡ true
 unfolding has
 inSet-none n p d r f small starts e =
     sym (inSet-starting n p (has d) r f small starts) ∙ inSet-intro n _ _ (λ s l h. absurd (true≢false (sym (and-right (p s) _ h) ∙ rw e (mem-nought s))))
@@ -118,7 +117,7 @@ inSet-none n p d r f small starts e =
 -- Where a set holds all n states every pair ends in it.
 pub full-within : (n : ℕ) (p : ℕ → Bool) (r : ℕ → ℕ → Bool) (q : ℕ → Bool) → ((s : ℕ) → Small n (r s))
     → all 64 (λ t. implies (ltb t 64 && ltb t n) (q t)) ≡ true
-    → holds (inSet (bare n) p (λ s. inSet (bare n) (r s) (λ t. must (q t)))) ≡ true
+    → holds (inSet n p (λ s. inSet n (r s) (λ t. must (q t)))) ≡ true
 full-within n p r q small full =
     inSet-intro n p _ (λ s l ps. inSet-intro n (r s) _ (λ t k st. holds-must (q t) ∙ implies-at _ _ (all-at 64 _ full t (small s t st .0))
     (and-both _ _ (lt-ltb t 64 (small s t st .0)) (lt-ltb t n k))))
@@ -128,7 +127,7 @@ pub small-all : (n : ℕ) (p q : ℕ → Bool) → Small n p → all 64 (λ t. i
 small-all n p q small = all-bounds 64 n _ (λ t e. small t (implies-false (p t) (q t) e .0))
 
 pub small-within : (n : ℕ) (p q : ℕ → Bool) → Small n p
-    → all 64 (λ t. implies (p t) (q t)) ≡ holds (inSet (bare n) p (λ t. must (q t)))
+    → all 64 (λ t. implies (p t) (q t)) ≡ holds (inSet n p (λ t. must (q t)))
 small-within n p q small = small-all n p q small ∙ within n p q
 
 -- A part of a set is within what the whole set is within.
@@ -150,7 +149,7 @@ given-cong true x y h = h refl
 given-cong false x y h = refl
 
 pub inSet-and : (n : ℕ) (p q : ℕ → Bool) (f : ℕ → Search)
-    → inSet (bare n) (λ s. p s && q s) f ≡ inSet (bare n) p (λ s. given (q s) (f s))
+    → inSet n (λ s. p s && q s) f ≡ inSet n p (λ s. given (q s) (f s))
 unfolding inSet given
 inSet-and n p q f = each-cong n _ _ (λ s l. nested (p s) (q s) (f s))
   where

@@ -14,7 +14,7 @@ use Rattle.states.proofs.Search.{and-left, and-right, and-both, or-cases, bool-
 use Rattle.states.proofs.Rows.{rel-between, rel-mem, mem-below}
 use Rattle.states.proofs.Reach.{reach-exact}
 use Rattle.semantics.specs.Conditions.{inSet, sameSet}
-use Rattle.conditions.specs.Words.{bare, wordSet, wordRelation}
+use Rattle.conditions.specs.Words.{wordSet, wordRelation}
 use Rattle.conditions.proofs.Searches.{Small, all-bounds, inSet-same, inSet-part}
 
 -- A word masked to the n states.
@@ -40,25 +40,25 @@ ends-small n p rows t h = let w = any-true n _ h in rel-small n rows (w .0) t (a
 
 -- Sets told by their members.
 pub leads-cong : (n : ℕ) (r : ℕ → ℕ → Bool) (x y : StateSet) (p q : ℕ → Bool) → ((s : ℕ) → has x s ≡ p s) → ((s : ℕ) → has y s ≡ q s)
-    → holds (inSet (bare n) (has x) (λ s. inSet (bare n) (r s) (λ t. must (has y t)))) ≡ holds (inSet (bare n) p (λ s. inSet (bare n) (r s) (λ t. must (q t))))
-leads-cong n r x y p q from into = ap₂ (λ p q. holds (inSet (bare n) p (λ s. inSet (bare n) (r s) (λ t. must (q t))))) (fun-ext from) (fun-ext into)
+    → holds (inSet n (has x) (λ s. inSet n (r s) (λ t. must (has y t)))) ≡ holds (inSet n p (λ s. inSet n (r s) (λ t. must (q t))))
+leads-cong n r x y p q from into = ap₂ (λ p q. holds (inSet n p (λ s. inSet n (r s) (λ t. must (q t))))) (fun-ext from) (fun-ext into)
 
 -- A search that goes through any of the n states goes by every pair.
 pub all-through : (n : ℕ) (work : List ℕ) (a : ℕ) (f : ℕ → ℕ → Search) (x states : StateSet) (p : ℕ → Bool) → ((s : ℕ) → has x s ≡ p s)
     → ((t : ℕ) → has states t ≡ (ltb t 64 && ltb t n))
-    → holds (inSet (bare n) (has x) (λ s. inSet (bare n) (λ t. wordRelation n work a s t && has states t) (f s)))
-    ≡ holds (inSet (bare n) p (λ s. inSet (bare n) (wordRelation n work a s) (f s)))
+    → holds (inSet n (has x) (λ s. inSet n (λ t. wordRelation n work a s t && has states t) (f s)))
+    ≡ holds (inSet n p (λ s. inSet n (wordRelation n work a s) (f s)))
 all-through n work a f x states p from all =
     inSet-same n _ p _ _ from (λ s. inSet-part n _ _ _ (λ t st out.
     let low = relation-small n work a s t st in absurd (true≢false (sym (all t ∙ and-both _ _ (lt-ltb t 64 (low .0)) (lt-ltb t n (low .1))) ∙ out))))
 
 pub same-cong : (n : ℕ) (x y : StateSet) (p q : ℕ → Bool) → ((s : ℕ) → has x s ≡ p s) → ((s : ℕ) → has y s ≡ q s)
-    → sameSet (bare n) (has x) (has y) ≡ sameSet (bare n) p q
-same-cong n x y p q left right = ap₂ (sameSet (bare n)) (fun-ext left) (fun-ext right)
+    → sameSet n (has x) (has y) ≡ sameSet n p q
+same-cong n x y p q left right = ap₂ (sameSet n) (fun-ext left) (fun-ext right)
 
 -- Two words masked to the n states are the same where they have the same of these.
 pub same-masked : (n : ℕ) (x y : StateSet)
-    → all 64 (λ s. Bool·beq (has x s && (ltb s 64 && ltb s n)) (has y s && (ltb s 64 && ltb s n))) ≡ sameSet (bare n) (has x) (has y)
+    → all 64 (λ s. Bool·beq (has x s && (ltb s 64 && ltb s n)) (has y s && (ltb s 64 && ltb s n))) ≡ sameSet n (has x) (has y)
 unfolding has sameSet
 same-masked n x y =
     all-cong 64 _ _ (λ s l. ap₂ Bool·beq (masked (x .bits) n s) (masked (y .bits) n s))

@@ -2,19 +2,12 @@
 use Prim.Native.Nat.{ℕ, _+_, _*_}
 use mathlib.Core.Bool.{Bool, _&&_}
 use mathlib.Core.List.{List, [], _∷_}
-use mathlib.Core.Option.{none}
 use lib.ListN.{getD, drop}
 use lib.Dec.{ltb}
-use lib.IntN.{pos}
 use Rattle.states.specs.Sets.{mem}
 use Rattle.states.specs.Relations.{rel}
-use Rattle.semantics.specs.States.{Machine}
 use Rattle.semantics.specs.Derivations.{Spec}
 use Rattle.conditions.specs.declared.Names.{Names}
-
--- N states, for the conditions that look at tables alone and at no variable.
-abbrev pub bare : ℕ → Machine
-bare n = record { states = n; get = λ s v. pos 0; store = λ s v z. none }
 
 -- Set i and relation r over n states.
 unfoldable pub wordSet : ℕ → List ℕ → ℕ → ℕ → Bool

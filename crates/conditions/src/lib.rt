@@ -22,9 +22,8 @@ ghost use lib.Dec.{ltb, eqb};
 ghost use Rattle.states.specs.Search.{must, given, holds};
 ghost use Rattle.states.specs.Sets.{has};
 ghost use Rattle.states.specs.Relations.{rel, reach as reachOf};
-ghost use Rattle.semantics.specs.Derivations.{Spec};
 ghost use Rattle.semantics.specs.Conditions.{inSet, c31, c32, c33, c34if, c34while, c34sequence, c34parallel, c35, c51, c53, c55, c60, c61, c65, c66, c70, c71, c72, c73};
-ghost use Rattle.conditions.specs.Words.{bare, wordSet, wordRelation, wordSpec};
+ghost use Rattle.conditions.specs.Words.{wordSet, wordRelation, wordSpec};
 
 pub mod tables;
 
@@ -46,9 +45,9 @@ pub struct Kept {
 // 31: s in P, (s,t) in R: t in P. 32: s in P, (s,t) in R, (t,u) in Q: (s,u) in Q. 33: s in P, (s,t) in Q, (t,u) in R: (s,u) in Q.
 // Every rule asks the three, so the states that start a pair of R are found once; where none does, others do nothing.
 pub fn steady(n: u32, work: &[u64], own: Names) -> Kept
-    ensures stable { λ out. ⌜ out .stable ≡ holds (c31 (bare n) (wordSpec n (now (work .entry)) own)) ⌝ }
-    ensures back { λ out. ⌜ out .back ≡ holds (c32 (bare n) (wordSpec n (now (work .entry)) own)) ⌝ }
-    ensures on { λ out. ⌜ out .on ≡ holds (c33 (bare n) (wordSpec n (now (work .entry)) own)) ⌝ }
+    ensures stable { λ out. ⌜ out .stable ≡ holds (c31 n (wordSpec n (now (work .entry)) own)) ⌝ }
+    ensures back { λ out. ⌜ out .back ≡ holds (c32 n (wordSpec n (now (work .entry)) own)) ⌝ }
+    ensures on { λ out. ⌜ out .on ≡ holds (c33 n (wordSpec n (now (work .entry)) own)) ⌝ }
 {
     let starts = starting(n, rows_of(work, own.r));
     if starts.bits == 0 {
@@ -71,7 +70,7 @@ pub fn steady(n: u32, work: &[u64], own: Names) -> Kept
 // 34, if: P and the test true; same R, G, Q. The states where the test is true are given.
 pub fn if_tables(n: u32, work: &[u64], own: Names, truth: StateSet, child: Names) -> bool
     ensures { λ out.
-        ⌜ out ≡ holds (c34if (bare n) (wordSpec n (now (work .entry)) own) (has truth) (wordSpec n (now (work .entry)) child)) ⌝ }
+        ⌜ out ≡ holds (c34if n (wordSpec n (now (work .entry)) own) (has truth) (wordSpec n (now (work .entry)) child)) ⌝ }
 {
     same_set(
         n,
@@ -86,7 +85,7 @@ pub fn if_tables(n: u32, work: &[u64], own: Names, truth: StateSet, child: Names
 // 34, while: P met with K; same R, G; Q the pairs of W that end in P.
 pub fn while_tables(n: u32, work: &[u64], own: Names, k: u32, w: u32, child: Names) -> bool
     ensures { λ out.
-        ⌜ out ≡ holds (c34while (bare n) (wordSpec n (now (work .entry)) own) (wordSet n (now (work .entry)) k)
+        ⌜ out ≡ holds (c34while n (wordSpec n (now (work .entry)) own) (wordSet n (now (work .entry)) k)
         (wordRelation n (now (work .entry)) w) (wordSpec n (now (work .entry)) child)) ⌝ }
 {
     same_set(
@@ -102,7 +101,7 @@ pub fn while_tables(n: u32, work: &[u64], own: Names, k: u32, w: u32, child: Nam
 // 34, sequence: left has the same P, R, G, right the same R, G.
 pub fn sequence_tables(n: u32, work: &[u64], own: Names, left: Names, right: Names) -> bool
     ensures { λ out.
-        ⌜ out ≡ holds (c34sequence (bare n) (wordSpec n (now (work .entry)) own) (wordSpec n (now (work .entry)) left)
+        ⌜ out ≡ holds (c34sequence n (wordSpec n (now (work .entry)) own) (wordSpec n (now (work .entry)) left)
         (wordSpec n (now (work .entry)) right)) ⌝ }
 {
     same_set(n, set_at(n, work, left.p), set_at(n, work, own.p))
@@ -115,7 +114,7 @@ pub fn sequence_tables(n: u32, work: &[u64], own: Names, left: Names, right: Nam
 // 34, parallel: both P; left's R is R joined with right's G, right's R is R joined with left's G.
 pub fn parallel_tables(n: u32, work: &[u64], own: Names, left: Names, right: Names) -> bool
     ensures { λ out.
-        ⌜ out ≡ holds (c34parallel (bare n) (wordSpec n (now (work .entry)) own) (wordSpec n (now (work .entry)) left)
+        ⌜ out ≡ holds (c34parallel n (wordSpec n (now (work .entry)) own) (wordSpec n (now (work .entry)) left)
         (wordSpec n (now (work .entry)) right)) ⌝ }
 {
     let p = set_at(n, work, own.p);
@@ -127,7 +126,7 @@ pub fn parallel_tables(n: u32, work: &[u64], own: Names, left: Names, right: Nam
 
 // Skip 35: s in P: (s,s) in Q.
 pub fn reflexive(n: u32, work: &[u64], own: Names) -> bool
-    ensures { λ out. ⌜ out ≡ holds (c35 (bare n) (wordSpec n (now (work .entry)) own)) ⌝ }
+    ensures { λ out. ⌜ out ≡ holds (c35 n (wordSpec n (now (work .entry)) own)) ⌝ }
 {
     stays(n, work, set_at(n, work, own.p), own.q)
 }
@@ -135,8 +134,8 @@ pub fn reflexive(n: u32, work: &[u64], own: Names) -> bool
 fn descends_at(n: u32, work: &[u64], w: u32, s: u32) -> bool
     ensures { λ out.
         ⌜ out ≡ (holds (must (not (wordRelation n (now (work .entry)) w s s)))
-        && holds (inSet (bare n) (wordRelation n (now (work .entry)) w s)
-        (λ t. inSet (bare n) (wordRelation n (now (work .entry)) w t) (λ u. must (wordRelation n (now (work .entry)) w s u))))) ⌝ }
+        && holds (inSet n (wordRelation n (now (work .entry)) w s)
+        (λ t. inSet n (wordRelation n (now (work .entry)) w t) (λ u. must (wordRelation n (now (work .entry)) w s u))))) ⌝ }
 {
     let ends = row_at(n, work, w, s);
     if ends.holds_state(s) {
@@ -148,7 +147,7 @@ fn descends_at(n: u32, work: &[u64], w: u32, s: u32) -> bool
 
 // 51: W is transitive and has no (s,s).
 pub fn strict_order(n: u32, work: &[u64], w: u32) -> bool
-    ensures { λ out. ⌜ ((own : Spec) → out ≡ holds (c51 (bare n) own (wordRelation n (now (work .entry)) w))) ⌝ }
+    ensures { λ out. ⌜ out ≡ holds (c51 n (wordRelation n (now (work .entry)) w)) ⌝ }
 {
     let mut held = true;
     for s in 0..n {
@@ -160,7 +159,7 @@ pub fn strict_order(n: u32, work: &[u64], w: u32) -> bool
 // 53: s in P and K, (s,t) in R: t in K.
 pub fn keeps_k(n: u32, work: &[u64], own: Names, k: u32) -> bool
     ensures { λ out.
-        ⌜ out ≡ holds (c53 (bare n) (wordSpec n (now (work .entry)) own) (wordSet n (now (work .entry)) k)) ⌝ }
+        ⌜ out ≡ holds (c53 n (wordSpec n (now (work .entry)) own) (wordSet n (now (work .entry)) k)) ⌝ }
 {
     let set = set_at(n, work, k);
     leads_into(n, work, set_at(n, work, own.p).meet(set), own.r, set)
@@ -168,7 +167,7 @@ pub fn keeps_k(n: u32, work: &[u64], own: Names, k: u32) -> bool
 
 fn rely_descends_at(n: u32, work: &[u64], p: u32, r: u32, w: u32, s: u32) -> bool
     ensures { λ out.
-        ⌜ out ≡ holds (given (wordSet n (now (work .entry)) p s) (inSet (bare n) (wordRelation n (now (work .entry)) r s)
+        ⌜ out ≡ holds (given (wordSet n (now (work .entry)) p s) (inSet n (wordRelation n (now (work .entry)) r s)
         (λ t. must (eqb s t || wordRelation n (now (work .entry)) w s t)))) ⌝ }
 {
     if set_at(n, work, p).holds_state(s) {
@@ -181,7 +180,7 @@ fn rely_descends_at(n: u32, work: &[u64], p: u32, r: u32, w: u32, s: u32) -> boo
 // 55: s in P, (s,t) in R: s = t or (s,t) in W.
 pub fn rely_descends(n: u32, work: &[u64], own: Names, w: u32) -> bool
     ensures { λ out.
-        ⌜ out ≡ holds (c55 (bare n) (wordSpec n (now (work .entry)) own) (wordRelation n (now (work .entry)) w)) ⌝ }
+        ⌜ out ≡ holds (c55 n (wordSpec n (now (work .entry)) own) (wordRelation n (now (work .entry)) w)) ⌝ }
 {
     let mut held = true;
     for s in 0..n {
@@ -193,7 +192,7 @@ pub fn rely_descends(n: u32, work: &[u64], own: Names, w: u32) -> bool
 // 60: s in P, (s,t) in left Q: t in right P.
 pub fn left_meets_right(n: u32, work: &[u64], own: Names, left: Names, right: Names) -> bool
     ensures { λ out.
-        ⌜ out ≡ holds (c60 (bare n) (wordSpec n (now (work .entry)) own) (wordSpec n (now (work .entry)) left)
+        ⌜ out ≡ holds (c60 n (wordSpec n (now (work .entry)) own) (wordSpec n (now (work .entry)) left)
         (wordSpec n (now (work .entry)) right)) ⌝ }
 {
     leads_into(
@@ -208,7 +207,7 @@ pub fn left_meets_right(n: u32, work: &[u64], own: Names, left: Names, right: Na
 // 61: s in P, (s,t) in left Q, (t,u) in right Q: (s,u) in Q.
 pub fn sequence_post(n: u32, work: &[u64], own: Names, left: Names, right: Names) -> bool
     ensures { λ out.
-        ⌜ out ≡ holds (c61 (bare n) (wordSpec n (now (work .entry)) own) (wordSpec n (now (work .entry)) left)
+        ⌜ out ≡ holds (c61 n (wordSpec n (now (work .entry)) own) (wordSpec n (now (work .entry)) left)
         (wordSpec n (now (work .entry)) right)) ⌝ }
 {
     let p = set_at(n, work, own.p);
@@ -218,7 +217,7 @@ pub fn sequence_post(n: u32, work: &[u64], own: Names, left: Names, right: Names
 // 65: both children's G lie in G.
 pub fn guarantees_within(n: u32, work: &[u64], own: Names, left: Names, right: Names) -> bool
     ensures { λ out.
-        ⌜ out ≡ holds (c65 (bare n) (wordSpec n (now (work .entry)) own) (wordSpec n (now (work .entry)) left)
+        ⌜ out ≡ holds (c65 n (wordSpec n (now (work .entry)) own) (wordSpec n (now (work .entry)) left)
         (wordSpec n (now (work .entry)) right)) ⌝ }
 {
     lies_in(n, work, left.g, own.g) & lies_in(n, work, right.g, own.g)
@@ -246,7 +245,7 @@ fn joint_post_at(
     s: u32,
 ) -> bool
     ensures { λ out.
-        ⌜ out ≡ holds (given (wordSet n (now (work .entry)) p s) (inSet (bare n)
+        ⌜ out ≡ holds (given (wordSet n (now (work .entry)) p s) (inSet n
         (λ t. wordRelation n (now (work .entry)) left s t && wordRelation n (now (work .entry)) right s t
         && reachOf n (rel n (now (moves .entry))) s t) (λ t. must (wordRelation n (now (work .entry)) q s t)))) ⌝ }
 {
@@ -267,7 +266,7 @@ fn joint_post_at(
 // 66: s in P, (s,t) in both children's Q, t reached from s by zero or more pairs of R or either child's G: (s,t) in Q.
 pub fn parallel_post(n: u32, work: &[u64], own: Names, left: Names, right: Names) -> bool
     ensures { λ out.
-        ⌜ out ≡ holds (c66 (bare n) (wordSpec n (now (work .entry)) own) (wordSpec n (now (work .entry)) left)
+        ⌜ out ≡ holds (c66 n (wordSpec n (now (work .entry)) own) (wordSpec n (now (work .entry)) left)
         (wordSpec n (now (work .entry)) right)) ⌝ }
 {
     let moves = changes(n, work, own.r, left.g, right.g);
@@ -280,28 +279,28 @@ pub fn parallel_post(n: u32, work: &[u64], own: Names, left: Names, right: Names
 
 // 70: P lies in the child's P.
 pub fn pre_within(n: u32, work: &[u64], own: Names, child: Names) -> bool
-    ensures { λ out. ⌜ out ≡ holds (c70 (bare n) (wordSpec n (now (work .entry)) own) (wordSpec n (now (work .entry)) child)) ⌝ }
+    ensures { λ out. ⌜ out ≡ holds (c70 n (wordSpec n (now (work .entry)) own) (wordSpec n (now (work .entry)) child)) ⌝ }
 {
     set_at(n, work, own.p).included(set_at(n, work, child.p))
 }
 
 // 71: R in the child's R.
 pub fn rely_within(n: u32, work: &[u64], own: Names, child: Names) -> bool
-    ensures { λ out. ⌜ out ≡ holds (c71 (bare n) (wordSpec n (now (work .entry)) own) (wordSpec n (now (work .entry)) child)) ⌝ }
+    ensures { λ out. ⌜ out ≡ holds (c71 n (wordSpec n (now (work .entry)) own) (wordSpec n (now (work .entry)) child)) ⌝ }
 {
     lies_in(n, work, own.r, child.r)
 }
 
 // 72: the child's G in G.
 pub fn guarantee_within(n: u32, work: &[u64], own: Names, child: Names) -> bool
-    ensures { λ out. ⌜ out ≡ holds (c72 (bare n) (wordSpec n (now (work .entry)) own) (wordSpec n (now (work .entry)) child)) ⌝ }
+    ensures { λ out. ⌜ out ≡ holds (c72 n (wordSpec n (now (work .entry)) own) (wordSpec n (now (work .entry)) child)) ⌝ }
 {
     lies_in(n, work, child.g, own.g)
 }
 
 // 73: the child's Q in Q.
 pub fn post_within(n: u32, work: &[u64], own: Names, child: Names) -> bool
-    ensures { λ out. ⌜ out ≡ holds (c73 (bare n) (wordSpec n (now (work .entry)) own) (wordSpec n (now (work .entry)) child)) ⌝ }
+    ensures { λ out. ⌜ out ≡ holds (c73 n (wordSpec n (now (work .entry)) own) (wordSpec n (now (work .entry)) child)) ⌝ }
 {
     lies_in(n, work, child.q, own.q)
 }

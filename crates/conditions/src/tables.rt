@@ -10,8 +10,8 @@ ghost use Prim.Native.Nat.{ℕ, _+_, _*_};
 ghost use lib.ListN.{drop};
 ghost use Rattle.states.specs.Search.{must, given, holds};
 ghost use Rattle.states.specs.Sets.{has};
-ghost use Rattle.semantics.specs.Conditions.{inSet, sameSet, sameRelation, liesIn};
-ghost use Rattle.conditions.specs.Words.{bare, wordSet, wordRelation};
+ghost use Rattle.semantics.specs.Conditions.{inSet, sameSet, sameRelation, setLiesIn, relationLiesIn};
+ghost use Rattle.conditions.specs.Words.{wordSet, wordRelation};
 
 pub fn set_at(n: u32, work: &[u64], i: u32) -> StateSet
     ensures { λ out. ⌜ ((s : ℕ) → has out s ≡ wordSet n (now (work .entry)) i s) ⌝ }
@@ -48,7 +48,7 @@ pub fn row_at(n: u32, work: &[u64], r: u32, s: u32) -> StateSet
 // Whether every pair of relation r that starts in the one set ends in the other.
 pub fn leads_into(n: u32, work: &[u64], from: StateSet, r: u32, into: StateSet) -> bool
     ensures { λ out.
-        ⌜ out ≡ holds (inSet (bare n) (has from) (λ s. inSet (bare n) (wordRelation n (now (work .entry)) r s) (λ t. must (has into t)))) ⌝ }
+        ⌜ out ≡ holds (inSet n (has from) (λ s. inSet n (wordRelation n (now (work .entry)) r s) (λ t. must (has into t)))) ⌝ }
 {
     image(n, from, rows_of(work, r)).included(into)
 }
@@ -65,8 +65,8 @@ fn row_chains_into(
     s: u32,
 ) -> bool
     ensures { λ out.
-        ⌜ out ≡ holds (inSet (bare n) (λ t. wordRelation n (now (work .entry)) a s t && has through t)
-        (λ t. inSet (bare n) (wordRelation n (now (work .entry)) b t) (λ u. must (wordRelation n (now (work .entry)) whole s u)))) ⌝ }
+        ⌜ out ≡ holds (inSet n (λ t. wordRelation n (now (work .entry)) a s t && has through t)
+        (λ t. inSet n (wordRelation n (now (work .entry)) b t) (λ u. must (wordRelation n (now (work .entry)) whole s u)))) ⌝ }
 {
     let into = row_at(n, work, whole, s);
     if StateSet::below(n).included(into) {
@@ -88,8 +88,8 @@ pub fn chains_into(
     whole: u32,
 ) -> bool
     ensures { λ out.
-        ⌜ out ≡ holds (inSet (bare n) (has from) (λ s. inSet (bare n) (λ t. wordRelation n (now (work .entry)) a s t && has through t)
-        (λ t. inSet (bare n) (wordRelation n (now (work .entry)) b t) (λ u. must (wordRelation n (now (work .entry)) whole s u))))) ⌝ }
+        ⌜ out ≡ holds (inSet n (has from) (λ s. inSet n (λ t. wordRelation n (now (work .entry)) a s t && has through t)
+        (λ t. inSet n (wordRelation n (now (work .entry)) b t) (λ u. must (wordRelation n (now (work .entry)) whole s u))))) ⌝ }
 {
     let mut rest = from.meet(StateSet::below(n));
     let mut held = true;
@@ -113,7 +113,7 @@ fn stays_at(n: u32, work: &[u64], from: StateSet, r: u32, s: u32) -> bool
 
 // Whether relation r has the pair (s,s) of every state s of a set.
 pub fn stays(n: u32, work: &[u64], from: StateSet, r: u32) -> bool
-    ensures { λ out. ⌜ out ≡ holds (inSet (bare n) (has from) (λ s. must (wordRelation n (now (work .entry)) r s s))) ⌝ }
+    ensures { λ out. ⌜ out ≡ holds (inSet n (has from) (λ s. must (wordRelation n (now (work .entry)) r s s))) ⌝ }
 {
     let mut held = true;
     for s in 0..n {
@@ -124,7 +124,7 @@ pub fn stays(n: u32, work: &[u64], from: StateSet, r: u32) -> bool
 
 fn row_lies_in(n: u32, work: &[u64], a: u32, b: u32, s: u32) -> bool
     ensures { λ out.
-        ⌜ out ≡ holds (inSet (bare n) (wordRelation n (now (work .entry)) a s) (λ t. must (wordRelation n (now (work .entry)) b s t))) ⌝ }
+        ⌜ out ≡ setLiesIn n (wordRelation n (now (work .entry)) a s) (wordRelation n (now (work .entry)) b s) ⌝ }
 {
     row_at(n, work, a, s).included(row_at(n, work, b, s))
 }
@@ -132,7 +132,7 @@ fn row_lies_in(n: u32, work: &[u64], a: u32, b: u32, s: u32) -> bool
 // Whether every pair of relation a is one of b. A table lies in itself: children often have their parent's by number.
 pub fn lies_in(n: u32, work: &[u64], a: u32, b: u32) -> bool
     ensures { λ out.
-        ⌜ out ≡ holds (liesIn (bare n) (wordRelation n (now (work .entry)) a) (wordRelation n (now (work .entry)) b)) ⌝ }
+        ⌜ out ≡ relationLiesIn n (wordRelation n (now (work .entry)) a) (wordRelation n (now (work .entry)) b) ⌝ }
 {
     if a == b {
         return true;
@@ -146,7 +146,7 @@ pub fn lies_in(n: u32, work: &[u64], a: u32, b: u32) -> bool
 
 // "Same" compares members, those below n.
 pub fn same_set(n: u32, a: StateSet, b: StateSet) -> bool
-    ensures { λ out. ⌜ out ≡ sameSet (bare n) (has a) (has b) ⌝ }
+    ensures { λ out. ⌜ out ≡ sameSet n (has a) (has b) ⌝ }
 {
     let states = StateSet::below(n);
     a.meet(states).same(b.meet(states))
@@ -155,14 +155,14 @@ pub fn same_set(n: u32, a: StateSet, b: StateSet) -> bool
 // A table is the same as itself and needs no look.
 pub fn same_relation(n: u32, work: &[u64], a: u32, b: u32) -> bool
     ensures { λ out.
-        ⌜ out ≡ sameRelation (bare n) (wordRelation n (now (work .entry)) a) (wordRelation n (now (work .entry)) b) ⌝ }
+        ⌜ out ≡ sameRelation n (wordRelation n (now (work .entry)) a) (wordRelation n (now (work .entry)) b) ⌝ }
 {
     a == b || same_members(n, rows_of(work, a), rows_of(work, b))
 }
 
 fn row_is_join(n: u32, work: &[u64], whole: u32, a: u32, b: u32, s: u32) -> bool
     ensures { λ out.
-        ⌜ out ≡ sameSet (bare n) (wordRelation n (now (work .entry)) whole s)
+        ⌜ out ≡ sameSet n (wordRelation n (now (work .entry)) whole s)
         (λ t. wordRelation n (now (work .entry)) a s t || wordRelation n (now (work .entry)) b s t) ⌝ }
 {
     same_set(
@@ -175,7 +175,7 @@ fn row_is_join(n: u32, work: &[u64], whole: u32, a: u32, b: u32, s: u32) -> bool
 // Whether relation whole is a joined with b.
 pub fn is_join(n: u32, work: &[u64], whole: u32, a: u32, b: u32) -> bool
     ensures { λ out.
-        ⌜ out ≡ sameRelation (bare n) (wordRelation n (now (work .entry)) whole)
+        ⌜ out ≡ sameRelation n (wordRelation n (now (work .entry)) whole)
         (λ s t. wordRelation n (now (work .entry)) a s t || wordRelation n (now (work .entry)) b s t) ⌝ }
 {
     let mut held = true;
@@ -187,7 +187,7 @@ pub fn is_join(n: u32, work: &[u64], whole: u32, a: u32, b: u32) -> bool
 
 fn row_ends_in(n: u32, work: &[u64], part: u32, a: u32, p: u32, s: u32) -> bool
     ensures { λ out.
-        ⌜ out ≡ sameSet (bare n) (wordRelation n (now (work .entry)) part s)
+        ⌜ out ≡ sameSet n (wordRelation n (now (work .entry)) part s)
         (λ t. wordRelation n (now (work .entry)) a s t && wordSet n (now (work .entry)) p t) ⌝ }
 {
     same_set(
@@ -200,7 +200,7 @@ fn row_ends_in(n: u32, work: &[u64], part: u32, a: u32, p: u32, s: u32) -> bool
 // Whether relation part is the pairs of a that end in set p.
 pub fn is_ending_in(n: u32, work: &[u64], part: u32, a: u32, p: u32) -> bool
     ensures { λ out.
-        ⌜ out ≡ sameRelation (bare n) (wordRelation n (now (work .entry)) part)
+        ⌜ out ≡ sameRelation n (wordRelation n (now (work .entry)) part)
         (λ s t. wordRelation n (now (work .entry)) a s t && wordSet n (now (work .entry)) p t) ⌝ }
 {
     let mut held = true;

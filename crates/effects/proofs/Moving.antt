@@ -27,7 +27,7 @@ use Rattle.values.specs.Values.{statesOf, machineAt, agreeAt}
 use Rattle.values.proofs.Sizes.{size-past}
 use Rattle.values.proofs.Laws.{agree-here}
 use Rattle.conditions.specs.declared.Names.{Names}
-use Rattle.conditions.specs.Words.{bare, wordSet, wordRelation, wordSpec}
+use Rattle.conditions.specs.Words.{wordSet, wordRelation, wordSpec}
 use Rattle.conditions.proofs.Searches.{holds-inSet, within, part-within}
 use Rattle.conditions.proofs.Words.{set-small}
 use Rattle.states.specs.Sets.{has}
@@ -88,7 +88,7 @@ alike bytes v s u e t = ⊎-elim agreed itself (or-cases (agreeAt bytes v s u) _
 
 -- Ends that lie in one set, from states that all have it for their own.
 pub alike-within : (n : ℕ) (p g : ℕ → Bool) (r f : ℕ → ℕ → Bool) (q : ℕ → Bool) → ((s : ℕ) → g s ≡ true → (t : ℕ) → f s t ≡ q t)
-    → holds (inSet (bare n) (λ s. p s && g s) (λ s. inSet (bare n) (r s) (λ t. must (q t))))
+    → holds (inSet n (λ s. p s && g s) (λ s. inSet n (r s) (λ t. must (q t))))
     ≡ all n (λ s. implies (p s && g s) (all n (λ t. implies (r s t) (f s t))))
 unfolding implies
 alike-within n p g r f q own =

@@ -8,12 +8,11 @@ use Rattle.states.specs.Search.{implies, all, any, Search, must, given, each, h
 use Rattle.states.proofs.Search.{and-left, and-right, and-both, bool-ext, all-cong, any-intro, any-true}
 use Rattle.semantics.specs.States.{Machine}
 use Rattle.semantics.specs.Conditions.{inSet}
-use Rattle.conditions.specs.Words.{bare}
 use Rattle.conditions.proofs.Searches.{within, holds-inSet, inSet-intro, inSet-at}
 
 -- Searches that find the same of each member.
 pub inSet-cong : (n : ℕ) (m : Machine) → m .states ≡ n → (p : ℕ → Bool) (f g : ℕ → Search)
-    → ((s : ℕ) → s < n → p s ≡ true → holds (f s) ≡ holds (g s)) → holds (inSet (bare n) p f) ≡ holds (inSet m p g)
+    → ((s : ℕ) → s < n → p s ≡ true → holds (f s) ≡ holds (g s)) → holds (inSet n p f) ≡ holds (inSet m p g)
 unfolding inSet
 inSet-cong n m same p f g h =
     bool-ext _ _ (λ x. inSet-intro n p g (λ s l ps. sym (h s l ps) ∙ inSet-at n p f x s l ps))
@@ -22,7 +21,7 @@ inSet-cong n m same p f g h =
 
 -- Pairs that start in a set, each in another relation.
 pub pairs-within : (n : ℕ) (p : ℕ → Bool) (a b : ℕ → ℕ → Bool)
-    → all n (λ s. implies (p s) (all n (λ t. implies (a s t) (b s t)))) ≡ holds (inSet (bare n) p (λ s. inSet (bare n) (a s) (λ t. must (b s t))))
+    → all n (λ s. implies (p s) (all n (λ t. implies (a s t) (b s t)))) ≡ holds (inSet n p (λ s. inSet n (a s) (λ t. must (b s t))))
 pairs-within n p a b = all-cong n _ _ (λ s l. ap (implies (p s)) (within n (a s) (b s))) ∙ sym (holds-inSet n p _)
 
 -- The one state s in front of others, at a state that a word holds.

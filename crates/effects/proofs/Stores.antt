@@ -12,7 +12,6 @@ use Rattle.states.proofs.Search.{and-right, and-both, bool-ext, any-intro, any-
 use Rattle.semantics.specs.States.{Machine}
 use Rattle.semantics.specs.Derivations.{Spec}
 use Rattle.semantics.specs.Conditions.{inSet, afterStore, inRange, toAfter, c40, c42, c43}
-use Rattle.conditions.specs.Words.{bare}
 use Rattle.effects.specs.Places.{machineHere, exprHere, leadsTo, afterHere}
 use Rattle.conditions.proofs.Searches.{inSet-intro, inSet-at}
 use Rattle.effects.proofs.Places.{after-within}
@@ -26,7 +25,7 @@ module _ (m : Machine) (n : ℕ) where
   any-end (some s′) below = any-intro n _ s′ (below s′ (eq-eqb s′ s′ refl)) (eq-eqb s′ s′ refl)
 
   at-end : (o : Option ℕ) (g : ℕ → Bool) → ((t : ℕ) → leadsTo o t ≡ true → t < n)
-      → holds (inSet (bare n) (leadsTo o) (λ t. must (g t))) ≡ holds (toAfter m o (λ t. must (g t)))
+      → holds (inSet n (leadsTo o) (λ t. must (g t))) ≡ holds (toAfter m o (λ t. must (g t)))
   unfolding toAfter holds
   at-end none g below = inSet-intro n _ _ (λ t l h. absurd (false≢true h))
   at-end (some s′) g below =
@@ -51,25 +50,25 @@ module _ (bytes : List ℕ) (n : ℕ) (states : machineHere bytes .states ≡ n)
       (λ h. and-both _ _ (and-both _ _ (lt-ltb s n l) (lt-ltb t n (below-here s l t h))) (and-both _ _ (starts s l) h)))
 
   after-ends : (p : ℕ → Bool) (g : ℕ → ℕ → Bool)
-      → holds (inSet (bare n) p (λ s. inSet (bare n) (rel n rows s) (λ t. must (g s t))))
+      → holds (inSet n p (λ s. inSet n (rel n rows s) (λ t. must (g s t))))
       ≡ holds (inSet (machineHere bytes) p (λ s. toAfter (machineHere bytes) (afterStore (machineHere bytes) v (exprHere bytes at) s) (λ t. must (g s t))))
   after-ends p g =
       inSet-cong n (machineHere bytes) states p _ _ (λ s l ps.
-      ap (λ r. holds (inSet (bare n) r (λ t. must (g s t)))) (row-here s l) ∙ at-end (machineHere bytes) n _ (g s) (below-here s l))
+      ap (λ r. holds (inSet n r (λ t. must (g s t)))) (row-here s l) ∙ at-end (machineHere bytes) n _ (g s) (below-here s l))
 
   module _ (c : Spec) where
-    pub in-range-40 : holds (inSet (bare n) (c .P) (λ s. must (any n (rel n rows s)))) ≡ holds (c40 (machineHere bytes) c v (exprHere bytes at))
+    pub in-range-40 : holds (inSet n (c .P) (λ s. must (any n (rel n rows s)))) ≡ holds (c40 (machineHere bytes) c v (exprHere bytes at))
     unfolding c40
     in-range-40 =
         inSet-cong n (machineHere bytes) states (c .P) _ _ (λ s l ps.
         ap (λ b. holds (must b)) (ap (any n) (row-here s l) ∙ any-end (machineHere bytes) n _ (below-here s l)))
 
-    pub store-in-post-42 : holds (inSet (bare n) (c .P) (λ s. inSet (bare n) (rel n rows s) (λ t. must (c .Q s t))))
+    pub store-in-post-42 : holds (inSet n (c .P) (λ s. inSet n (rel n rows s) (λ t. must (c .Q s t))))
         ≡ holds (c42 (machineHere bytes) c v (exprHere bytes at))
     unfolding c42
     store-in-post-42 = after-ends (c .P) (c .Q)
 
-    pub store-in-guarantee-43 : holds (inSet (bare n) (c .P) (λ s. inSet (bare n) (rel n rows s) (λ t. must (eqb t s || c .G s t))))
+    pub store-in-guarantee-43 : holds (inSet n (c .P) (λ s. inSet n (rel n rows s) (λ t. must (eqb t s || c .G s t))))
         ≡ holds (c43 (machineHere bytes) c v (exprHere bytes at))
     unfolding c43
     store-in-guarantee-43 = after-ends (c .P) (λ s t. eqb t s || c .G s t)

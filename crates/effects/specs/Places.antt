@@ -13,12 +13,11 @@ use Rattle.expressions.specs.declared.Header.{Header}
 use Rattle.expressions.specs.declared.Header.the-variants.{Sizes, Fault}
 use Rattle.expressions.specs.Header.{headerAt, sizesOf}
 use Rattle.expressions.specs.Expressions.{ExprRead, good, bad, wholeExpr}
-use Rattle.conditions.specs.Words.{bare}
 
 -- No state where the head is faulty.
 abbrev pub machineUnder : List ℕ → Header → Machine
 machineUnder bytes (Sizes count n first) = machineOf (sizesOf bytes count)
-machineUnder bytes (Fault k place) = bare 0
+machineUnder bytes (Fault k place) = record { states = 0; get = λ s v. pos 0; store = λ s v z. none }
 
 unfoldable pub machineHere : List ℕ → Machine
 machineHere bytes = machineUnder bytes (headerAt bytes)

@@ -27,13 +27,13 @@ ghost use Rattle.states.specs.Sets.{has};
 ghost use Rattle.states.specs.Relations.{rel};
 ghost use Rattle.semantics.specs.Conditions.{occurrences, inSet, moves, c46, c52, c54, c56};
 ghost use Rattle.expressions.specs.Shapes.{inMask};
-ghost use Rattle.conditions.specs.Words.{bare, wordSet, wordRelation, wordSpec};
+ghost use Rattle.conditions.specs.Words.{wordSet, wordRelation, wordSpec};
 ghost use Rattle.values.specs.Values.{agreeAt};
 ghost use Rattle.effects.specs.Places.{machineHere, exprHere, afterHere};
 
 // 46: s in P, test false: (s,s) in Q.
 pub fn skips(n: u32, work: &[u64], own: Names, falsity: StateSet) -> bool
-    ensures { λ out. ⌜ out ≡ holds (c46 (bare n) (wordSpec n (now (work .entry)) own) (has falsity)) ⌝ }
+    ensures { λ out. ⌜ out ≡ holds (c46 n (wordSpec n (now (work .entry)) own) (has falsity)) ⌝ }
 {
     stays(n, work, set_at(n, work, own.p).meet(falsity), own.q)
 }
@@ -41,7 +41,7 @@ pub fn skips(n: u32, work: &[u64], own: Names, falsity: StateSet) -> bool
 // 52: s in P, test true: s in K.
 pub fn enters_k(n: u32, work: &[u64], own: Names, k: u32, truth: StateSet) -> bool
     ensures { λ out.
-        ⌜ out ≡ holds (c52 (bare n) (wordSpec n (now (work .entry)) own) (has truth) (wordSet n (now (work .entry)) k)) ⌝ }
+        ⌜ out ≡ holds (c52 n (wordSpec n (now (work .entry)) own) (has truth) (wordSet n (now (work .entry)) k)) ⌝ }
 {
     set_at(n, work, own.p)
         .meet(truth)
@@ -50,7 +50,7 @@ pub fn enters_k(n: u32, work: &[u64], own: Names, k: u32, truth: StateSet) -> bo
 
 // 54: s in P, test false, (s,t) in R: test false at t.
 pub fn stays_false(n: u32, work: &[u64], own: Names, falsity: StateSet) -> bool
-    ensures { λ out. ⌜ out ≡ holds (c54 (bare n) (wordSpec n (now (work .entry)) own) (has falsity)) ⌝ }
+    ensures { λ out. ⌜ out ≡ holds (c54 n (wordSpec n (now (work .entry)) own) (has falsity)) ⌝ }
 {
     leads_into(
         n,
@@ -85,7 +85,7 @@ fn leaves_at(
 // 56: s in P, t = s or (s,t) in W, t in P, test false at t: (s,t) in Q. The states of P are taken out one by one, the least first.
 pub fn leaves(n: u32, work: &[u64], own: Names, w: u32, falsity: StateSet) -> bool
     ensures { λ out.
-        ⌜ out ≡ holds (c56 (bare n) (wordSpec n (now (work .entry)) own) (has falsity) (wordRelation n (now (work .entry)) w)) ⌝ }
+        ⌜ out ≡ holds (c56 n (wordSpec n (now (work .entry)) own) (has falsity) (wordRelation n (now (work .entry)) w)) ⌝ }
 {
     let p = set_at(n, work, own.p);
     let mut rest = p;
@@ -101,7 +101,7 @@ pub fn leaves(n: u32, work: &[u64], own: Names, w: u32, falsity: StateSet) -> bo
 // 40, by the rows that say where a store leads: every s in P has an end.
 pub fn in_range(n: u32, work: &[u64], own: Names, after: &[u64]) -> bool
     ensures { λ out.
-        ⌜ out ≡ holds (inSet (bare n) (wordSet n (now (work .entry)) (own .p)) (λ s. must (any n (rel n (now (after .entry)) s)))) ⌝ }
+        ⌜ out ≡ holds (inSet n (wordSet n (now (work .entry)) (own .p)) (λ s. must (any n (rel n (now (after .entry)) s)))) ⌝ }
 {
     set_at(n, work, own.p).included(starting(n, after))
 }
@@ -109,7 +109,7 @@ pub fn in_range(n: u32, work: &[u64], own: Names, after: &[u64]) -> bool
 // 42, by the same rows: s in P, s′ its end: (s,s′) in Q.
 pub fn store_in_post(n: u32, work: &[u64], own: Names, after: &[u64]) -> bool
     ensures { λ out.
-        ⌜ out ≡ holds (inSet (bare n) (wordSet n (now (work .entry)) (own .p)) (λ s. inSet (bare n) (rel n (now (after .entry)) s)
+        ⌜ out ≡ holds (inSet n (wordSet n (now (work .entry)) (own .p)) (λ s. inSet n (rel n (now (after .entry)) s)
         (λ t. must (wordRelation n (now (work .entry)) (own .q) s t)))) ⌝ }
 {
     included_from(n, set_at(n, work, own.p), after, rows_of(work, own.q))
@@ -118,7 +118,7 @@ pub fn store_in_post(n: u32, work: &[u64], own: Names, after: &[u64]) -> bool
 // Whether the end of a store at s is s or makes a pair of G.
 fn guaranteed_at(n: u32, work: &[u64], own: Names, after: &[u64], s: u32) -> bool
     ensures { λ out.
-        ⌜ out ≡ holds (inSet (bare n) (rel n (now (after .entry)) s) (λ t. must (eqb t s || wordRelation n (now (work .entry)) (own .g) s t))) ⌝ }
+        ⌜ out ≡ holds (inSet n (rel n (now (after .entry)) s) (λ t. must (eqb t s || wordRelation n (now (work .entry)) (own .g) s t))) ⌝ }
 {
     let allowed = StateSet::single(s).join(row_at(n, work, own.g, s));
     row(n, after, s).included(allowed)
@@ -127,7 +127,7 @@ fn guaranteed_at(n: u32, work: &[u64], own: Names, after: &[u64], s: u32) -> boo
 // 43, by the same rows: s in P, s′ its end: s′ = s or (s,s′) in G.
 pub fn store_in_guarantee(n: u32, work: &[u64], own: Names, after: &[u64]) -> bool
     ensures { λ out.
-        ⌜ out ≡ holds (inSet (bare n) (wordSet n (now (work .entry)) (own .p)) (λ s. inSet (bare n) (rel n (now (after .entry)) s)
+        ⌜ out ≡ holds (inSet n (wordSet n (now (work .entry)) (own .p)) (λ s. inSet n (rel n (now (after .entry)) s)
         (λ t. must (eqb t s || wordRelation n (now (work .entry)) (own .g) s t)))) ⌝ }
 {
     let mut rest = set_at(n, work, own.p);

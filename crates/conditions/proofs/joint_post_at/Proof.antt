@@ -7,7 +7,7 @@ use Rattle.states.specs.Search.{implies, all, must, given, holds}
 use Rattle.states.specs.Sets.{has}
 use Rattle.states.proofs.Search.{and-left, all-cong}
 use Rattle.semantics.specs.Conditions.{inSet}
-use Rattle.conditions.specs.Words.{bare, wordSet, wordRelation}
+use Rattle.conditions.specs.Words.{wordSet, wordRelation}
 use Rattle.conditions.proofs.Searches.{at-member, at-other, part-within, small-within}
 use Rattle.conditions.proofs.Words.{set-small, relation-small, reached-set}
 use Rattle.conditions.proofs.joint_post_at.Statement.{statement}
@@ -24,7 +24,7 @@ member c = sym (c .before .holds-state .ensures ∙ c .before .before .set-at .e
 -- The condition for any property in the place of the reach, by the words.
 by-words : (c : tie.After-row-at3) (x : ℕ → Bool) → let a = c .before .before .before .before .before .before .before .before .before .args in
     all 64 (λ t. implies (has (c .before .meet .result) t && x t) (has (c .row-at3 .result) t))
-    ≡ holds (given (wordSet (a .n) (a .work .now) (a .p) (a .s)) (inSet (bare (a .n))
+    ≡ holds (given (wordSet (a .n) (a .work .now) (a .p) (a .s)) (inSet (a .n)
     (λ t. wordRelation (a .n) (a .work .now) (a .left) (a .s) t && wordRelation (a .n) (a .work .now) (a .right) (a .s) t && x t)
     (λ t. must (wordRelation (a .n) (a .work .now) (a .q) (a .s) t))))
 by-words c x =

@@ -10,7 +10,7 @@ use Rattle.states.specs.Search.{Search, must, given, each, holds}
 use Rattle.states.specs.Relations.{rel, reach}
 use Rattle.semantics.specs.Conditions.{inSet, c66}
 use Rattle.conditions.specs.declared.Names.{Names}
-use Rattle.conditions.specs.Words.{bare, wordSet, wordRelation}
+use Rattle.conditions.specs.Words.{wordSet, wordRelation}
 use Rattle.conditions.proofs.Searches.{holds-next, each-done, given-cong}
 use Rattle.conditions.proofs.Words.{set-small, relation-pairs, join-pairs, reach-rows, Pairs}
 use Rattle.conditions.proofs.parallel_post.Statement.{statement}
@@ -19,7 +19,7 @@ use Rattle.conditions.proofs.parallel_post.Tie as tie
 -- The condition at a state, for the reach by some changes; and the changes that it names.
 abbrev at : ℕ → List ℕ → Names → Names → Names → (ℕ → ℕ → Bool) → ℕ → Search
 at n work own left right moves s =
-    given (wordSet n work (own .p) s) (inSet (bare n) (λ t. wordRelation n work (left .q) s t && wordRelation n work (right .q) s t && reach n moves s t)
+    given (wordSet n work (own .p) s) (inSet n (λ t. wordRelation n work (left .q) s t && wordRelation n work (right .q) s t && reach n moves s t)
     (λ t. must (wordRelation n work (own .q) s t)))
 
 abbrev whole : ℕ → List ℕ → Names → Names → Names → ℕ → ℕ → Bool
@@ -29,7 +29,7 @@ same-reach : (n : ℕ) (work : List ℕ) (own left right : Names) (rows : List �
     → ((s t : ℕ) → rel n rows s t ≡ (ltb s 64 && whole n work own left right s t))
     → (s : ℕ) → at n work own left right (rel n rows) s ≡ at n work own left right (whole n work own left right) s
 same-reach n work own left right rows same s =
-    given-cong _ _ _ (λ e. ap (λ p. inSet (bare n) p (λ t. must (wordRelation n work (own .q) s t)))
+    given-cong _ _ _ (λ e. ap (λ p. inSet n p (λ t. must (wordRelation n work (own .q) s t)))
     (fun-ext (λ t. ap (λ b. wordRelation n work (left .q) s t && wordRelation n work (right .q) s t && b)
     (reach-rows n rows (whole n work own left right) pairs same s t (set-small n work (own .p) s e .0)))))
   where

@@ -7,13 +7,13 @@ use borrow.Author.Needs.{needs}
 use lib.Dec.{eqb}
 use Rattle.states.specs.Search.{must, given, each, holds}
 use Rattle.semantics.specs.Conditions.{inSet, c55}
-use Rattle.conditions.specs.Words.{bare, wordSet, wordRelation}
+use Rattle.conditions.specs.Words.{wordSet, wordRelation}
 use Rattle.conditions.proofs.Searches.{holds-next, each-done}
 use Rattle.conditions.proofs.rely_descends.Statement.{statement}
 use Rattle.conditions.proofs.rely_descends.Tie as tie
 
 abbrev Inv-loop : tie.InvT-loop
-Inv-loop n work own w held₀ s₀ held s = (s ≤ n) × (held ≡ holds (each s (λ u. given (wordSet n work (own .p) u) (inSet (bare n) (wordRelation n work (own .r) u) (λ t. must (eqb u t || wordRelation n work w u t))))))
+Inv-loop n work own w held₀ s₀ held s = (s ≤ n) × (held ≡ holds (each s (λ u. given (wordSet n work (own .p) u) (inSet n (wordRelation n work (own .r) u) (λ t. must (eqb u t || wordRelation n work w u t))))))
 
 abbrev μ-loop : tie.MeasureT-loop
 μ-loop n work own w held₀ s₀ held s = n - s

@@ -8,7 +8,7 @@ use borrow.Author.Needs.{needs}
 use Rattle.states.specs.Search.{Search, must, each, holds}
 use Rattle.states.proofs.Search.{holds-orElse}
 use Rattle.semantics.specs.Conditions.{inSet, c51}
-use Rattle.conditions.specs.Words.{bare, wordRelation}
+use Rattle.conditions.specs.Words.{wordRelation}
 use Rattle.conditions.proofs.Searches.{holds-next, each-done}
 use Rattle.conditions.proofs.strict_order.Statement.{statement}
 use Rattle.conditions.proofs.strict_order.Tie as tie
@@ -19,7 +19,7 @@ loop-free n work w s = must (not (wordRelation n work w s s))
 
 abbrev closed : ℕ → List ℕ → ℕ → ℕ → Search
 closed n work w s =
-    inSet (bare n) (wordRelation n work w s) (λ t. inSet (bare n) (wordRelation n work w t) (λ u. must (wordRelation n work w s u)))
+    inSet n (wordRelation n work w s) (λ t. inSet n (wordRelation n work w t) (λ u. must (wordRelation n work w s u)))
 
 both-next : (s : ℕ) (f g : ℕ → Search)
     → (holds (each s f) && holds (each s g) && (holds (f s) && holds (g s))) ≡ (holds (each (s + 1) f) && holds (each (s + 1) g))
@@ -51,7 +51,7 @@ loop-again c =
 
 returns : tie.Need-returns Inv-loop μ-loop
 unfolding c51
-returns c own =
+returns c =
     let l = c .before .loop .inv in
     let done = c .loop-test .left in
     l .1 ∙ ap₂ _&&_ (each-done _ _ _ (l .0) done) (each-done _ _ _ (l .0) done) ∙ sym (holds-orElse _ _)

@@ -13,7 +13,7 @@ use Rattle.states.proofs.Search.{and-left, and-right}
 use Rattle.states.proofs.Reach.{count}
 use Rattle.states.proofs.Members.{Passed, passed-none, passed-more, Turn, turn}
 use Rattle.semantics.specs.Conditions.{inSet, c56}
-use Rattle.conditions.specs.Words.{bare, wordSet, wordRelation}
+use Rattle.conditions.specs.Words.{wordSet, wordRelation}
 use Rattle.conditions.proofs.Searches.{Small, small-within, passed-search}
 use Rattle.conditions.proofs.Words.{set-small}
 use Rattle.effects.proofs.leaves.Statement.{statement}
@@ -21,7 +21,7 @@ use Rattle.effects.proofs.leaves.Tie as tie
 
 abbrev exits : ℕ → List ℕ → ℕ → ℕ → (ℕ → Bool) → (ℕ → Bool) → ℕ → Search
 exits n work w q p falsity s =
-    inSet (bare n) (λ t. (eqb t s || wordRelation n work w s t) && p t && falsity t) (λ t. must (wordRelation n work q s t))
+    inSet n (λ t. (eqb t s || wordRelation n work w s t) && p t && falsity t) (λ t. must (wordRelation n work q s t))
 
 abbrev Inv-loop : tie.InvT-loop
 Inv-loop n work own w falsity p rest₀ held₀ rest held = Passed n (λ s. holds (exits n work w (own .q) (has p) (has falsity) s)) rest₀ rest held
@@ -56,7 +56,7 @@ returns c =
     let l = c .before .before in
     let a = l .before .before .before .args in
     passed-search _ _ _ _ _ _ (c .if1 .left) (λ s k. l .before .set-at .ensures s) (l .loop .inv)
-    ∙ ap (λ p. holds (inSet (bare (a .n)) (wordSet (a .n) (a .work .now) (a .own .p)) (exits (a .n) (a .work .now) (a .w) (a .own .q) p (has (a .falsity)))))
+    ∙ ap (λ p. holds (inSet (a .n) (wordSet (a .n) (a .work .now) (a .own .p)) (exits (a .n) (a .work .now) (a .w) (a .own .q) p (has (a .falsity)))))
     (fun-ext (l .before .set-at .ensures))
 
 pub leaves-spec : {M : Type 1} → statement M

@@ -5,7 +5,7 @@ use borrow.Author.Needs.{needs}
 use Rattle.states.specs.Search.{must, holds}
 use Rattle.states.specs.Sets.{has}
 use Rattle.semantics.specs.Conditions.{inSet, c46}
-use Rattle.conditions.specs.Words.{bare, wordRelation}
+use Rattle.conditions.specs.Words.{wordRelation}
 use Rattle.conditions.proofs.Searches.{inSet-and}
 use Rattle.effects.proofs.skips.Statement.{statement}
 use Rattle.effects.proofs.skips.Tie as tie
@@ -16,7 +16,7 @@ returns c =
     let a = c .before .before .before .before .args in
     let n = a .n in
     c .stays .ensures
-    ∙ ap (λ p. holds (inSet (bare n) p (λ s. must (wordRelation n (a .work .now) (a .own .q) s s))))
+    ∙ ap (λ p. holds (inSet n p (λ s. must (wordRelation n (a .work .now) (a .own .q) s s))))
     (fun-ext (λ s. c .before .meet .ensures s ∙ ap (λ b. b && has (a .falsity) s) (c .before .before .set-at .ensures s)))
     ∙ ap holds (inSet-and n _ _ _)
 

@@ -11,14 +11,14 @@ use Rattle.states.specs.Relations.{rel}
 use Rattle.states.proofs.Reach.{count}
 use Rattle.states.proofs.Members.{Passed, passed-none, passed-more, Turn, turn}
 use Rattle.semantics.specs.Conditions.{inSet}
-use Rattle.conditions.specs.Words.{bare, wordRelation}
+use Rattle.conditions.specs.Words.{wordRelation}
 use Rattle.conditions.proofs.Searches.{passed-search}
 use Rattle.conditions.proofs.Words.{set-small}
 use Rattle.effects.proofs.store_in_guarantee.Statement.{statement}
 use Rattle.effects.proofs.store_in_guarantee.Tie as tie
 
 abbrev guaranteed : ℕ → List ℕ → ℕ → List ℕ → ℕ → Search
-guaranteed n work g after s = inSet (bare n) (rel n after s) (λ t. must (eqb t s || wordRelation n work g s t))
+guaranteed n work g after s = inSet n (rel n after s) (λ t. must (eqb t s || wordRelation n work g s t))
 
 abbrev Inv-loop : tie.InvT-loop
 Inv-loop n work own after rest₀ held₀ rest held = Passed n (λ s. holds (guaranteed n work (own .g) after s)) rest₀ rest held

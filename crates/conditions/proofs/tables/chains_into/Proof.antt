@@ -10,15 +10,15 @@ use Rattle.states.specs.Sets.{has}
 use Rattle.states.proofs.Reach.{count}
 use Rattle.states.proofs.Members.{start-below, start-same, Passed, passed-none, passed-more, Turn, turn}
 use Rattle.semantics.specs.Conditions.{inSet}
-use Rattle.conditions.specs.Words.{bare, wordRelation}
+use Rattle.conditions.specs.Words.{wordRelation}
 use Rattle.conditions.proofs.Searches.{passed-search}
 use Rattle.conditions.proofs.tables.chains_into.Statement.{statement}
 use Rattle.conditions.proofs.tables.chains_into.Tie as tie
 
 abbrev Inv-loop : tie.InvT-loop
 Inv-loop n work a through b whole rest₀ held₀ rest held =
-    Passed n (λ s. holds (inSet (bare n) (λ t. wordRelation n work a s t && has through t)
-    (λ t. inSet (bare n) (wordRelation n work b t) (λ u. must (wordRelation n work whole s u))))) rest₀ rest held
+    Passed n (λ s. holds (inSet n (λ t. wordRelation n work a s t && has through t)
+    (λ t. inSet n (wordRelation n work b t) (λ u. must (wordRelation n work whole s u))))) rest₀ rest held
 
 abbrev μ-loop : tie.MeasureT-loop
 μ-loop n work a through b whole rest₀ held₀ rest held = count 64 (has rest)

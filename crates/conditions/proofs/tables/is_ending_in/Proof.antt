@@ -7,12 +7,12 @@ use borrow.Author.Needs.{needs}
 use Rattle.states.specs.Search.{all}
 use Rattle.states.proofs.Search.{all-next, all-done}
 use Rattle.semantics.specs.Conditions.{sameSet, sameRelation}
-use Rattle.conditions.specs.Words.{bare, wordSet, wordRelation}
+use Rattle.conditions.specs.Words.{wordSet, wordRelation}
 use Rattle.conditions.proofs.tables.is_ending_in.Statement.{statement}
 use Rattle.conditions.proofs.tables.is_ending_in.Tie as tie
 
 abbrev Inv-loop : tie.InvT-loop
-Inv-loop n work part a p held₀ s₀ held s = (s ≤ n) × (held ≡ all s (λ u. sameSet (bare n) (wordRelation n work part u) (λ t. wordRelation n work a u t && wordSet n work p t)))
+Inv-loop n work part a p held₀ s₀ held s = (s ≤ n) × (held ≡ all s (λ u. sameSet n (wordRelation n work part u) (λ t. wordRelation n work a u t && wordSet n work p t)))
 
 abbrev μ-loop : tie.MeasureT-loop
 μ-loop n work part a p held₀ s₀ held s = n - s

@@ -1,35 +1,36 @@
--- A table lies in itself. Of two tables the rows below s lie in the other's, and `holds-next` adds the next.
+-- A table lies in itself. Of two tables the rows below s lie in the other's, and `all-next` adds the next.
 use Prim.Native.Nat.{_≤_, _-_}
 use native.Mathlib.Omega.{arith}
 use mathlib.Core.Path.{_≡_, _∙_, sym, ap₂, refl}
 use mathlib.Core.Bool.{_&&_}
 use borrow.Author.Needs.{needs}
-use Rattle.states.specs.Search.{must, each, holds}
-use Rattle.semantics.specs.Conditions.{inSet, liesIn}
-use Rattle.conditions.specs.Words.{bare, wordRelation}
-use Rattle.conditions.proofs.Searches.{holds-next, each-done, lies-in-itself}
+use Rattle.states.specs.Search.{all}
+use Rattle.states.proofs.Search.{all-next, all-done}
+use Rattle.semantics.specs.Conditions.{setLiesIn, relationLiesIn}
+use Rattle.conditions.specs.Words.{wordRelation}
+use Rattle.conditions.proofs.Searches.{lies-in-itself}
 use Rattle.conditions.proofs.tables.lies_in.Statement.{statement}
 use Rattle.conditions.proofs.tables.lies_in.Tie as tie
 
 abbrev Inv-loop : tie.InvT-loop
-Inv-loop n work a b held₀ s₀ held s = (s ≤ n) × (held ≡ holds (each s (λ u. inSet (bare n) (wordRelation n work a u) (λ t. must (wordRelation n work b u t)))))
+Inv-loop n work a b held₀ s₀ held s = (s ≤ n) × (held ≡ all s (λ u. setLiesIn n (wordRelation n work a u) (wordRelation n work b u)))
 
 abbrev μ-loop : tie.MeasureT-loop
 μ-loop n work a b held₀ s₀ held s = n - s
 
 loop-holds : tie.Need-loop-holds Inv-loop μ-loop
-unfolding each holds
+unfolding all
 loop-holds c = (omega arith, refl)
 
 loop-again : tie.Need-loop-again Inv-loop μ-loop
-loop-again c = (omega arith, ap₂ _&&_ (c .before .before .loop .inv .1) (c .row-lies-in .ensures) ∙ holds-next _ _)
+loop-again c = (omega arith, ap₂ _&&_ (c .before .before .loop .inv .1) (c .row-lies-in .ensures) ∙ sym (all-next _ _))
 
 returns : tie.Need-returns Inv-loop μ-loop
 returns c = rw (c .if1 .taken) (sym (lies-in-itself _ _))
 
 returns-2 : tie.Need-returns-2 Inv-loop μ-loop
-unfolding liesIn
-returns-2 c = c .before .loop .inv .1 ∙ each-done _ _ _ (c .before .loop .inv .0) (c .loop-test .left)
+unfolding relationLiesIn
+returns-2 c = c .before .loop .inv .1 ∙ all-done _ _ _ (c .before .loop .inv .0) (c .loop-test .left)
 
 pub lies-in-spec : {M : Type 1} → statement M
 lies-in-spec =
