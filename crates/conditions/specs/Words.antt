@@ -10,7 +10,7 @@ use Rattle.states.specs.Sets.{mem}
 use Rattle.states.specs.Relations.{rel}
 use Rattle.semantics.specs.States.{Machine}
 use Rattle.semantics.specs.Derivations.{Spec}
-use Rattle.conditions.specs.declared.Names.{Names}
+use Rattle.semantics.specs.declared.Names.{Names}
 
 -- N states, for the conditions that look at tables alone and at no variable.
 abbrev pub bare : ℕ → Machine
