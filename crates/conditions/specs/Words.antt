@@ -7,7 +7,7 @@ use lib.Dec.{ltb}
 use Rattle.states.specs.Sets.{mem}
 use Rattle.states.specs.Relations.{rel}
 use Rattle.semantics.specs.Derivations.{Spec}
-use Rattle.conditions.specs.declared.Names.{Names}
+use Rattle.semantics.specs.declared.Names.{Names}
 
 -- Set i and relation r over n states.
 unfoldable pub wordSet : ℕ → List ℕ → ℕ → ℕ → Bool

@@ -1,5 +1,6 @@
 // The conditions of document 01 that look at tables alone, each an equation with its definition. A node's tables come by their
 // numbers, its children's beside them.
+use semantics::Names;
 use states::StateSet;
 use states::relations::reach;
 use states::relations::starting;
@@ -26,14 +27,6 @@ ghost use Rattle.semantics.specs.Conditions.{inSet, c31, c32, c33, c34if, c34wh
 ghost use Rattle.conditions.specs.Words.{wordSet, wordRelation, wordSpec};
 
 pub mod tables;
-
-// The tables that a node names, by number: P a set, R, G and Q relations.
-pub struct Names {
-    pub p: u32,
-    pub r: u32,
-    pub g: u32,
-    pub q: u32,
-}
 
 // What others do, by condition: P is stable under it (31), and Q takes it in before (32) and after (33).
 pub struct Kept {

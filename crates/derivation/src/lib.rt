@@ -19,7 +19,7 @@ pub enum NodeHead {
 }
 
 // Two tables that a node names one after the other, with the cursor behind them; or a fault.
-enum Names {
+enum TwoNames {
     Pair(u32, u32, usize),
     Fault(u32, usize),
 }

@@ -26,7 +26,7 @@ use Rattle.expressions.specs.Shapes.{inMask, exprShape}
 use Rattle.values.specs.Values.{statesOf, machineAt, agreeAt}
 use Rattle.values.proofs.Sizes.{size-past}
 use Rattle.values.proofs.Laws.{agree-here}
-use Rattle.conditions.specs.declared.Names.{Names}
+use Rattle.semantics.specs.declared.Names.{Names}
 use Rattle.conditions.specs.Words.{wordSet, wordRelation, wordSpec}
 use Rattle.conditions.proofs.Searches.{holds-inSet, within, part-within}
 use Rattle.conditions.proofs.Words.{set-small}

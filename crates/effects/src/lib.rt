@@ -1,6 +1,5 @@
 // The conditions of document 01 that look at expressions. What an expression says of the states comes as sets and rows, which
 // are computed once for a node: the states where a test is true, those where it is false, and where a store leads.
-use conditions::Names;
 use conditions::tables::leads_into;
 use conditions::tables::row_at;
 use conditions::tables::rows_of;
@@ -11,6 +10,7 @@ use expressions::Header;
 use expressions::expr_shape;
 use expressions::head::read_header;
 use semantics::Kind;
+use semantics::Names;
 use states::StateSet;
 use states::relations::included_from;
 use states::relations::row;

@@ -13,7 +13,7 @@ use Rattle.derivation.specs.declared.NodeHead.{NodeHead}
 use Rattle.derivation.specs.declared.NodeHead.the-variants.{Node, Fault}
 use Rattle.derivation.specs.declared.NodeEnd.{NodeEnd}
 use Rattle.derivation.specs.declared.NodeEnd.the-variants as End
-use Rattle.conditions.specs.declared.Names.{Names}
+use Rattle.semantics.specs.declared.Names.{Names}
 use Rattle.nodes.specs.declared.Own.{Own}
 use Rattle.nodes.specs.declared.Own.the-variants.{Holds, Breaks}
 

@@ -1,6 +1,5 @@
 // What a node owes, by its rule: its conditions in the order of their numbers, each put in front of those behind it. All are
 // looked at; the first that is broken is the answer.
-use conditions::Names;
 use conditions::guarantee_within;
 use conditions::guarantees_within;
 use conditions::if_tables;
@@ -34,6 +33,7 @@ use effects::unmoved;
 use expressions::Header;
 use expressions::head::read_header;
 use handler::Part;
+use semantics::Names;
 use values::truths_at;
 ghost use mathlib.Core.Path.{_≡_};
 ghost use mathlib.Core.Bool.{cond};

@@ -9,7 +9,8 @@ use lib.Dec.{ltb, eqb}
 use borrow.Author.Tests.{lt-ltb, le-ltb, eq-eqb, ne-eqb, eqb-true, eqb-false}
 use Rattle.states.specs.Search.{must}
 use Rattle.semantics.specs.Language.{Stmt}
-use Rattle.semantics.specs.Derivations.{Names, Derivation, skip, assignment, sequence, parallel, conditional, iteration, weaken, nodes, Tables}
+use Rattle.semantics.specs.declared.Names.{Names}
+use Rattle.semantics.specs.Derivations.{Derivation, skip, assignment, sequence, parallel, conditional, iteration, weaken, nodes, Tables}
 use Rattle.semantics.specs.Conditions.{codeOf, firstOf, secondOf}
 use Rattle.semantics.specs.Checking.{Broken, orNumber, firstBroken, orBroken, atNode, owed, firstFault}
 use Rattle.derivation.specs.declared.NodeHead.the-variants.{Node}
@@ -93,7 +94,7 @@ own-first t (weaken h d) S n k e = rw e
 module _ (t : Tables) (pb : List ℕ) (sets relations : ℕ) (S : Stmt) (behind levels node at rule P R G Q K W next : ℕ)
     (head : nodeHead pb sets relations levels node at ≡ Node rule P R G Q K W next) where
   abbrev h : Names
-  h = record { P = P; R = R; G = G; Q = Q }
+  h = record { p = P; r = R; g = G; q = Q }
 
   abbrev here : NodeRead
   here = nodeAt (suc levels) pb sets relations node at

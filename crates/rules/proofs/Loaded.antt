@@ -11,12 +11,12 @@ use borrow.Author.Tests.{ltb-true}
 use Rattle.states.specs.Sets.{mem}
 use Rattle.states.specs.Relations.{rel}
 use Rattle.semantics.specs.States.{product}
-use Rattle.semantics.specs.Derivations.{Names, Tables, Spec, setOf, relationOf, specOf}
+use Rattle.semantics.specs.declared.Names.{Names}
+use Rattle.semantics.specs.Derivations.{Tables, Spec, setOf, relationOf, specOf}
 use Rattle.expressions.specs.Header.{sizesOf}
 use Rattle.derivation.specs.Tables.{inSetOf, inRelationOf}
 use Rattle.derivation.proofs.Membership.{set-member, pair-member}
 use Rattle.rules.specs.declared.Counts.{Counts}
-use Rattle.conditions.specs.declared.Names as Named
 use Rattle.conditions.specs.Words.{wordSet, wordRelation, wordSpec}
 use Rattle.rules.specs.Verdicts.{tablesOf}
 use Rattle.rules.specs.Walks.{Ready}
@@ -26,12 +26,8 @@ twice : (a b : Bool) → (a && (a && b)) ≡ (a && b)
 twice true b = refl
 twice false b = refl
 
--- The names that the code carries, as a node has them.
-abbrev pub names : Named.Names → Names
-names h = record { P = h .p; R = h .r; G = h .g; Q = h .q }
-
 -- A node's names are of tables that there are.
-pub record Known (c : Counts) (h : Named.Names) : Type 0 where
+pub record Known (c : Counts) (h : Names) : Type 0 where
   pub P-known : h .p < c .sets
   pub R-known : h .r < c .relations
   pub G-known : h .g < c .relations
@@ -61,7 +57,7 @@ module _ (hb pb work : List ℕ) (c : Counts) (ready : Ready hb pb work c) (few 
           (twice (ltb s (c .states) && ltb u (c .states)) _)
       by s u false e = rw e
 
-  pub spec-loaded : (h : Named.Names) → Known c h → wordSpec (c .states) work h ≡ specOf t (names h)
+  pub spec-loaded : (h : Names) → Known c h → wordSpec (c .states) work h ≡ specOf t h
   spec-loaded h k = λ i. record {
     P = set-loaded (h .p) (k .P-known) i;
     R = relation-loaded (h .r) (k .R-known) i;

@@ -8,7 +8,8 @@ use lib.Dec.{eqb}
 use borrow.Author.Tests.{eqb-true, eq-eqb, ne-eqb}
 use Rattle.states.specs.Search.{must, holds}
 use Rattle.semantics.specs.Language.{Stmt, if, while}
-use Rattle.semantics.specs.Derivations.{Names, Derivation, skip, assignment, sequence, parallel, conditional, iteration, weaken, namesOf, Tables, Spec, setOf, relationOf, specOf}
+use Rattle.semantics.specs.declared.Names.{Names}
+use Rattle.semantics.specs.Derivations.{Derivation, skip, assignment, sequence, parallel, conditional, iteration, weaken, namesOf, Tables, Spec, setOf, relationOf, specOf}
 use Rattle.semantics.specs.Conditions.{codeOf, targetOf, exprOf}
 use Rattle.semantics.specs.Checking.{skipOwes, assignmentOwes, sequenceOwes, parallelOwes, ifOwes, whileOwes, weakenOwes, firstBroken, owed}
 use Rattle.handler.specs.Statements as Stmts
@@ -18,7 +19,6 @@ use Rattle.derivation.specs.Nodes.{nodeHead, wholeNode, endOf}
 use Rattle.derivation.proofs.Heads.{node-within}
 use Rattle.derivation.proofs.Placement as Placement
 use Rattle.rules.specs.declared.Counts.{Counts}
-use Rattle.conditions.specs.declared.Names as Named
 use Rattle.nodes.specs.declared.Own.{Own}
 use Rattle.nodes.specs.declared.Own.the-variants.{Holds}
 use Rattle.conditions.specs.Words.{bare, wordSet, wordRelation, wordSpec}
@@ -30,7 +30,7 @@ use Rattle.nodes.specs.Owing.{codeAt, targetAt, exprAt, namesAt, nextAt}
 use Rattle.conditions.proofs.Bare.{bare-skip, bare-sequence, bare-parallel, bare-weaken}
 use Rattle.rules.proofs.Sites.{Site, code-of, target-of, sized, here, words-of, expr-of, words-here}
 use Rattle.nodes.proofs.Guards.{first-guarded, on-fit}
-use Rattle.rules.proofs.Loaded.{names, set-loaded, relation-loaded}
+use Rattle.rules.proofs.Loaded.{set-loaded, relation-loaded}
 
 -- What a node owes, by its names and its children's.
 module _ (t : Tables) (S : Stmt) (d : Derivation) (h : Names) where
@@ -61,7 +61,7 @@ module _ (t : Tables) (S : Stmt) (d : Derivation) (h : Names) where
   as-weaken : (b : Derivation) → d ≡ weaken h b → weakenOwes (t .machine) mine (specOf t (namesOf b)) ≡ owed t d S
   as-weaken b e = rw e
 
-module _ (hb pb work : List ℕ) (c : Counts) (at stmt : ℕ) (own : Named.Names) (code expr : ℕ)
+module _ (hb pb work : List ℕ) (c : Counts) (at stmt : ℕ) (own : Names) (code expr : ℕ)
     (site : Site hb pb work c at stmt own code expr) where
   abbrev ready : Ready hb pb work c
   ready = site .ready
@@ -76,7 +76,7 @@ module _ (hb pb work : List ℕ) (c : Counts) (at stmt : ℕ) (own : Named.Names
   T = tablesOf hb pb (c .variables) (c .states) (c .sets)
 
   abbrev h : Names
-  h = record { P = site .P; R = site .R; G = site .G; Q = site .Q }
+  h = record { p = site .P; r = site .R; g = site .G; q = site .Q }
 
   abbrev owes : Own
   owes = ownOf (firstBroken (owed T d S))
@@ -123,7 +123,7 @@ module _ (hb pb work : List ℕ) (c : Counts) (at stmt : ℕ) (own : Named.Names
       ∙ sym (first-guarded (owed T d S))
 
   -- Two children: the right one stands where the left one ends.
-  module _ (left right : Named.Names) (left-is : left ≡ namesAt (nodeHead pb (c .sets) (c .relations) 24 0 (site .first)))
+  module _ (left right : Names) (left-is : left ≡ namesAt (nodeHead pb (c .sets) (c .relations) 24 0 (site .first)))
       (right-is : right ≡ namesAt (nodeHead pb (c .sets) (c .relations) 24 0 (nextAt (endOf (wholeNode pb (c .sets) (c .relations) (site .first))))))
       (no-skip : site .rule ≡ 0 → ⊥) (no-assignment : site .rule ≡ 1 → ⊥) (under : site .rule < 4) where
     two : Placement.TwoBelow pb (c .sets) (c .relations) (site .rule) h (site .first) d (site .next)
@@ -160,7 +160,7 @@ module _ (hb pb work : List ℕ) (c : Counts) (at stmt : ℕ) (own : Named.Names
         ∙ sym (first-guarded (owed T d S))
 
   -- One child.
-  module _ (child : Named.Names) (child-is : child ≡ namesAt (nodeHead pb (c .sets) (c .relations) 24 0 (site .first))) (over : 4 ≤ site .rule) where
+  module _ (child : Names) (child-is : child ≡ namesAt (nodeHead pb (c .sets) (c .relations) 24 0 (site .first))) (over : 4 ≤ site .rule) where
     below : Placement.OneBelow pb (c .sets) (c .relations) (site .rule) h (site .K) (site .W) (site .first) d (site .next)
     below = Placement.child-of-one pb (c .sets) (c .relations) d at (site .next) (site .d-stands) (site .rule) (site .P) (site .R) (site .G) (site .Q) (site .K) (site .W) (site .first) (site .read) over
 

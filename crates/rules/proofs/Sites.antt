@@ -7,7 +7,8 @@ use native.Mathlib.Omega.{arith}
 use lib.Dec.{ltb, eqb}
 use borrow.Author.Tests.{ltb-true, ltb-false}
 use Rattle.semantics.specs.Language.{Expr, Stmt, nil, assign, seq, par, if, while}
-use Rattle.semantics.specs.Derivations.{Names, Derivation, skip, assignment, sequence, parallel, conditional, iteration, weaken, namesOf, Tables, Spec, specOf}
+use Rattle.semantics.specs.declared.Names.{Names}
+use Rattle.semantics.specs.Derivations.{Derivation, skip, assignment, sequence, parallel, conditional, iteration, weaken, namesOf, Tables, Spec, specOf}
 use Rattle.semantics.specs.Conditions.{codeOf, targetOf, exprOf}
 use Rattle.handler.specs.Statements as Stmts
 use Rattle.handler.specs.Shapes.{partAt}
@@ -19,13 +20,12 @@ use Rattle.derivation.specs.Nodes.{NodeRead, whole, fault, alone, overTwo, over
 use Rattle.derivation.proofs.Heads.{node-within}
 use Rattle.derivation.proofs.Placement as Placement
 use Rattle.rules.specs.declared.Counts.{Counts}
-use Rattle.conditions.specs.declared.Names as Named
 use Rattle.conditions.specs.Words.{wordSpec}
 use Rattle.effects.specs.Places.{machineHere, exprHere}
 use Rattle.rules.specs.Verdicts.{tablesOf}
 use Rattle.rules.specs.Walks.{stmtIn, nodeIn, isNode, Ready}
 use Rattle.nodes.specs.Owing.{codeAt, targetAt, exprAt, namesAt}
-use Rattle.rules.proofs.Loaded.{names, Known, spec-loaded}
+use Rattle.rules.proofs.Loaded.{Known, spec-loaded}
 
 -- The names of a node of each number of children.
 names-alone : (rule : ℕ) (h : Names) → namesOf (alone rule h) ≡ h
@@ -88,16 +88,16 @@ module _ (hb pb work : List ℕ) (c : Counts) (ready : Ready hb pb work c) where
   unfolding machineHere
   here = rw (ready .header)
 
-  loaded : (h : Named.Names) → Known c h → wordSpec (c .states) work h ≡ specOf t (names h)
+  loaded : (h : Names) → Known c h → wordSpec (c .states) work h ≡ specOf t h
   loaded = spec-loaded hb pb work c ready (sized .most) (sym (sized .total))
 
   -- The head of a derivation names what the derivation does.
   head-names : (d : Derivation) (at next : ℕ) → Stands d at next → (rule P R G Q K W first : ℕ)
-      → head-at at ≡ Node rule P R G Q K W first → namesOf d ≡ record { P = P; R = R; G = G; Q = Q }
+      → head-at at ≡ Node rule P R G Q K W first → namesOf d ≡ record { p = P; r = R; g = G; q = Q }
   head-names d at next stands rule P R G Q K W first read = by (ltb rule 2) refl (ltb rule 4) refl
     where
       h : Names
-      h = record { P = P; R = R; G = G; Q = Q }
+      h = record { p = P; r = R; g = G; q = Q }
 
       by : (leaf : Bool) → ltb rule 2 ≡ leaf → (two : Bool) → ltb rule 4 ≡ two → namesOf d ≡ h
       by true e two f =
@@ -133,7 +133,7 @@ module _ (hb pb work : List ℕ) (c : Counts) (ready : Ready hb pb work c) where
   expr-of at (if e b) p no-nil no-seq no-par = expr-here _ e (p .0)
   expr-of at (while e b) p no-nil no-seq no-par = expr-here _ e (p .0)
 
-  pub words-here : (h : Named.Names) → wordSpec (machineHere hb .states) work h ≡ wordSpec (c .states) work h
+  pub words-here : (h : Names) → wordSpec (machineHere hb .states) work h ≡ wordSpec (c .states) work h
   words-here h = ap (λ k. wordSpec k work h) (ap (λ m. m .states) here ∙ sym (sized .total))
 
   -- A derivation that was read stands in its place.
@@ -147,7 +147,7 @@ module _ (hb pb work : List ℕ) (c : Counts) (ready : Ready hb pb work c) where
       by (fault k place) e read = absurd (false≢true read)
 
 -- What the code has read at a node and at its statement.
-pub record Site (hb pb work : List ℕ) (c : Counts) (at stmt : ℕ) (own : Named.Names) (code expr : ℕ) : Type 0 where
+pub record Site (hb pb work : List ℕ) (c : Counts) (at stmt : ℕ) (own : Names) (code expr : ℕ) : Type 0 where
   pub ready : Ready hb pb work c
   pub next : ℕ
   pub d-stands : Placement.Stands pb (c .sets) (c .relations) (nodeIn (wholeNode pb (c .sets) (c .relations) at)) at next

@@ -84,17 +84,17 @@ module _ {hb pb : List ℕ} {c : Counts} {n at levels s rule next : ℕ} (x : Se
   pub leaf : rule < 2 → Through (n + 1) next (behind s) ≡ walkOn t (node levels n at) (stmt s) (behind s) n
   leaf low =
       let alone-is = sym level ∙ read-alone t pb (c .sets) (c .relations) (stmt s) (behind s) (levels - 1) n at rule P R G Q K W next head low in
-      let d-is : d ≡ alone rule (record { P = P; R = R; G = G; Q = Q }) = cc in
+      let d-is : d ≡ alone rule (record { p = P; r = R; g = G; q = Q }) = cc in
       rw (up, add-one, walk-alone t pb (c .sets) (c .relations) (stmt s) (behind s) (levels - 1) n at rule P R G Q K W next head low (rw d-is at clear))
 
   whole-stmt : Stands hb (c .variables) s (stmt s)
   whole-stmt = stands hb (c .variables) s standing
 
   -- Which of the two a node with children is.
-  two-kids : 2 ≤ rule → rule < 4 → Children (overTwo rule (record { P = P; R = R; G = G; Q = Q })) (node (levels - 1) (suc n) next) (node (levels - 1)) d after end
+  two-kids : 2 ≤ rule → rule < 4 → Children (overTwo rule (record { p = P; r = R; g = G; q = Q })) (node (levels - 1) (suc n) next) (node (levels - 1)) d after end
   two-kids over low = read-two t pb (c .sets) (c .relations) (stmt s) (behind s) (levels - 1) n at rule P R G Q K W next head over low d after end level
 
-  one-kid : 4 ≤ rule → Child (overOne rule (record { P = P; R = R; G = G; Q = Q }) K W) (node (levels - 1) (suc n) next) d after end
+  one-kid : 4 ≤ rule → Child (overOne rule (record { p = P; r = R; g = G; q = Q }) K W) (node (levels - 1) (suc n) next) d after end
   one-kid over = read-one t pb (c .sets) (c .relations) (stmt s) (behind s) (levels - 1) n at rule P R G Q K W next head over d after end level
 
   -- The statement has the node's rule, unless this is a weaken.
@@ -176,7 +176,7 @@ module _ {hb pb : List ℕ} {c : Counts} {n at levels s rule next : ℕ} (x : Se
           let kids = two-kids over low in
           by (firstFault t (kids .left) (under rule (stmt s)) (suc n)) kids (rw (kids .left-read) at (sym walked-under ∙ is))
         where
-          by : (o : Option Checking.Broken) (kids : Children (overTwo rule (record { P = P; R = R; G = G; Q = Q })) (node (levels - 1) (suc n) next) (node (levels - 1)) d after end)
+          by : (o : Option Checking.Broken) (kids : Children (overTwo rule (record { p = P; r = R; g = G; q = Q })) (node (levels - 1) (suc n) next) (node (levels - 1)) d after end)
               → wayOf o (kids .between) (kids .middle) (behind first) ≡ Through a e b → (isNode (node (levels - 1) a e) ≡ true) × (b ≡ behind first)
           by none kids way =
               let a-is : kids .between ≡ a = cc in

@@ -40,7 +40,7 @@ isStmt (Stmts.fault k place) = false
 
 abbrev pub nodeIn : NodeRead → Derivation
 nodeIn (whole d before next) = d
-nodeIn (fault k place) = skip (record { P = 0; R = 0; G = 0; Q = 0 })
+nodeIn (fault k place) = skip (record { p = 0; r = 0; g = 0; q = 0 })
 
 abbrev pub isNode : NodeRead → Bool
 isNode (whole d before next) = true

@@ -12,9 +12,10 @@ use Rattle.states.specs.Search.{all, Search, must, given, named, orElse, each}
 use Rattle.states.specs.Relations.{Reached, here, more, reach}
 use Rattle.states.proofs.Search.{and-left, and-right, and-both, or-left, or-right, or-cases, implies-at, all-at, any-at, not-true-false, true-or-false, beq-true, must-none, given-none, orElse-none, each-none}
 use Rattle.states.proofs.Reach.{Between, reach-exact}
+use Rattle.semantics.specs.declared.Names.{Names}
 use Rattle.semantics.specs.Language.{Val, int, truth, Expr, eqZ}
 use Rattle.semantics.specs.States.{Machine, value, isTruth, storeOf}
-use Rattle.semantics.specs.Derivations.{Names, Tables, Spec, setOf, relationOf, specOf}
+use Rattle.semantics.specs.Derivations.{Tables, Spec, setOf, relationOf, specOf}
 use Rattle.semantics.specs.Conditions.{occurrences, inSet, sameSet, sameRelation, setLiesIn, relationLiesIn, isTrue, isFalse, afterStore, inRange, toAfter, moves, unmoved, c31, c32, c33, c35, c40, c41, c42, c43, c34if, c45, c46, c34while, c50, c51, c52, c53, c54, c55, c56, c34sequence, c60, c61, c34parallel, c65, c66, c70, c71, c72, c73}
 use Rattle.semantics.proofs.Safe.{Star, stay, then}
 use Rattle.semantics.proofs.Composition.{Change}
@@ -37,7 +38,7 @@ relation-in t i s u h =
     (ltb-true s _ (and-left (ltb s _) _ both), ltb-true u _ (and-right (ltb s (t .machine .states)) _ both))
 
 pub within : (t : Tables) (h : Names) → Within (t .machine .states) (specOf t h)
-within t h = record { P-in = set-in t (h .P); R-in = relation-in t (h .R); G-in = relation-in t (h .G); Q-in = relation-in t (h .Q) }
+within t h = record { P-in = set-in t (h .p); R-in = relation-in t (h .r); G-in = relation-in t (h .g); Q-in = relation-in t (h .q) }
 
 -- A value that a test finds.
 pub is-truth : (b : Bool) (o : Option Val) → isTruth b o ≡ true → o ≡ some (truth b)

@@ -8,7 +8,7 @@ use lib.Dec.{eqb}
 use Rattle.states.specs.Search.{Search, must}
 use Rattle.semantics.specs.Language.{Expr, Stmt}
 use Rattle.semantics.specs.States.{Machine}
-use Rattle.semantics.specs.Derivations.{Names, Derivation, skip, assignment, sequence, parallel, conditional, iteration, weaken, namesOf, nodes, Tables, Spec, setOf, relationOf, specOf}
+use Rattle.semantics.specs.Derivations.{Derivation, skip, assignment, sequence, parallel, conditional, iteration, weaken, namesOf, nodes, Tables, Spec, setOf, relationOf, specOf}
 use Rattle.semantics.specs.Conditions.{codeOf, targetOf, exprOf, firstOf, secondOf, isTrue, isFalse, c31, c32, c33, c35, c40, c41, c42, c43, c34if, c45, c46, c34while, c50, c51, c52, c53, c54, c55, c56, c34sequence, c60, c61, c34parallel, c65, c66, c70, c71, c72, c73}
 
 -- A condition by its number, and what looking for a breach of it finds.

@@ -9,7 +9,7 @@ use borrow.Author.Needs.{needs}
 use Rattle.states.specs.Search.{Search, must, given, each, holds}
 use Rattle.states.specs.Relations.{rel, reach}
 use Rattle.semantics.specs.Conditions.{inSet, c66}
-use Rattle.conditions.specs.declared.Names.{Names}
+use Rattle.semantics.specs.declared.Names.{Names}
 use Rattle.conditions.specs.Words.{wordSet, wordRelation}
 use Rattle.conditions.proofs.Searches.{holds-next, each-done, given-cong}
 use Rattle.conditions.proofs.Words.{set-small, relation-pairs, join-pairs, reach-rows, Pairs}
