@@ -1,2 +1,2 @@
--- Laws of a node's answer; each function's proof stands in its own folder.
-pub mod Guards
+-- The law that the rules' proofs share.
+pub mod Asking

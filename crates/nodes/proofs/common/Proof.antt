@@ -1,18 +1,21 @@
--- 30 to 33, each in front of the next.
+-- 30 to 33, one after the other.
 use mathlib.Core.Path.{refl, sym}
 use borrow.Author.Needs.{needs}
 use Rattle.states.proofs.Search.{holds-must}
-use Rattle.nodes.proofs.Guards.{link}
+use Rattle.nodes.proofs.Asking.{then}
 use Rattle.nodes.proofs.common.Statement.{statement}
 use Rattle.nodes.proofs.common.Tie as tie
 
 returns : tie.Need-returns
 returns c =
     let held = c .before .before .before .before .steady .ensures in
-    link 30 _ (c .unless4 .ensures) (sym (holds-must _))
-    (link 31 _ (c .before .unless3 .ensures) (held .0)
-    (link 32 _ (c .before .before .unless2 .ensures) (held .1 .0)
-    (link 33 _ (c .before .before .before .unless .ensures) (held .1 .1) refl)))
+    then 33 _
+    (then 32 _
+    (then 31 _
+    (then 30 _ refl (c .before .before .before .ask .ensures) (sym (holds-must _)))
+    (c .before .before .ask2 .ensures) (held .0))
+    (c .before .ask3 .ensures) (held .1 .0))
+    (c .ask4 .ensures) (held .1 .1)
 
 pub common-spec : {M : Type 1} → statement M
 common-spec =
