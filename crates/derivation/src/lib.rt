@@ -1,7 +1,10 @@
 // The proof file, read from its bits: the tables go into the caller's work words, and a node is the number of its first bit.
+use semantics::Names;
+
 pub mod header;
 pub mod nodes;
 pub mod reading;
+pub mod table;
 mod wide;
 pub mod words;
 
@@ -34,4 +37,15 @@ pub enum NodeEnd {
 pub enum ProofFile {
     Proof(u32, u32, usize),
     Fault(u32, usize),
+}
+
+// A node as the table keeps it: its rule, the tables that it names (K and W are 0 but at a while), the number of the node
+// after its first child (after itself where it has none), and the bit at which it begins.
+pub struct Node {
+    pub rule: u32,
+    pub names: Names,
+    pub k: u32,
+    pub w: u32,
+    pub after: u32,
+    pub bit: usize,
 }
