@@ -1,7 +1,7 @@
 -- The number is the code of the check's verdict, and the words and the promise are the check's.
 use mathlib.Core.Path.{_∙_, ap, subst}
 use borrow.Author.Needs.{needs}
-use Rattle.rules.specs.Verdicts.{Upheld}
+use Rattle.checker.specs.Verdicts.{Upheld}
 use Rattle.report.specs.Code.{codeOf}
 use Rattle.host.proofs.handover_check.Statement.{statement}
 use Rattle.host.proofs.handover_check.Tie as tie

@@ -1,0 +1,84 @@
+-- Document 01, "Who can cause which number" and "Order": 1, 2, the handler file front to back, 16, the proof file front to
+-- back, nodes by number, conditions by number, 80 last.
+use Prim.Native.Nat.{ℕ, _-_, _^_}
+use mathlib.Core.Path.{_≡_}
+use mathlib.Core.Bool.{Bool, true, false, cond, _||_}
+use mathlib.Core.List.{List}
+use mathlib.Core.Option.{Option, none, some}
+use lib.ListN.{length}
+use lib.Dec.{ltb}
+use Rattle.semantics.specs.Language.{Stmt}
+use Rattle.semantics.specs.States.{machineOf}
+use Rattle.semantics.specs.StepNumber.{steps}
+use Rattle.semantics.specs.Derivations.{Derivation, Tables, namesOf, specOf}
+use Rattle.semantics.specs.Checking.{Broken, firstFault}
+use Rattle.semantics.specs.Promise.{Promise}
+use Rattle.expressions.specs.Header.{sizesOf}
+use Rattle.handler.specs.Reading.{HandlerRead, handler, refused, readHandler}
+use Rattle.derivation.specs.Tables.{inSetOf, inRelationOf, tableWord, written}
+use Rattle.derivation.specs.Reading as Proofs
+use Rattle.checker.specs.declared.Place.{Place}
+use Rattle.checker.specs.declared.Place.the-variants.{Bit, Node}
+use Rattle.checker.specs.declared.Verdict.{Verdict}
+use Rattle.checker.specs.declared.Verdict.the-variants.{Accepted, Refused}
+
+-- A fault carries its number and a place that is a bit or a node.
+abbrev pub refusedAt : ℕ → Place → Verdict
+refusedAt k place = Refused (record { number = k; place = place })
+
+-- The tables as the proof file holds them, over the variables of the handler file.
+abbrev pub tablesOf : List ℕ → List ℕ → ℕ → ℕ → ℕ → Tables
+tablesOf hb pb count n sets =
+    record { machine = machineOf (sizesOf hb count); sets = inSetOf pb n; relations = inRelationOf pb n sets }
+
+-- What the check answers and leaves in the work words: whether it writes to them, and what the first 1,040 then hold.
+pub record Answer : Type 0 where
+  pub verdict : Verdict
+  pub writes : Bool
+  pub words : ℕ → ℕ
+
+-- 1 and 2 write nothing; every other refusal leaves the words 0.
+abbrev pub untouched : Verdict → Answer
+untouched v = record { verdict = v; writes = false; words = λ j. 0 }
+
+abbrev pub cleared : Verdict → Answer
+cleared v = record { verdict = v; writes = true; words = λ j. 0 }
+
+abbrev pub loaded : Verdict → (ℕ → ℕ) → Answer
+loaded v words = record { verdict = v; writes = true; words = words }
+
+-- 80: the step number is over the limit, at node 0.
+abbrev pub onSteps : ℕ → (ℕ → ℕ) → Answer
+onSteps k words = cond (ltb (2 ^ 32 - 1) k) (cleared (refusedAt 80 (Node 0))) (loaded (Accepted k) words)
+
+abbrev pub onFault : Option Broken → ℕ → (ℕ → ℕ) → Answer
+onFault none k words = onSteps k words
+onFault (some b) k words = cleared (refusedAt (b .number) (Node (b .node)))
+
+module _ (hb pb : List ℕ) where
+  abbrev pub onProof : ℕ → ℕ → Stmt → Proofs.ProofRead → Answer
+  onProof count n S (Proofs.refused k place) = cleared (refusedAt k (Bit place))
+  onProof count n S (Proofs.proof sets relations root d) =
+      onFault (firstFault (tablesOf hb pb count n sets) d S 0) (steps n S) (tableWord pb n sets relations)
+
+  abbrev pub onHandler : HandlerRead → Answer
+  onHandler (refused k place) = cleared (refusedAt k (Bit place))
+  onHandler (handler count n at S) = onProof count n S (Proofs.readProof pb n)
+
+  -- The answer to two files with so many work words.
+  unfoldable pub answer : ℕ → Answer
+  answer words =
+      cond (ltb words 1040) (untouched (refusedAt 1 (Bit 0)))
+      (cond (ltb 16384 (length hb) || ltb 16384 (length pb)) (untouched (refusedAt 2 (Bit 0))) (onHandler (readHandler hb)))
+
+  -- The work words at exit.
+  unfoldable pub workAfter : List ℕ → List ℕ
+  workAfter work = cond (answer (length work) .writes) (written (answer (length work) .words) work) work
+
+-- Demand 3 of the bytes themselves: what acceptance promises of the handler file's whole statement, with the root's P, R, G
+-- and Q as the proof file holds them.
+pub record Upheld (hb pb : List ℕ) (v : Verdict) : Type 0 where
+  pub upheld : (bound : ℕ) → v ≡ Accepted bound
+      → (count n at : ℕ) (S : Stmt) → readHandler hb ≡ handler count n at S
+      → (sets relations root : ℕ) (d : Derivation) → Proofs.readProof pb n ≡ Proofs.proof sets relations root d
+      → Promise (machineOf (sizesOf hb count)) S (specOf (tablesOf hb pb count n sets) (namesOf d)) bound
