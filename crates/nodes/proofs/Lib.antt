@@ -1,2 +1,0 @@
--- The law that the rules' proofs share.
-pub mod Asking

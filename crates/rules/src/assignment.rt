@@ -1,0 +1,68 @@
+// The assignment rule.
+use crate::tables::row_at;
+use crate::tables::rows_of;
+use crate::tables::set_at;
+use semantics::Names;
+use states::StateSet;
+use states::relations::included_from;
+use states::relations::row;
+use states::relations::starting;
+use values::successors;
+ghost use mathlib.Core.Path.{_≡_};
+ghost use mathlib.Core.Bool.{_&&_, _||_};
+ghost use Prim.Native.Nat.{ℕ};
+ghost use lib.Dec.{ltb, eqb};
+ghost use Rattle.states.specs.Search.{must, holds, any};
+ghost use Rattle.states.specs.Relations.{rel};
+ghost use Rattle.semantics.specs.Conditions.{inSet};
+ghost use Rattle.rules.specs.Words.{wordSet, wordRelation};
+ghost use Rattle.rules.specs.Places.{afterHere};
+
+// 40, by the rows that say where a store leads: every s in P has an end.
+pub fn in_range(n: u32, work: &[u64], own: Names, after: &[u64]) -> bool
+    ensures { λ out.
+        ⌜ out ≡ holds (inSet n (wordSet n (now (work .entry)) (own .p)) (λ s. must (any n (rel n (now (after .entry)) s)))) ⌝ }
+{
+    set_at(n, work, own.p).included(starting(n, after))
+}
+
+// 42, by the same rows: s in P, s′ its end: (s,s′) in Q.
+pub fn store_in_post(n: u32, work: &[u64], own: Names, after: &[u64]) -> bool
+    ensures { λ out.
+        ⌜ out ≡ holds (inSet n (wordSet n (now (work .entry)) (own .p)) (λ s. inSet n (rel n (now (after .entry)) s)
+        (λ t. must (wordRelation n (now (work .entry)) (own .q) s t)))) ⌝ }
+{
+    included_from(n, set_at(n, work, own.p), after, rows_of(work, own.q))
+}
+
+// Whether the end of a store at s is s or makes a pair of G.
+fn guaranteed_at(n: u32, work: &[u64], own: Names, after: &[u64], s: u32) -> bool
+    ensures { λ out.
+        ⌜ out ≡ holds (inSet n (rel n (now (after .entry)) s) (λ t. must (eqb t s || wordRelation n (now (work .entry)) (own .g) s t))) ⌝ }
+{
+    let allowed = StateSet::single(s).join(row_at(n, work, own.g, s));
+    row(n, after, s).included(allowed)
+}
+
+// 43, by the same rows: s in P, s′ its end: s′ = s or (s,s′) in G.
+pub fn store_in_guarantee(n: u32, work: &[u64], own: Names, after: &[u64]) -> bool
+    ensures { λ out.
+        ⌜ out ≡ holds (inSet n (wordSet n (now (work .entry)) (own .p)) (λ s. inSet n (rel n (now (after .entry)) s)
+        (λ t. must (eqb t s || wordRelation n (now (work .entry)) (own .g) s t)))) ⌝ }
+{
+    let mut rest = set_at(n, work, own.p);
+    let mut held = true;
+    while rest.bits != 0 {
+        let first = u64::trailing_zeros(rest.bits);
+        held = held & guaranteed_at(n, work, own, after, first);
+        rest = rest.without_least();
+    }
+    held
+}
+
+// Where a store in variable v of the expression at a cursor leads from each state.
+pub fn after_rows(src: &[u8], v: u32, at: usize) -> [u64; 64]
+    ensures { λ out. ⌜ ((n s t : ℕ) → rel n out s t ≡ (ltb s n && ltb t n && afterHere (now (src .entry)) v at s t)) ⌝ }
+{
+    successors(src, v, at)
+}

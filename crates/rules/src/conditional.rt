@@ -1,0 +1,34 @@
+// The if rule.
+use crate::tables::same_relation;
+use crate::tables::same_set;
+use crate::tables::set_at;
+use crate::tables::stays;
+use semantics::Names;
+use states::StateSet;
+ghost use mathlib.Core.Path.{_≡_};
+ghost use Rattle.states.specs.Search.{holds};
+ghost use Rattle.states.specs.Sets.{has};
+ghost use Rattle.semantics.specs.Conditions.{c34if, c46};
+ghost use Rattle.rules.specs.Words.{wordSpec};
+
+// 34, if: P and the test true; same R, G, Q. The states where the test is true are given.
+pub fn if_tables(n: u32, work: &[u64], own: Names, truth: StateSet, child: Names) -> bool
+    ensures { λ out.
+        ⌜ out ≡ holds (c34if n (wordSpec n (now (work .entry)) own) (has truth) (wordSpec n (now (work .entry)) child)) ⌝ }
+{
+    same_set(
+        n,
+        set_at(n, work, child.p),
+        set_at(n, work, own.p).meet(truth),
+    )
+        & same_relation(n, work, child.r, own.r)
+        & same_relation(n, work, child.g, own.g)
+        & same_relation(n, work, child.q, own.q)
+}
+
+// 46: s in P, test false: (s,s) in Q.
+pub fn skip_satisfies_post(n: u32, work: &[u64], own: Names, falsity: StateSet) -> bool
+    ensures { λ out. ⌜ out ≡ holds (c46 n (wordSpec n (now (work .entry)) own) (has falsity)) ⌝ }
+{
+    stays(n, work, set_at(n, work, own.p).meet(falsity), own.q)
+}
