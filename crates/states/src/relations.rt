@@ -153,19 +153,14 @@ pub fn same_members(n: u32, a: &[u64], b: &[u64]) -> bool
     held
 }
 
-// The states reached from the set by zero or more pairs. Each round adds the ends of the pairs that start in the frontier, the
-// states that the round before added; n rounds reach all, and a round that adds none is the last.
+// The states reached from the set by zero or more pairs. Each of n rounds adds the ends of the pairs that start in what is
+// reached already.
 pub fn reach(n: u32, rows: &[u64], from: StateSet) -> StateSet
     ensures { λ r. ⌜ ((t : ℕ) → (has r t ≡ true) ↔ Reached (has from) (rel n (now (rows .entry))) t) ⌝ }
 {
     let mut reached = from;
-    let mut frontier = from;
     for _ in 0..n {
-        if frontier.bits == 0 {
-            return reached;
-        }
-        frontier = image(n, frontier, rows).narrow(reached);
-        reached = reached.join(frontier);
+        reached = reached.join(image(n, reached, rows));
     }
     reached
 }
