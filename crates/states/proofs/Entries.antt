@@ -1,5 +1,5 @@
 -- 64 entries that a loop fills from the first on: those below k are as wanted, the others as they were made.
-use Prim.Native.Nat.{ℕ, _+_, _<_, _≤_}
+use Prim.Native.Nat.{ℕ, _+_, _<_, _≤_, zero-le}
 use native.Mathlib.Nat.{not-suc-le-zero}
 use native.Mathlib.Numerals.{add-one}
 use native.Mathlib.Decide.{decLt}
@@ -34,3 +34,7 @@ module _ {A : Type 0} (d : A) (P : ℕ → A → Type 0) where
           below-cases (λ i. P i (getD (set row k x) i d)) k s (rw add-one at h)
           (rw (getD-set-same row k x d (omega (arith, old .long))) new)
           (λ low. rw (getD-set-other row k s x d (omega arith)) (old .hold s low))
+
+-- A row as it is made is of the same entry, past its end too.
+pub entry-none : {A : Type 0} (d : A) (s : ℕ) → getD (replicate 64 d) s d ≡ d
+entry-none d s = entries-none d (λ s x. Unit {0}) .rest s zero-le
