@@ -2,7 +2,7 @@
 use mathlib.Core.Path.{refl}
 use borrow.Author.Needs.{needs}
 use lib.IntN.{pos}
-use Rattle.values.proofs.Rows.{entry-none}
+use Rattle.states.proofs.Entries.{entry-none}
 use Rattle.values.proofs.nothing.Statement.{statement}
 use Rattle.values.proofs.nothing.Tie as tie
 

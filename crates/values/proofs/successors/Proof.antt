@@ -24,7 +24,7 @@ use Rattle.values.specs.declared.After.the-variants.{OutOfRange}
 use Rattle.values.specs.Values.{integerIn, valueIn, afterOf, leads, afterAt}
 use Rattle.values.proofs.Sizes.{sound}
 use Rattle.values.proofs.Laws.{count-read, at-most, after-here, after-past, fault-past, state-past}
-use Rattle.values.proofs.Rows.{Entries, entries-none, entries-more, entry-none}
+use Rattle.states.proofs.Entries.{Entries, entries-none, entries-more, entry-none}
 use Rattle.values.proofs.Walking.{RowAt, whole-value}
 use Rattle.values.proofs.successors.Statement.{statement}
 use Rattle.values.proofs.successors.Tie as tie

@@ -1,7 +1,7 @@
 -- Every integer of the row is 0, past its end too.
 use mathlib.Core.Path.{refl}
 use lib.IntN.{pos}
-use Rattle.values.proofs.Rows.{entry-none}
+use Rattle.states.proofs.Entries.{entry-none}
 use Rattle.values.proofs.truths_of.Statement.{statement}
 use Rattle.values.proofs.truths_of.Tie as tie
 

@@ -4,6 +4,7 @@ use mathlib.Core.Path.{_≡_, _∙_, refl}
 use mathlib.Core.Bool.{Bool, true, false, _&&_, _||_}
 use lib.Dec.{ltb}
 use borrow.Author.Needs.{needs}
+use Rattle.states.proofs.Rows.{union-rel}
 use Rattle.rules.specs.Words.{wordRelation}
 use Rattle.rules.proofs.parallel.changes.Statement.{statement}
 use Rattle.rules.proofs.parallel.changes.Tie as tie
@@ -20,10 +21,10 @@ returns c s t =
     let r : ℕ → Bool = λ i. wordRelation (a .n) (a .work .now) i s t in
     simp (
       c .before .rows-of3 .ensures,
-      c .before .before .before .union-of .ensures,
+      union-rel _ _ _ (c .before .before .before .union-of .result) (c .before .before .before .union-of .ensures),
       c .before .before .before .before .rows-of2 .ensures,
       c .before .before .before .before .before .rows-of .ensures,
-    ) at (c .union-of2 .ensures s t)
+    ) at (union-rel _ _ _ (c .union-of2 .result) (c .union-of2 .ensures) s t)
     ∙ once (ltb s 64) (r (a .r) || r (a .left)) (r (a .right))
 
 pub changes-spec : {M : Type 1} → statement M

@@ -11,7 +11,7 @@ use lib.Signed.{mag}
 use mir.Syntax.{w64}
 use mir.Facts.{toZ-ofZ}
 use Rattle.semantics.specs.Language.{int, ofIntegers}
-use Rattle.values.proofs.Rows.{Entries, entries-none, entries-more}
+use Rattle.states.proofs.Entries.{Entries, entries-none, entries-more}
 use Rattle.values.proofs.pointwise.sum_row.Statement.{statement}
 use Rattle.values.proofs.pointwise.sum_row.Tie as tie
 

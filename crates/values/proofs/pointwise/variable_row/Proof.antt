@@ -10,7 +10,7 @@ use lib.IntN.{ℤ, pos}
 use mir.Syntax.{w64}
 use mir.Val.{SFits}
 use mir.Facts.{toZ-ofZ}
-use Rattle.values.proofs.Rows.{Entries, entries-none, entries-more}
+use Rattle.states.proofs.Entries.{Entries, entries-none, entries-more}
 use Rattle.values.proofs.Runs.{value-on}
 use Rattle.values.proofs.pointwise.variable_row.Statement.{statement}
 use Rattle.values.proofs.pointwise.variable_row.Tie as tie

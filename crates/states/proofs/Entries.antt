@@ -1,4 +1,4 @@
--- Rows of 64 entries that a loop fills from the first on: those below k are as wanted, the others as they were made.
+-- 64 entries that a loop fills from the first on: those below k are as wanted, the others as they were made.
 use Prim.Native.Nat.{ℕ, _+_, _<_, _≤_, zero-le}
 use native.Mathlib.Nat.{not-suc-le-zero}
 use native.Mathlib.Numerals.{add-one}
