@@ -23,9 +23,9 @@ use Rattle.expressions.specs.declared.ExprShape.the-variants as shape
 use Rattle.expressions.specs.Header.{headerAt, sizesOf}
 use Rattle.expressions.specs.Expressions.{ExprRead, good, bad}
 use Rattle.expressions.specs.Shapes.{inMask, exprShape}
-use Rattle.values.specs.Values.{statesOf, machineAt, agreeAt}
-use Rattle.values.proofs.Sizes.{size-past}
-use Rattle.values.proofs.Laws.{agree-here}
+use Rattle.evaluation.specs.Values.{statesOf, machineAt, agreeAt}
+use Rattle.evaluation.proofs.Sizes.{size-past}
+use Rattle.evaluation.proofs.Laws.{agree-here}
 use Rattle.semantics.specs.declared.Names.{Names}
 use Rattle.rules.specs.Words.{wordSet, wordRelation, wordSpec}
 use Rattle.rules.proofs.Searches.{holds-inSet, within, part-within}

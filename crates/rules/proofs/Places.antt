@@ -17,10 +17,10 @@ use Rattle.semantics.specs.States.{Machine, product, weight, valueOf, stored, m
 use Rattle.semantics.specs.Conditions.{isTrue, isFalse, afterStore}
 use Rattle.expressions.specs.declared.Header.{Header}
 use Rattle.expressions.specs.declared.Header.the-variants.{Sizes, Fault}
-use Rattle.values.specs.declared.After.the-variants.{OutOfRange}
+use Rattle.evaluation.specs.declared.After.the-variants.{OutOfRange}
 use Rattle.expressions.specs.Header.{headerAt, sizesOf}
 use Rattle.expressions.specs.Expressions.{ExprRead, good, bad, wholeExpr}
-use Rattle.values.specs.Values.{countOf, statesOf, afterOf, leads, machineAt, valueRead, valueAt, whereAt, afterAt}
+use Rattle.evaluation.specs.Values.{countOf, statesOf, afterOf, leads, machineAt, valueRead, valueAt, whereAt, afterAt}
 use Rattle.expressions.proofs.Heads.{head-read}
 use Rattle.rules.specs.Places.{machineUnder, machineHere, exprRead, exprUnder, exprHere, leadsTo, afterHere}
 

@@ -7,7 +7,7 @@ use states::StateSet;
 use states::relations::included_from;
 use states::relations::row;
 use states::relations::starting;
-use values::successors;
+use evaluation::successors;
 ghost use mathlib.Core.Path.{_≡_};
 ghost use mathlib.Core.Bool.{_&&_, _||_};
 ghost use Prim.Native.Nat.{ℕ};

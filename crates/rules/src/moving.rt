@@ -10,8 +10,8 @@ use semantics::Kind;
 use semantics::Names;
 use states::StateSet;
 use states::relations::starting;
-use values::agreeing;
-use values::variable_of;
+use evaluation::agreeing;
+use evaluation::variable_of;
 ghost use mathlib.Core.Path.{_≡_};
 ghost use mathlib.Core.Bool.{not, _&&_, _||_};
 ghost use Prim.Native.Nat.{ℕ, _<_};
@@ -21,7 +21,7 @@ ghost use Rattle.rules.specs.Words.{wordRelation, wordSpec};
 ghost use Rattle.states.specs.Search.{any};
 ghost use Rattle.semantics.specs.Conditions.{occurrences, moves};
 ghost use Rattle.expressions.specs.Shapes.{inMask};
-ghost use Rattle.values.specs.Values.{agreeAt};
+ghost use Rattle.evaluation.specs.Values.{agreeAt};
 ghost use Rattle.rules.specs.Places.{machineHere, exprHere};
 
 // Whether relation r leads from any state of the set to one that differs in variable v. The states that agree with the least are

@@ -13,7 +13,7 @@ use Rattle.expressions.specs.declared.Header.the-variants.{Sizes}
 use Rattle.expressions.specs.Header.{headerAt}
 use Rattle.expressions.specs.Shapes.{inMask}
 use Rattle.expressions.proofs.Heads.{head-read}
-use Rattle.values.specs.Values.{agreeAt}
+use Rattle.evaluation.specs.Values.{agreeAt}
 use Rattle.rules.proofs.Movement.{movedFrom, mask-moves, mask-none, moves-none, none-start, starts-moved}
 use Rattle.rules.proofs.moving.moved.Statement.{statement}
 use Rattle.rules.proofs.moving.moved.Tie as tie

@@ -13,8 +13,8 @@ use Rattle.states.specs.Sets.{has}
 use Rattle.states.proofs.Search.{and-left, and-right, and-both, or-right, any-cong}
 use Rattle.states.proofs.Reach.{count, count-more}
 use Rattle.states.proofs.Members.{first-below, first-in, start-below, start-same, Passed, passed-none, passed-part, passed-all}
-use Rattle.values.specs.Values.{agreeAt, agreeIn}
-use Rattle.values.proofs.Laws.{agree-variable}
+use Rattle.evaluation.specs.Values.{agreeAt, agreeIn}
+use Rattle.evaluation.proofs.Laws.{agree-variable}
 use Rattle.rules.specs.Words.{wordRelation}
 use Rattle.rules.proofs.Words.{leads-cong}
 use Rattle.rules.proofs.Movement.{alike, alike-within, not-kept, passed-not}
