@@ -1,6 +1,6 @@
 -- What R moves: a variable is moved where a row of R, from a state of P, leaves the states that agree in it.
 use Prim.Native.Nat.{ℕ, _%_, _^_, _≤_, _<_}
-use native.Mathlib.Nat.{zero-div}
+use native.Mathlib.Nat.{zero-div, le-refl}
 use native.Mathlib.Decide.{decLt}
 use native.Mathlib.Omega.{arith}
 use mathlib.Core.Path.{_≡_, refl, sym, ap, _∙_, fun-ext}
@@ -8,41 +8,38 @@ use mathlib.Core.Logic.{⊎-elim}
 use mathlib.Core.Bool.{Bool, true, false, not, _&&_, _||_, and-false, true≢false}
 use mathlib.Core.List.{List}
 use lib.Dec.{leb, ltb, eqb}
-use borrow.Author.Tests.{lt-ltb, le-ltb, eqb-true}
+use lib.IntN.{ℤ, pos, negsuc}
+use borrow.Author.Tests.{lt-ltb, le-ltb, le-leb, eqb-true}
 use Rattle.states.specs.Search.{implies, all, any, must, holds}
-use Rattle.states.proofs.Search.{and-left, and-right, and-both, or-cases, bool-ext, not-true-false, all-cong, all-not, any-cong, any-none, any-at, holds-must}
-use Rattle.semantics.specs.Language.{Expr, lit, var, op, eqZ}
-use Rattle.semantics.specs.States.{Machine, valueOf}
+use Rattle.states.specs.Sets.{has}
+use Rattle.states.specs.declared.StateSet.{StateSet}
+use Rattle.states.proofs.Search.{and-left, and-right, and-both, or-cases, not-true-false, all-cong, all-not, any-cong, any-none, any-at, holds-must}
+use Rattle.states.proofs.Words.{mem-nought}
+use Rattle.states.proofs.Members.{Passed}
+use Rattle.semantics.specs.declared.Names.{Names}
+use Rattle.semantics.specs.Language.{Expr, eqZ}
+use Rattle.semantics.specs.States.{Machine}
 use Rattle.semantics.specs.Derivations.{Spec}
 use Rattle.semantics.specs.Conditions.{occurrences, inSet, moves, unmoved, c41, c45, c50}
 use Rattle.semantics.proofs.Conditions.{eqZ-true}
-use Rattle.semantics.specs.declared.Kind.{Kind}
-use Rattle.expressions.specs.declared.Header.the-variants.{Sizes, Fault}
-use Rattle.expressions.specs.declared.ExprShape.{ExprShape}
-use Rattle.expressions.specs.declared.ExprShape.the-variants as shape
-use Rattle.expressions.specs.Header.{headerAt, sizesOf}
-use Rattle.expressions.specs.Expressions.{ExprRead, good, bad}
-use Rattle.expressions.specs.Shapes.{inMask, exprShape}
-use Rattle.evaluation.specs.Values.{statesOf, machineAt, agreeAt}
-use Rattle.evaluation.proofs.Sizes.{size-past}
-use Rattle.evaluation.proofs.Laws.{agree-here}
-use Rattle.semantics.specs.declared.Names.{Names}
+use Rattle.expressions.specs.declared.head.Head.{Head}
+use Rattle.expressions.specs.Header.{machineIn}
+use Rattle.expressions.specs.Shapes.{inMask}
+use Rattle.evaluation.specs.Values.{agree}
+use Rattle.evaluation.proofs.Laws.{get-past}
 use Rattle.rules.specs.Words.{wordSet, wordRelation, wordSpec}
 use Rattle.rules.proofs.Searches.{holds-inSet, within, part-within}
 use Rattle.rules.proofs.Words.{set-small}
-use Rattle.states.specs.Sets.{has}
-use Rattle.states.specs.declared.StateSet.{StateSet}
-use Rattle.states.proofs.Words.{mem-nought}
-use Rattle.states.proofs.Members.{Passed}
-use Rattle.states.proofs.Rows.{mem-below}
-use Rattle.rules.specs.Places.{machineHere, exprRead}
-use Rattle.rules.proofs.Places.{states-here}
 use Rattle.rules.proofs.Rows.{any-itself}
 
+eqZ-same : (z : ℤ) → eqZ z z ≡ true
+eqZ-same (pos n) = and-both _ _ (le-leb n n (le-refl n)) (le-leb n n (le-refl n))
+eqZ-same (negsuc n) = and-both _ _ (le-leb n n (le-refl n)) (le-leb n n (le-refl n))
+
 -- Whether s is in P and R leads from it to a state that differs in variable v.
-unfoldable pub movedFrom : List ℕ → ℕ → List ℕ → Names → ℕ → ℕ → Bool
-movedFrom bytes n work own v s =
-    wordSet n work (own .p) s && any n (λ t. wordRelation n work (own .r) s t && not (agreeAt bytes v s t))
+unfoldable pub movedFrom : Machine → List ℕ → Names → ℕ → ℕ → Bool
+movedFrom m work own v s =
+    wordSet (m .states) work (own .p) s && any (m .states) (λ t. wordRelation (m .states) work (own .r) s t && not (agree m v s t))
 
 -- 41, 45 and 50 by any property of variables that says what R moves.
 module _ (m : Machine) (c : Spec) (p : ℕ → Bool) (same : (v : ℕ) → p v ≡ moves m c v) (e : Expr) where
@@ -76,18 +73,18 @@ not-within n a b = ap not (all-cong n _ _ (λ t l. turned (a t) (b t)) ∙ all-n
     twice false = refl
 
 -- The states that agree with s agree with the same states; so does s itself, where it is no state.
-pub alike : (bytes : List ℕ) (v s u : ℕ) → (agreeAt bytes v s u || ltb u 64 && eqb s u) ≡ true → (t : ℕ) → agreeAt bytes v u t ≡ agreeAt bytes v s t
-unfolding agreeAt
-alike bytes v s u e t = ⊎-elim agreed itself (or-cases (agreeAt bytes v s u) _ e)
+pub alike : (m : Machine) (v s u : ℕ) → (agree m v s u || ltb u 64 && eqb s u) ≡ true → (t : ℕ) → agree m v u t ≡ agree m v s t
+unfolding agree
+alike m v s u e t = ⊎-elim agreed itself (or-cases (agree m v s u) _ e)
   where
-    itself : (ltb u 64 && eqb s u) ≡ true → agreeAt bytes v u t ≡ agreeAt bytes v s t
-    itself h = ap (λ x. agreeAt bytes v x t) (sym (eqb-true s u (and-right (ltb u 64) _ h)))
+    itself : (ltb u 64 && eqb s u) ≡ true → agree m v u t ≡ agree m v s t
+    itself h = ap (λ x. agree m v x t) (sym (eqb-true s u (and-right (ltb u 64) _ h)))
 
-    agreed : agreeAt bytes v s u ≡ true → agreeAt bytes v u t ≡ agreeAt bytes v s t
+    agreed : agree m v s u ≡ true → agree m v u t ≡ agree m v s t
     agreed h =
-        let n = statesOf (headerAt bytes) in
+        let n = m .states in
         let both = and-left (ltb s n && ltb u n) _ h in
-        let same : machineAt bytes .get s v ≡ machineAt bytes .get u v = eqZ-true _ _ (and-right (ltb s n && ltb u n) _ h) in
+        let same : m .get s v ≡ m .get u v = eqZ-true _ _ (and-right (ltb s n && ltb u n) _ h) in
         rw (and-left (ltb s n) (ltb u n) both, and-right (ltb s n) (ltb u n) both, same)
 
 -- Ends that lie in one set, from states that all have it for their own.
@@ -120,77 +117,61 @@ unfolding has
 none-start n set f e = any-none n _ (λ s l. rw (e, mem-nought s))
 
 -- Of a set those members will do that start a pair.
-pub starts-moved : (bytes : List ℕ) (n : ℕ) (work : List ℕ) (own : Names) (v : ℕ) (from starts : StateSet)
-    → ((s : ℕ) → has starts s ≡ (ltb s 64 && any n (wordRelation n work (own .r) s)))
-    → ((s : ℕ) → has from s ≡ (wordSet n work (own .p) s && has starts s))
-    → any n (λ s. has from s && any n (λ t. wordRelation n work (own .r) s t && not (agreeAt bytes v s t))) ≡ any n (movedFrom bytes n work own v)
+pub starts-moved : (m : Machine) (work : List ℕ) (own : Names) (v : ℕ) (from starts : StateSet)
+    → ((s : ℕ) → has starts s ≡ (ltb s 64 && any (m .states) (wordRelation (m .states) work (own .r) s)))
+    → ((s : ℕ) → has from s ≡ (wordSet (m .states) work (own .p) s && has starts s))
+    → any (m .states) (λ s. has from s && any (m .states) (λ t. wordRelation (m .states) work (own .r) s t && not (agree m v s t)))
+    ≡ any (m .states) (movedFrom m work own v)
 unfolding movedFrom
-starts-moved bytes n work own v from starts start both =
+starts-moved m work own v from starts start both =
     any-cong n _ _ (λ s l. ap (λ b. b && any n (differs s)) (both s) ∙ part (wordSet n work (own .p) s) (has starts s) _ (λ e o.
     idle s (rw (lt-ltb s 64 (set-small n work (own .p) s e .0)) at (sym (start s) ∙ o))))
   where
+    n : ℕ
+    n = m .states
+
     differs : ℕ → ℕ → Bool
-    differs s t = wordRelation n work (own .r) s t && not (agreeAt bytes v s t)
+    differs s t = wordRelation n work (own .r) s t && not (agree m v s t)
 
     part : (a b c : Bool) → (a ≡ true → b ≡ false → c ≡ false) → (a && b && c) ≡ (a && c)
     part true true c h = refl
     part true false c h = sym (h refl refl)
     part false b c h = refl
 
-    idle : (s : ℕ) → any n (wordRelation n work (own .r) s) ≡ false → any n (λ t. wordRelation n work (own .r) s t && not (agreeAt bytes v s t)) ≡ false
+    idle : (s : ℕ) → any n (wordRelation n work (own .r) s) ≡ false → any n (differs s) ≡ false
     idle s none = any-none n _ (λ t l. rw (any-at n (wordRelation n work (own .r) s) none t l))
 
-module _ (bytes : List ℕ) (count n first : ℕ) (head : headerAt bytes ≡ Sizes count n first) (work : List ℕ) (own : Names) where
-  agree : (v s t : ℕ) → s < n → t < n → agreeAt bytes v s t ≡ eqZ (machineHere bytes .get s v) (machineHere bytes .get t v)
-  unfolding machineHere
-  agree v s t l k = agree-here bytes count n first head v s t ∙ rw (lt-ltb s n l, lt-ltb t n k, head)
+module _ (head : Head) (work : List ℕ) (own : Names) where
+  abbrev m : Machine
+  m = machineIn head
+
+  agreed : (v s t : ℕ) → s < m .states → t < m .states → agree m v s t ≡ eqZ (m .get s v) (m .get t v)
+  unfolding agree
+  agreed v s t l k = rw (lt-ltb s (m .states) l, lt-ltb t (m .states) k)
 
   -- What the words say of a variable is what the states say.
-  moves-here : (v : ℕ) → any n (movedFrom bytes n work own v) ≡ moves (machineHere bytes) (wordSpec (machineHere bytes .states) work own) v
+  moves-here : (v : ℕ) → any (m .states) (movedFrom m work own v) ≡ moves m (wordSpec (m .states) work own) v
   unfolding moves movedFrom
   moves-here v =
-      rw (states-here bytes count n first head)
-      (any-cong n _ _ (λ s l. ap (λ b. wordSet n work (own .p) s && b)
-      (any-cong n _ _ (λ t k. ap (λ b. wordRelation n work (own .r) s t && not b) (agree v s t l k)))))
+      any-cong (m .states) _ _ (λ s l. ap (λ b. wordSet (m .states) work (own .p) s && b)
+      (any-cong (m .states) _ _ (λ t k. ap (λ b. wordRelation (m .states) work (own .r) s t && not b) (agreed v s t l k))))
 
   -- What is no variable has one value, and nothing moves it.
-  moves-past : (c : Spec) (v : ℕ) → count ≤ v → moves (machineHere bytes) c v ≡ false
-  unfolding moves machineHere
+  moves-past : (c : Spec) (v : ℕ) → head .count ≤ v → moves m c v ≡ false
+  unfolding moves
   moves-past c v h =
-      rw head (any-none _ _ (λ s l. ap (λ b. c .P s && b) (any-none _ _ (λ t k. rw (nought s, nought t) (and-false (c .R s t)))) ∙ and-false (c .P s)))
+      any-none _ _ (λ s l. ap (λ b. c .P s && b) (any-none _ _ (λ t k. still s t)) ∙ and-false (c .P s))
     where
-      nought : (s : ℕ) → valueOf (sizesOf bytes count) s v ≡ 0
-      nought s = rw (size-past bytes count v h) (omega arith)
+      still : (s t : ℕ) → (c .R s t && not (eqZ (m .get s v) (m .get t v))) ≡ false
+      still s t = ap (λ x. c .R s t && not (eqZ (m .get s v) x)) (get-past head v s t h) ∙ rw (eqZ-same (m .get s v)) (and-false (c .R s t))
 
   -- The variables found moved are those that R moves.
-  pub mask-moves : (v : ℕ) → any count (λ u. any n (movedFrom bytes n work own u) && eqb u v)
-      ≡ moves (machineHere bytes) (wordSpec (machineHere bytes .states) work own) v
-  mask-moves v = any-itself count (λ u. any n (movedFrom bytes n work own u)) v ∙ at (decLt v count)
+  pub mask-moves : (v : ℕ) → any (head .count) (λ u. any (m .states) (movedFrom m work own u) && eqb u v) ≡ moves m (wordSpec (m .states) work own) v
+  mask-moves v = any-itself (head .count) (λ u. any (m .states) (movedFrom m work own u)) v ∙ at (decLt v (head .count))
     where
-      at : Dec (v < count) → (ltb v count && any n (movedFrom bytes n work own v)) ≡ moves (machineHere bytes) (wordSpec (machineHere bytes .states) work own) v
-      at (yes l) = rw (lt-ltb v count l) (moves-here v)
-      at (no l) = rw (le-ltb v count (omega arith)) (sym (moves-past _ v (omega arith)))
-
--- A file whose head is faulty has no state, so nothing moves.
-pub moves-none : (bytes : List ℕ) (k place : ℕ) → headerAt bytes ≡ Fault k place → (c : Spec) (v : ℕ) → moves (machineHere bytes) c v ≡ false
-unfolding moves machineHere any
-moves-none bytes k place head c v = rw head
+      at : Dec (v < head .count) → (ltb v (head .count) && any (m .states) (movedFrom m work own v)) ≡ moves m (wordSpec (m .states) work own) v
+      at (yes l) = rw (lt-ltb v (head .count) l) (moves-here v)
+      at (no l) = rw (le-ltb v (head .count) (omega arith)) (sym (moves-past _ v (omega arith)))
 
 pub mask-none : (v : ℕ) → inMask 0 v ≡ false
 mask-none v = ap (λ x. eqb (x % 2) 1) (zero-div (2 ^ v))
-
--- No occurrence is of no variable.
-pub none-occur : (p : ℕ → Bool) → ((v : ℕ) → p v ≡ false) → (e : Expr) → occurrences p e ≡ 0
-none-occur p never (lit c) = refl
-none-occur p never (var v) = rw (never v)
-none-occur p never (op o l r) = rw (none-occur p never l, none-occur p never r)
-
--- How many occurrences of masked variables the shape of an expression counts.
-abbrev pub occursIn : ExprShape → ℕ
-occursIn (shape.Whole m e occurs nodes next) = occurs
-occursIn (shape.Fault k place) = 0
-
-pub occurs-here : (wanted : Kind) (mask at : ℕ) (read : ExprRead) → occursIn (exprShape wanted mask at read) ≡ occurrences (inMask mask) (exprRead read)
-unfolding exprShape
-occurs-here wanted mask at (good e nodes next) = refl
-occurs-here wanted mask at (bad k place) = refl

@@ -1,13 +1,20 @@
 // The assignment rule.
+use crate::NodeVerdict;
+use crate::ask;
+use crate::common;
+use crate::moving::moved;
+use crate::moving::unmoved;
 use crate::tables::row_at;
 use crate::tables::rows_of;
 use crate::tables::set_at;
+use evaluation::successors;
+use expressions::head::Head;
+use expressions::head::states_in;
 use semantics::Names;
 use states::StateSet;
 use states::relations::included_from;
 use states::relations::row;
 use states::relations::starting;
-use evaluation::successors;
 ghost use mathlib.Core.Path.{_≡_};
 ghost use mathlib.Core.Bool.{_&&_, _||_};
 ghost use Prim.Native.Nat.{ℕ};
@@ -15,8 +22,13 @@ ghost use lib.Dec.{ltb, eqb};
 ghost use Rattle.states.specs.Search.{must, holds, any};
 ghost use Rattle.states.specs.Relations.{rel};
 ghost use Rattle.semantics.specs.Conditions.{inSet};
-ghost use Rattle.rules.specs.Words.{wordSet, wordRelation};
+ghost use Rattle.rules.specs.Words.{wordSet, wordRelation, wordSpec};
 ghost use Rattle.rules.specs.Places.{afterHere};
+ghost use Rattle.rules.specs.declared.NodeVerdict.the-variants.{Holds};
+ghost use Rattle.rules.specs.Asking.{askedAll};
+ghost use Rattle.expressions.specs.Header.{machineIn};
+ghost use Rattle.evaluation.specs.Values.{exprIn};
+ghost use Rattle.semantics.specs.Checking.{assignmentObligations};
 
 // 40, by the rows that say where a store leads: every s in P has an end.
 pub fn in_range(n: u32, work: &[u64], own: Names, after: &[u64]) -> bool
@@ -60,9 +72,24 @@ pub fn store_in_guarantee(n: u32, work: &[u64], own: Names, after: &[u64]) -> bo
     held
 }
 
-// Where a store in variable v of the expression at a cursor leads from each state.
-pub fn after_rows(src: &[u8], v: u32, at: usize) -> [u64; 64]
-    ensures { λ out. ⌜ ((n s t : ℕ) → rel n out s t ≡ (ltb s n && ltb t n && afterHere (now (src .entry)) v at s t)) ⌝ }
+pub fn assignment_fault(
+    handler: &[u8],
+    head: Head,
+    work: &[u64],
+    own: Names,
+    fits: bool,
+    v: u32,
+    expr: usize,
+) -> NodeVerdict
+    ensures { λ r.
+        ⌜ r ≡ askedAll Holds (assignmentObligations (machineIn head) fits (wordSpec (machineIn head .states) (now (work .entry)) own) v
+        (exprIn (now (handler .entry)) (head .count) expr)) ⌝ }
 {
-    successors(src, v, at)
+    let n = states_in(head);
+    let after = successors(handler, head, v, expr);
+    let found = common(n, work, own, fits);
+    let found = ask(found, 40, in_range(n, work, own, &after));
+    let found = ask(found, 41, unmoved(handler, head, moved(head, work, own), expr));
+    let found = ask(found, 42, store_in_post(n, work, own, &after));
+    ask(found, 43, store_in_guarantee(n, work, own, &after))
 }

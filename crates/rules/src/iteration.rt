@@ -1,10 +1,18 @@
 // The while rule.
+use crate::NodeVerdict;
+use crate::ask;
+use crate::common;
+use crate::moving::moved;
+use crate::moving::read_once;
 use crate::tables::is_ending_in;
 use crate::tables::leads_into;
 use crate::tables::row_at;
 use crate::tables::same_relation;
 use crate::tables::same_set;
 use crate::tables::set_at;
+use evaluation::truths_at;
+use expressions::head::Head;
+use expressions::head::states_in;
 use semantics::Names;
 use states::StateSet;
 ghost use mathlib.Core.Path.{_≡_};
@@ -14,6 +22,11 @@ ghost use Rattle.states.specs.Search.{must, given, holds, implies, all};
 ghost use Rattle.states.specs.Sets.{has};
 ghost use Rattle.semantics.specs.Conditions.{inSet, c34while, c51, c53, c55, c52, c54, c56};
 ghost use Rattle.rules.specs.Words.{wordSet, wordRelation, wordSpec};
+ghost use Rattle.rules.specs.declared.NodeVerdict.the-variants.{Holds};
+ghost use Rattle.rules.specs.Asking.{askedAll};
+ghost use Rattle.expressions.specs.Header.{machineIn};
+ghost use Rattle.evaluation.specs.Values.{exprIn};
+ghost use Rattle.semantics.specs.Checking.{whileObligations};
 
 // 34, while: P met with K; same R, G; Q the pairs of W that end in P.
 pub fn while_tables(n: u32, work: &[u64], own: Names, k: u32, w: u32, child: Names) -> bool
@@ -147,4 +160,35 @@ pub fn exit_satisfies_post(n: u32, work: &[u64], own: Names, w: u32, falsity: St
         rest = rest.without_least();
     }
     held
+}
+
+pub fn while_fault(
+    handler: &[u8],
+    head: Head,
+    work: &[u64],
+    own: Names,
+    k: u32,
+    w: u32,
+    child: Names,
+    fits: bool,
+    expr: usize,
+) -> NodeVerdict
+    ensures { λ r.
+        ⌜ r ≡ askedAll Holds (whileObligations (machineIn head) fits (wordSpec (machineIn head .states) (now (work .entry)) own)
+        (exprIn (now (handler .entry)) (head .count) expr) (wordSet (machineIn head .states) (now (work .entry)) k)
+        (wordRelation (machineIn head .states) (now (work .entry)) w) (wordSpec (machineIn head .states) (now (work .entry)) child)) ⌝ }
+{
+    let n = states_in(head);
+    let test = truths_at(handler, head, expr);
+    let truth = test.holds;
+    let falsity = test.fails;
+    let found = common(n, work, own, fits);
+    let found = ask(found, 34, while_tables(n, work, own, k, w, child));
+    let found = ask(found, 50, read_once(handler, head, moved(head, work, own), expr));
+    let found = ask(found, 51, strict_order(n, work, w));
+    let found = ask(found, 52, enters_k(n, work, own, k, truth));
+    let found = ask(found, 53, keeps_k(n, work, own, k));
+    let found = ask(found, 54, stays_false(n, work, own, falsity));
+    let found = ask(found, 55, rely_descends(n, work, own, w));
+    ask(found, 56, exit_satisfies_post(n, work, own, w, falsity))
 }

@@ -1,12 +1,24 @@
 // The conditions of each rule, on the tables in the work words: each an equation with its definition. A rule asks its conditions from
 // 30 upwards and keeps the first that failed; all are looked at, because an accepted pair needs them all.
-use crate::stability::stable_under_rely;
+use assignment::assignment_fault;
+use conditional::if_fault;
+use derivation::Node;
+use expressions::head::Head;
+use expressions::head::states_in;
+use handler::table::Statement;
+use iteration::while_fault;
+use parallel::parallel_fault;
 use semantics::Names;
+use sequence::sequence_fault;
+use skip::skip_fault;
+use stability::stable_under_rely;
+use weaken::weaken_fault;
 ghost use mathlib.Core.Path.{_≡_};
 ghost use Rattle.rules.specs.Words.{wordSpec};
 ghost use Rattle.semantics.specs.Checking.{common as commonObligations};
 ghost use Rattle.rules.specs.declared.NodeVerdict.the-variants.{Holds};
 ghost use Rattle.rules.specs.Asking.{asked, askedAll};
+ghost use Rattle.rules.specs.Obligations.{obligationsIn};
 
 pub mod assignment;
 pub mod conditional;
@@ -18,6 +30,14 @@ pub mod skip;
 pub mod stability;
 pub mod tables;
 pub mod weaken;
+
+// The codes of the rules, which but for weaken are those of the statements that they fit.
+const SKIP: u32 = 0;
+const ASSIGNMENT: u32 = 1;
+const SEQUENCE: u32 = 2;
+const PARALLEL: u32 = 3;
+const IF: u32 = 4;
+const WHILE: u32 = 5;
 
 // What the conditions asked so far say: all hold, or the number of the first that failed.
 pub enum NodeVerdict {
@@ -50,4 +70,37 @@ pub fn common(n: u32, work: &[u64], own: Names, fits: bool) -> NodeVerdict
     let found = ask(found, 31, held.pre);
     let found = ask(found, 32, held.post_before);
     ask(found, 33, held.post_after)
+}
+
+// What the conditions of a node say over a statement, by the node's rule. The children are those that the rule asks for; a weaken
+// fits every statement.
+pub fn node_fault(
+    handler: &[u8],
+    head: Head,
+    work: &[u64],
+    node: Node,
+    statement: Statement,
+    first: Node,
+    second: Node,
+) -> NodeVerdict
+    ensures { λ r.
+        ⌜ r ≡ askedAll Holds (obligationsIn (now (handler .entry)) head (now (work .entry)) node statement first second) ⌝ }
+{
+    let n = states_in(head);
+    let own = node.names;
+    let left = first.names;
+    let right = second.names;
+    let code = statement.code;
+    let expr = statement.expr;
+    match node.rule {
+        SKIP => skip_fault(n, work, own, code == SKIP),
+        ASSIGNMENT => {
+            assignment_fault(handler, head, work, own, code == ASSIGNMENT, statement.target, expr)
+        }
+        SEQUENCE => sequence_fault(n, work, own, left, right, code == SEQUENCE),
+        PARALLEL => parallel_fault(n, work, own, left, right, code == PARALLEL),
+        IF => if_fault(handler, head, work, own, left, code == IF, expr),
+        WHILE => while_fault(handler, head, work, own, node.k, node.w, left, code == WHILE, expr),
+        _ => weaken_fault(n, work, own, left),
+    }
 }

@@ -2,35 +2,33 @@
 use crate::tables::leads_into;
 use crate::tables::rows_of;
 use crate::tables::set_at;
-use expressions::ExprShape;
-use expressions::Header;
-use expressions::expr_shape;
-use expressions::head::read_header;
-use semantics::Kind;
+use evaluation::agreeing;
+use evaluation::occurrences_at;
+use evaluation::variable_of;
+use expressions::head::Head;
+use expressions::head::states_in;
 use semantics::Names;
 use states::StateSet;
 use states::relations::starting;
-use evaluation::agreeing;
-use evaluation::variable_of;
 ghost use mathlib.Core.Path.{_≡_};
 ghost use mathlib.Core.Bool.{not, _&&_, _||_};
 ghost use Prim.Native.Nat.{ℕ, _<_};
 ghost use lib.Dec.{eqb, leb};
-ghost use Rattle.states.specs.Sets.{has};
-ghost use Rattle.rules.specs.Words.{wordRelation, wordSpec};
 ghost use Rattle.states.specs.Search.{any};
+ghost use Rattle.states.specs.Sets.{has};
 ghost use Rattle.semantics.specs.Conditions.{occurrences, moves};
+ghost use Rattle.expressions.specs.Header.{machineIn};
 ghost use Rattle.expressions.specs.Shapes.{inMask};
-ghost use Rattle.evaluation.specs.Values.{agreeAt};
-ghost use Rattle.rules.specs.Places.{machineHere, exprHere};
+ghost use Rattle.evaluation.specs.Values.{agree, exprIn};
+ghost use Rattle.rules.specs.Words.{wordRelation, wordSpec};
 
 // Whether relation r leads from any state of the set to one that differs in variable v. The states that agree with the least are
 // taken out together: r must lead from all of these to states that agree.
-fn moves_variable(src: &[u8], n: u32, work: &[u64], from: StateSet, r: u32, v: u32) -> bool
+fn moves_variable(head: Head, n: u32, work: &[u64], from: StateSet, r: u32, v: u32) -> bool
     ensures { λ out.
-        ⌜ out ≡ any n (λ s. has from s && any n (λ t. wordRelation n (now (work .entry)) r s t && not (agreeAt (now (src .entry)) v s t))) ⌝ }
+        ⌜ out ≡ any n (λ s. has from s && any n (λ t. wordRelation n (now (work .entry)) r s t && not (agree (machineIn head) v s t))) ⌝ }
 {
-    let variable = variable_of(src, v);
+    let variable = variable_of(head, v);
     let mut rest = from.meet(StateSet::below(n));
     while rest.bits != 0 {
         let first = u64::trailing_zeros(rest.bits);
@@ -53,56 +51,35 @@ fn with_variable(mask: u32, v: u32, one: bool) -> u32
     if one { mask | (1 << v) } else { mask }
 }
 
-// The mask of the variables that R moves, over the states that the file declares. Only the states of P that start a pair matter:
-// where there are none, as with an idle R, no variable is looked at.
-pub fn moved(src: &[u8], work: &[u64], own: Names) -> u32
+// The mask of the variables that R moves. Only the states of P that start a pair matter: where there are none, as with an idle R, no
+// variable is looked at.
+pub fn moved(head: Head, work: &[u64], own: Names) -> u32
     ensures { λ out.
-        ⌜ ((v : ℕ) → inMask out v ≡ moves (machineHere (now (src .entry)))
-        (wordSpec (machineHere (now (src .entry)) .states) (now (work .entry)) own) v) ⌝ }
+        ⌜ ((v : ℕ) → inMask out v ≡ moves (machineIn head) (wordSpec (machineIn head .states) (now (work .entry)) own) v) ⌝ }
 {
-    let Header::Sizes(count, n, _) = read_header(src) else {
-        return 0;
-    };
+    let n = states_in(head);
     let starts = starting(n, rows_of(work, own.r));
     let from = set_at(n, work, own.p).meet(starts);
     if from.bits == 0 {
         return 0;
     }
     let mut mask = 0;
-    for v in 0..count {
-        mask = with_variable(mask, v, moves_variable(src, n, work, from, own.r, v));
+    for v in 0..head.count {
+        mask = with_variable(mask, v, moves_variable(head, n, work, from, own.r, v));
     }
     mask
 }
 
-// How many variable occurrences in the expression at a cursor are of the variables in a mask. None is of no variable: R mostly
-// moves none, and then nothing is read.
-fn occurrences_of(src: &[u8], mask: u32, at: usize) -> u32
-    ensures { λ out. ⌜ out ≡ occurrences (inMask mask) (exprHere (now (src .entry)) at) ⌝ }
-{
-    if mask == 0 {
-        return 0;
-    }
-    let Header::Sizes(count, _, _) = read_header(src) else {
-        return 0;
-    };
-    let ExprShape::Whole(_, _, occurs, _, _) = expr_shape(src, count, Kind::Integer, mask, at)
-    else {
-        return 0;
-    };
-    occurs
-}
-
 // 41 and 45, by the mask of the variables that R moves: the expression has none of them.
-pub fn unmoved(src: &[u8], mask: u32, at: usize) -> bool
-    ensures { λ out. ⌜ out ≡ eqb (occurrences (inMask mask) (exprHere (now (src .entry)) at)) 0 ⌝ }
+pub fn unmoved(src: &[u8], head: Head, mask: u32, at: usize) -> bool
+    ensures { λ out. ⌜ out ≡ eqb (occurrences (inMask mask) (exprIn (now (src .entry)) (head .count) at)) 0 ⌝ }
 {
-    occurrences_of(src, mask, at) == 0
+    occurrences_at(src, head, mask, at) == 0
 }
 
 // 50, by the same mask: at most one variable occurrence in the test is of one of them.
-pub fn read_once(src: &[u8], mask: u32, at: usize) -> bool
-    ensures { λ out. ⌜ out ≡ leb (occurrences (inMask mask) (exprHere (now (src .entry)) at)) 1 ⌝ }
+pub fn read_once(src: &[u8], head: Head, mask: u32, at: usize) -> bool
+    ensures { λ out. ⌜ out ≡ leb (occurrences (inMask mask) (exprIn (now (src .entry)) (head .count) at)) 1 ⌝ }
 {
-    occurrences_of(src, mask, at) <= 1
+    occurrences_at(src, head, mask, at) <= 1
 }
