@@ -1,104 +1,159 @@
--- What a head that was read says of the file: by the number of sizes read, each of them in its place and the product so far.
-use Prim.Native.Nat.{ℕ, zero, suc, _+_, _*_, _≤_, _<_}
+-- What is known of the sizes that a head declares: by the number of sizes read.
+use Prim.Native.Nat.{ℕ, zero, suc, _+_, _-_, _*_, _≤_, _<_}
 use native.Mathlib.Nat.{mul-assoc, mul-one, one-mul, mul-le-mul-left}
 use native.Mathlib.Omega.{arith}
-use borrow.Author.Tests.{leb-true, ltb-false}
+use borrow.Author.Tests.{leb-true, ltb-false, le-leb}
 use mathlib.Core.Bool.{Bool, true, false, cond, _&&_, _||_, and-eq-true-iff, true≢false}
 use mathlib.Core.List.{List, [], _∷_, _++_}
 use mathlib.Core.Path.{_≡_, refl, sym, ap, ap₂, _∙_}
 use lib.Dec.{leb, ltb}
-use lib.ListN.{length}
-use Rattle.bits.specs.Fields.{bitsAt, fieldAt}
+use lib.ListN.{length, getD, replicate, length-append, getD-replicate}
+use lib.Seq.{take-append-seam}
+use Rattle.bits.specs.Fields.{fieldAt}
 use Rattle.bits.specs.declared.Field.{Field}
 use Rattle.bits.specs.declared.Field.the-variants.{Value, Missing}
 use Rattle.bits.proofs.Laws.{there}
-use Rattle.states.proofs.Search.{below-cases}
-use Rattle.semantics.specs.States.{product}
-use Rattle.expressions.specs.declared.Header.{Header}
-use Rattle.expressions.specs.declared.Header.the-variants.{Sizes, Fault}
-use Rattle.expressions.specs.Header.{sizeRead, addSize, sizesRead, countRead, headerAt, sizesOf}
+use Rattle.states.specs.Search.{all}
+use Rattle.states.proofs.Search.{and-left, and-right, and-both, all-intro, all-at}
+use Rattle.semantics.specs.States.{product, machineOf}
+use Rattle.expressions.specs.declared.head.HeadFile.{HeadFile}
+use Rattle.expressions.specs.declared.head.HeadEnd.the-variants as end
+use Rattle.expressions.specs.Header.{HeadRead, declared, fault, sizeRead, addSize, sizesRead, countRead, headAt, headOf, headFile, isSize, isHead, sizesIn, machineIn}
 
 -- What is known after k sizes.
-pub record Sized (s : List ℕ) (k n at : ℕ) : Type 0 where
+pub record Sized (k at : ℕ) (sizes : List ℕ) : Type 0 where
+  pub counted : length sizes ≡ k
   pub starts : at ≡ 3 + 5 * k
-  pub inside : at ≤ 8 * length s
-  pub total : n ≡ product (sizesOf s k)
-  pub more : k < n
-  pub most : n ≤ 64
-  pub each : (v : ℕ) → v < k → (2 ≤ bitsAt s (3 + 5 * v) 5) × (bitsAt s (3 + 5 * v) 5 ≤ 16)
+  pub least : 1 ≤ product sizes
+  pub most : product sizes ≤ 64
+  pub each : (v : ℕ) → (1 ≤ getD sizes v 1) × (getD sizes v 1 ≤ 16)
 
-product-snoc : (sizes : List ℕ) (size : ℕ) → product (sizes ++ size ∷ []) ≡ product sizes * size
+pub product-snoc : (sizes : List ℕ) (size : ℕ) → product (sizes ++ size ∷ []) ≡ product sizes * size
 product-snoc [] size = rw (mul-one, one-mul)
 product-snoc (first ∷ sizes) size = rw (product-snoc sizes size, mul-assoc)
+
+-- What holds of 1, of each size and of one more holds of each again.
+each-snoc : (P : ℕ → Type 0) (sizes : List ℕ) (size : ℕ) → P 1 → P size → ((v : ℕ) → P (getD sizes v 1)) → (v : ℕ) → P (getD (sizes ++ size ∷ []) v 1)
+each-snoc P [] size one new old zero = new
+each-snoc P [] size one new old (suc v) = one
+each-snoc P (first ∷ sizes) size one new old zero = old 0
+each-snoc P (first ∷ sizes) size one new old (suc v) = each-snoc P sizes size one new (λ i. old (suc i)) v
 
 neither : (a b : Bool) → (a || b) ≡ false → (a ≡ false) × (b ≡ false)
 neither true b e = absurd (true≢false e)
 neither false b e = (refl, e)
 
-module _ (s : List ℕ) (count : ℕ) (begun : 3 ≤ 8 * length s) where
-  abbrev Upto : ℕ → Header → Type 0
-  Upto k (Sizes c n at) = (c ≡ count) × Sized s k n at
-  Upto k (Fault fault place) = Unit {0}
+module _ (s : List ℕ) where
+  abbrev Upto : ℕ → HeadRead → Type 0
+  Upto k (declared sizes at) = Sized k at sizes
+  Upto k (fault code place) = Unit {0}
 
-  next-size : (k : ℕ) (h : Header) → Upto k h → Upto (suc k) (addSize s h)
-  unfolding addSize sizeRead sizesOf
-  next-size k (Fault fault place) u = tt
-  next-size k (Sizes c n at) u = by (fieldAt s at 5) refl
+  next-size : (k : ℕ) (h : HeadRead) → Upto k h → Upto (suc k) (addSize s h)
+  unfolding addSize sizeRead
+  next-size k (fault code place) u = tt
+  next-size k (declared sizes at) u = by (fieldAt s at 5) refl
     where
-      fits : (size next : ℕ) → fieldAt s at 5 ≡ Value size next → (ltb size 2 || ltb 16 size) ≡ false → (b : Bool) → ltb 64 (n * size) ≡ b
-          → Upto (suc k) (cond b (Fault 13 at) (Sizes c (n * size) next))
+      fits : (size next : ℕ) → fieldAt s at 5 ≡ Value size next → (ltb size 2 || ltb 16 size) ≡ false → (b : Bool) → ltb 64 (product sizes * size) ≡ b
+          → Upto (suc k) (cond b (fault 13 at) (declared (sizes ++ size ∷ []) next))
       fits size next e in-range true t = tt
       fits size next e in-range false t =
           let here = there s at 5 size next e in
-          let old = u .1 in
           let range = neither (ltb size 2) (ltb 16 size) in-range in
           let least : 2 ≤ size = ltb-false size 2 (range .0) in
           let most : size ≤ 16 = ltb-false 16 size (range .1) in
-          let read : size ≡ bitsAt s (3 + 5 * k) 5 = here .value ∙ ap (λ i. bitsAt s i 5) (old .starts) in (
-            u .0,
-            record {
-              starts = omega arith;
-              inside = omega arith;
-              total = ap₂ _*_ (old .total) read ∙ sym (product-snoc (sizesOf s k) (bitsAt s (3 + 5 * k) 5));
-              more = omega (arith, mul-le-mul-left n least);
-              most = ltb-false 64 (n * size) t;
-              each = λ v h. below-cases (λ i. (2 ≤ bitsAt s (3 + 5 * i) 5) × (bitsAt s (3 + 5 * i) 5 ≤ 16)) k v h (omega arith) (old .each v);
-            },
-          )
+          record {
+            counted = simp length-append (omega (arith, u .counted));
+            starts = omega arith;
+            least = rw (product-snoc sizes size) (omega (arith, mul-le-mul-left (product sizes) least));
+            most = rw (product-snoc sizes size) (ltb-false 64 (product sizes * size) t);
+            each = each-snoc (λ x. (1 ≤ x) × (x ≤ 16)) sizes size (omega arith) (omega arith) (u .each);
+          }
 
       tests : (size next : ℕ) → fieldAt s at 5 ≡ Value size next → (b : Bool) → (ltb size 2 || ltb 16 size) ≡ b
-          → Upto (suc k) (cond b (Fault 12 at) (cond (ltb 64 (n * size)) (Fault 13 at) (Sizes c (n * size) next)))
+          → Upto (suc k) (cond b (fault 12 at) (cond (ltb 64 (product sizes * size)) (fault 13 at) (declared (sizes ++ size ∷ []) next)))
       tests size next e true t = tt
-      tests size next e false t = fits size next e t (ltb 64 (n * size)) refl
+      tests size next e false t = fits size next e t (ltb 64 (product sizes * size)) refl
 
-      by : (f : Field) → fieldAt s at 5 ≡ f → Upto (suc k) (sizeRead s c n at f)
+      by : (f : Field) → fieldAt s at 5 ≡ f → Upto (suc k) (sizeRead s sizes at f)
       by Missing e = tt
       by (Value size next) e = tests size next e _ refl
 
-  upto : (k : ℕ) → Upto k (sizesRead s count k)
-  unfolding sizesRead sizesOf
-  upto zero = (refl, record { starts = refl; inside = begun; total = refl; more = omega arith; most = omega arith; each = λ v h. absurd (omega arith) })
-  upto (suc k) = next-size k (sizesRead s count k) (upto k)
+  upto : (k : ℕ) → Upto k (sizesRead s k)
+  unfolding sizesRead
+  upto zero = record { counted = refl; starts = refl; least = omega arith; most = omega arith; each = λ v. omega arith }
+  upto (suc k) = next-size k (sizesRead s k) (upto k)
 
--- What is known of a head that was read whole.
-pub record HeadRead (s : List ℕ) (count n at : ℕ) : Type 0 where
-  pub least : 1 ≤ count
-  pub few : count ≤ 4
-  pub sized : Sized s count n at
+pub sized : (s : List ℕ) (k : ℕ) (sizes : List ℕ) (at : ℕ) → sizesRead s k ≡ declared sizes at → Sized k at sizes
+sized s k sizes at e = rw e at (upto s k)
 
-pub head-read : (s : List ℕ) (count n at : ℕ) → headerAt s ≡ Sizes count n at → HeadRead s count n at
-unfolding headerAt countRead
-head-read s count n at = by (fieldAt s 0 3) refl
+-- A head as the code passes it on gives its sizes back.
+pub sizes-of : (sizes : List ℕ) → sizesIn (headOf sizes) ≡ sizes
+unfolding sizesIn headOf
+sizes-of sizes = take-append-seam sizes (replicate (4 - length sizes) 1)
+
+getD-padded : (sizes : List ℕ) (n v : ℕ) → v < length sizes + n → getD (sizes ++ replicate n 1) v 0 ≡ getD sizes v 1
+getD-padded [] n v h = getD-replicate n v 1 0 (omega arith)
+getD-padded (size ∷ sizes) n zero h = refl
+getD-padded (size ∷ sizes) n (suc v) h = getD-padded sizes n v (omega arith)
+
+-- What a head by value says of the head that was read.
+pub record FoundHead (h : HeadRead) (file : HeadFile) (at : ℕ) : Type 0 where
+  pub sizes : List ℕ
+  pub read : h ≡ declared sizes at
+  pub is : file .head ≡ headOf sizes
+
+pub found-head : (h : HeadRead) (file : HeadFile) (at : ℕ) → file ≡ headFile h → file .end ≡ end.Statement at → FoundHead h file at
+found-head (declared sizes i) file at made ends =
+    let same : end.Statement i ≡ end.Statement at = sym (ap (λ f. f .end) made) ∙ ends in
+    let here : i ≡ at = cc in
+    record { sizes = sizes; read = rw here; is = ap (λ f. f .head) made }
+found-head (fault code place) file at made ends =
+    let other : end.Fault code place ≡ end.Statement at = sym (ap (λ f. f .end) made) ∙ ends in
+    absurd (let z : _≡_ {A = ℕ} 0 1 = cc in omega arith)
+
+pub found-fault : (h : HeadRead) (file : HeadFile) (code place : ℕ) → file ≡ headFile h → file .end ≡ end.Fault code place → h ≡ fault code place
+found-fault (declared sizes i) file code place made ends =
+    let other : end.Statement i ≡ end.Fault code place = sym (ap (λ f. f .end) made) ∙ ends in
+    absurd (let z : _≡_ {A = ℕ} 0 1 = cc in omega arith)
+found-fault (fault k i) file code place made ends =
+    let same : end.Fault k i ≡ end.Fault code place = sym (ap (λ f. f .end) made) ∙ ends in
+    cc
+
+-- What is known of a head that was read.
+pub record Declared (sizes : List ℕ) (at : ℕ) : Type 0 where
+  pub few : length sizes ≤ 4
+  pub starts : at ≡ 3 + 5 * length sizes
+  pub least : 1 ≤ product sizes
+  pub most : product sizes ≤ 64
+  pub head : isHead (headOf sizes) ≡ true
+  pub machine : machineIn (headOf sizes) ≡ machineOf sizes
+
+declares : (sizes : List ℕ) (k at : ℕ) → k ≤ 4 → Sized k at sizes → Declared sizes at
+unfolding isHead headOf machineIn
+declares sizes k at few known =
+    let same = known .counted in
+    let fits : isHead (headOf sizes) ≡ true =
+    and-both _ _ (and-both _ _ (le-leb (length sizes) 4 (omega arith)) (le-leb _ 64 (known .most)))
+    (all-intro 4 (λ v. isSize (getD (sizes ++ replicate (4 - length sizes) 1) v 0))
+    (λ v small. rw (getD-padded sizes (4 - length sizes) v (omega arith)) (and-both _ _ (le-leb 1 _ (known .each v .0)) (le-leb _ 16 (known .each v .1))))) in
+    record {
+      few = omega arith;
+      starts = omega arith;
+      least = known .least;
+      most = known .most;
+      head = fits;
+      machine = rw (fits, sizes-of sizes);
+    }
+
+pub head-read : (s : List ℕ) (sizes : List ℕ) (at : ℕ) → headAt s ≡ declared sizes at → Declared sizes at
+unfolding headAt countRead
+head-read s sizes at = by (fieldAt s 0 3) refl
   where
-    tests : (c next : ℕ) → fieldAt s 0 3 ≡ Value c next → (b : Bool) → (leb 1 c && leb c 4) ≡ b
-        → cond b (sizesRead s c c) (Fault 11 0) ≡ Sizes count n at → HeadRead s count n at
-    tests c next e true t h =
-        let range = and-eq-true-iff (leb 1 c) (leb c 4) .0 t in
-        let known = rw h at (upto s c (omega (arith, there s 0 3 c next e)) c) in
-        let same = known .0 in
-        record { least = omega (arith, leb-true 1 c (range .0)); few = omega (arith, leb-true c 4 (range .1)); sized = rw same (known .1) }
-    tests c next e false t h = absurd (let z : _≡_ {A = ℕ} 0 1 = cc in omega arith)
+    tests : (c next : ℕ) → (b : Bool) → (leb 1 c && leb c 4) ≡ b
+        → cond b (sizesRead s c) (fault 11 0) ≡ declared sizes at → Declared sizes at
+    tests c next true t h = declares sizes c at (leb-true c 4 (and-right (leb 1 c) (leb c 4) t)) (sized s c sizes at h)
+    tests c next false t h = absurd (let z : _≡_ {A = ℕ} 0 1 = cc in omega arith)
 
-    by : (f : Field) → fieldAt s 0 3 ≡ f → countRead s f ≡ Sizes count n at → HeadRead s count n at
+    by : (f : Field) → fieldAt s 0 3 ≡ f → countRead s f ≡ declared sizes at → Declared sizes at
     by Missing e h = absurd (let z : _≡_ {A = ℕ} 0 1 = cc in omega arith)
-    by (Value c next) e h = tests c next e _ refl h
+    by (Value c next) e h = tests c next _ refl h

@@ -25,12 +25,12 @@ orPlace none next = next
 orPlace (some place) next = some place
 
 -- A node's own place comes first, then those of its operands, which its row gives their kinds.
-abbrev pub rowMisfit : Row → Kind → ℕ → (Kind → Option ℕ) → (Kind → Option ℕ) → Option ℕ
-rowMisfit (Kinds a b c) k at left right = cond (sameKind c k) (orPlace (left a) (right b)) (some at)
-rowMisfit Unused k at left right = some at
+abbrev pub rowKindError : Row → Kind → ℕ → (Kind → Option ℕ) → (Kind → Option ℕ) → Option ℕ
+rowKindError (Kinds a b c) k at left right = cond (sameKind c k) (orPlace (left a) (right b)) (some at)
+rowKindError Unused k at left right = some at
 
 -- The first node of an expression at a place that is not of the kind wanted of it.
-abbrev pub misfit : Kind → ℕ → Expr → Option ℕ
-misfit k at (lit v) = cond (sameKind (kindOf v) k) none (some at)
-misfit k at (var v) = cond (sameKind Integer k) none (some at)
-misfit k at (op o l r) = rowMisfit (rowOf o) k at (λ a. misfit a (at + 5) l) (λ b. misfit b (at + 5 + width l) r)
+abbrev pub kindError : Kind → ℕ → Expr → Option ℕ
+kindError k at (lit v) = cond (sameKind (kindOf v) k) none (some at)
+kindError k at (var v) = cond (sameKind Integer k) none (some at)
+kindError k at (op o l r) = rowKindError (rowOf o) k at (λ a. kindError a (at + 5) l) (λ b. kindError b (at + 5 + width l) r)

@@ -1,5 +1,9 @@
-// Expressions: what stands at a node, and what a whole expression is made of.
+// Expressions: what is at a node, and what a whole expression is made of.
 use bits::Field;
+use codes::MISSING;
+use codes::NO_VARIABLE;
+use codes::TOO_MANY;
+use codes::UNUSED;
 use semantics::Kind;
 use semantics::Row;
 ghost use mathlib.Core.Bool.{cond};
@@ -10,15 +14,36 @@ ghost use Rattle.semantics.specs.Language.{sameKind};
 ghost use Rattle.expressions.specs.Expressions.{signed, integerHead, truthHead, variableHead, operationHead, payloadHead, exprHead, bad, onExprHead, exprAt, wholeExpr};
 ghost use Rattle.expressions.specs.Shapes.{inMask, earlierOf, exprShape};
 
+pub mod codes;
 pub mod head;
 
-// What the head of the file finds: how many variables, N and the statement's first bit; or the fault and its place.
-pub enum Header {
-    Sizes(u32, u32, usize),
-    Fault(u32, usize),
-}
+// An expression has at most 31 nodes, so that it is read to one level more.
+const MOST_NODES: u32 = 31;
 
-// What stands at an expression's first bits: a constant, a variable or an operation, with the cursor behind; or a fault.
+const LEVELS: u32 = 32;
+
+// The bits of a node's tag, and of what each tag asks for.
+const TAG_BITS: usize = 2;
+
+const INTEGER_BITS: usize = 8;
+
+const TRUTH_BITS: usize = 1;
+
+const VARIABLE_BITS: usize = 2;
+
+const OPERATION_BITS: usize = 3;
+
+// The tags; an operation has the last one.
+const INTEGER: u64 = 0;
+
+const TRUTH: u64 = 1;
+
+const VARIABLE: u64 = 2;
+
+// The operation that is not used.
+const NO_OPERATION: u64 = 7;
+
+// What is at an expression's first bits: a constant, a variable or an operation, and the cursor after it; or a fault.
 pub enum ExprHead {
     Integer(i64, usize),
     Truth(bool, usize),
@@ -27,16 +52,25 @@ pub enum ExprHead {
     Fault(u32, usize),
 }
 
-// Whether the kinds fit, or the first bit of the first node whose result kind is not the wanted one.
-pub enum Misfit {
-    Fits,
+// Where kinds do not fit: nowhere, or the first bit of the first node whose result kind is not the wanted one.
+pub enum KindError {
+    Nowhere,
     At(usize),
 }
 
-// What a whole expression is made of: its misfit, its E, how many of its variable occurrences are of given variables, its
-// nodes so far and the cursor behind; or a fault.
+// Of a whole expression: its kind error, its E, how many of its variable occurrences are of given variables, the nodes so far and
+// the cursor after it.
+pub struct ExprSummary {
+    pub error: KindError,
+    pub e: u32,
+    pub occurs: u32,
+    pub nodes: u32,
+    pub next: usize,
+}
+
+// What reading a whole expression gives, or a fault.
 pub enum ExprShape {
-    Whole(Misfit, u32, u32, u32, usize),
+    Whole(ExprSummary),
     Fault(u32, usize),
 }
 
@@ -52,8 +86,8 @@ fn signed_of(n: u64) -> i64
 fn integer_at(src: &[u8], at: usize) -> ExprHead
     ensures { λ r. ⌜ r ≡ integerHead (now (src .entry)) (fieldAt (now (src .entry)) at 8) ⌝ }
 {
-    let Field::Value(n, next) = bits::read(src, at, 8) else {
-        return ExprHead::Fault(10, bits::bit_length(src));
+    let Field::Value(n, next) = bits::read(src, at, INTEGER_BITS) else {
+        return ExprHead::Fault(MISSING, bits::bit_length(src));
     };
     ExprHead::Integer(signed_of(n), next)
 }
@@ -62,8 +96,8 @@ fn integer_at(src: &[u8], at: usize) -> ExprHead
 fn truth_at(src: &[u8], at: usize) -> ExprHead
     ensures { λ r. ⌜ r ≡ truthHead (now (src .entry)) (fieldAt (now (src .entry)) at 1) ⌝ }
 {
-    let Field::Value(n, next) = bits::read(src, at, 1) else {
-        return ExprHead::Fault(10, bits::bit_length(src));
+    let Field::Value(n, next) = bits::read(src, at, TRUTH_BITS) else {
+        return ExprHead::Fault(MISSING, bits::bit_length(src));
     };
     ExprHead::Truth(n == 1, next)
 }
@@ -72,13 +106,13 @@ fn truth_at(src: &[u8], at: usize) -> ExprHead
 fn variable_at(src: &[u8], count: u32, at: usize) -> ExprHead
     ensures { λ r. ⌜ r ≡ variableHead (now (src .entry)) count at (fieldAt (now (src .entry)) at 2) ⌝ }
 {
-    let Field::Value(v, next) = bits::read(src, at, 2) else {
-        return ExprHead::Fault(10, bits::bit_length(src));
+    let Field::Value(v, next) = bits::read(src, at, VARIABLE_BITS) else {
+        return ExprHead::Fault(MISSING, bits::bit_length(src));
     };
     if v < count as u64 {
         ExprHead::Variable(v as u32, next)
     } else {
-        ExprHead::Fault(15, at)
+        ExprHead::Fault(NO_VARIABLE, at)
     }
 }
 
@@ -86,67 +120,67 @@ fn variable_at(src: &[u8], count: u32, at: usize) -> ExprHead
 fn operation_at(src: &[u8], at: usize) -> ExprHead
     ensures { λ r. ⌜ r ≡ operationHead (now (src .entry)) at (fieldAt (now (src .entry)) at 3) ⌝ }
 {
-    let Field::Value(o, next) = bits::read(src, at, 3) else {
-        return ExprHead::Fault(10, bits::bit_length(src));
+    let Field::Value(o, next) = bits::read(src, at, OPERATION_BITS) else {
+        return ExprHead::Fault(MISSING, bits::bit_length(src));
     };
-    if o == 7 {
-        return ExprHead::Fault(14, at);
+    if o == NO_OPERATION {
+        return ExprHead::Fault(UNUSED, at);
     }
     ExprHead::Operation(o as u32, next)
 }
 
-// What a node's tag asks for, at the cursor behind the tag.
+// What a node's tag asks for, at the cursor after the tag.
 fn payload_at(src: &[u8], count: u32, at: usize, tag: u64) -> ExprHead
     ensures { λ r. ⌜ r ≡ payloadHead (now (src .entry)) count at tag ⌝ }
 {
-    if tag == 0 {
+    if tag == INTEGER {
         return integer_at(src, at);
     }
-    if tag == 1 {
+    if tag == TRUTH {
         return truth_at(src, at);
     }
-    if tag == 2 {
+    if tag == VARIABLE {
         return variable_at(src, count, at);
     }
     operation_at(src, at)
 }
 
-// What stands at a node, where `nodes` nodes of its expression stand before it.
+// What is at a node, where `nodes` nodes of its expression are before it.
 pub fn expr_head_at(src: &[u8], count: u32, nodes: u32, at: usize) -> ExprHead
     ensures { λ r. ⌜ r ≡ exprHead (now (src .entry)) count nodes at ⌝ }
 {
-    let Field::Value(tag, next) = bits::read(src, at, 2) else {
-        return ExprHead::Fault(10, bits::bit_length(src));
+    let Field::Value(tag, next) = bits::read(src, at, TAG_BITS) else {
+        return ExprHead::Fault(MISSING, bits::bit_length(src));
     };
-    if nodes >= 31 {
-        return ExprHead::Fault(17, at);
+    if nodes >= MOST_NODES {
+        return ExprHead::Fault(TOO_MANY, at);
     }
     payload_at(src, count, next, tag)
 }
 
-// The misfit of a node at a place: its own, where its result is not of the wanted kind, else that of what is below it.
-fn wanted_of(result: Kind, wanted: Kind, at: usize, below: Misfit) -> Misfit
-    ensures { λ r. ⌜ r ≡ cond (sameKind result wanted) below (Misfit.At at) ⌝ }
+// The kind error of a node at a place: its own, where its result is not of the wanted kind, else that of what is below it.
+fn wanted_of(result: Kind, wanted: Kind, at: usize, below: KindError) -> KindError
+    ensures { λ r. ⌜ r ≡ cond (sameKind result wanted) below (KindError.At at) ⌝ }
 {
     match result {
         Kind::Integer => match wanted {
             Kind::Integer => below,
-            Kind::Truth => Misfit::At(at),
+            Kind::Truth => KindError::At(at),
         },
         Kind::Truth => match wanted {
-            Kind::Integer => Misfit::At(at),
+            Kind::Integer => KindError::At(at),
             Kind::Truth => below,
         },
     }
 }
 
-// The first misfit of two parts.
-pub fn earlier_of(first: Misfit, second: Misfit) -> Misfit
+// The first kind error of two parts.
+pub fn earlier_of(first: KindError, second: KindError) -> KindError
     ensures { λ r. ⌜ r ≡ earlierOf first second ⌝ }
 {
     match first {
-        Misfit::Fits => second,
-        Misfit::At(_) => first,
+        KindError::Nowhere => second,
+        KindError::At(_) => first,
     }
 }
 
@@ -167,28 +201,36 @@ fn leaf_of(head: ExprHead, wanted: Kind, moved: u32, nodes: u32, at: usize) -> E
 {
     match head {
         ExprHead::Integer(_, next) => {
-            ExprShape::Whole(
-                wanted_of(Kind::Integer, wanted, at, Misfit::Fits),
-                0,
-                0,
-                nodes + 1,
+            let error = wanted_of(Kind::Integer, wanted, at, KindError::Nowhere);
+            ExprShape::Whole(ExprSummary {
+                error,
+                e: 0,
+                occurs: 0,
+                nodes: nodes + 1,
                 next,
-            )
+            })
         }
         ExprHead::Truth(_, next) => {
-            ExprShape::Whole(
-                wanted_of(Kind::Truth, wanted, at, Misfit::Fits),
-                0,
-                0,
-                nodes + 1,
+            let error = wanted_of(Kind::Truth, wanted, at, KindError::Nowhere);
+            ExprShape::Whole(ExprSummary {
+                error,
+                e: 0,
+                occurs: 0,
+                nodes: nodes + 1,
                 next,
-            )
+            })
         }
         ExprHead::Variable(v, next) => {
-            let misfit = wanted_of(Kind::Integer, wanted, at, Misfit::Fits);
-            ExprShape::Whole(misfit, 1, occurs_in(moved, v), nodes + 1, next)
+            let error = wanted_of(Kind::Integer, wanted, at, KindError::Nowhere);
+            ExprShape::Whole(ExprSummary {
+                error,
+                e: 1,
+                occurs: occurs_in(moved, v),
+                nodes: nodes + 1,
+                next,
+            })
         }
-        ExprHead::Operation(_, next) => ExprShape::Fault(14, next),
+        ExprHead::Operation(_, next) => ExprShape::Fault(UNUSED, next),
         ExprHead::Fault(k, place) => ExprShape::Fault(k, place),
     }
 }
@@ -207,30 +249,38 @@ fn expr_walk(
     ensures { λ r. ⌜ r ≡ exprShape wanted moved at (exprAt levels (now (src .entry)) count nodes at) ⌝ }
 {
     if levels == 0 {
-        return ExprShape::Fault(17, at);
+        return ExprShape::Fault(TOO_MANY, at);
     }
     let head = expr_head_at(src, count, nodes, at);
     let ExprHead::Operation(o, next) = head else {
         return leaf_of(head, wanted, moved, nodes, at);
     };
     let Row::Kinds(a, b, result) = semantics::row_of(o as usize) else {
-        return ExprShape::Fault(14, at);
+        return ExprShape::Fault(UNUSED, at);
     };
-    let left = expr_walk(src, count, a, moved, levels - 1, nodes + 1, next);
-    let ExprShape::Whole(first, e, some, so_far, behind) = left else {
-        return left;
+    let first = expr_walk(src, count, a, moved, levels - 1, nodes + 1, next);
+    let ExprShape::Whole(left) = first else {
+        return first;
     };
-    let right = expr_walk(src, count, b, moved, levels - 1, so_far, behind);
-    let ExprShape::Whole(second, f, more, last, end) = right else {
-        return right;
+    let second = expr_walk(src, count, b, moved, levels - 1, left.nodes, left.next);
+    let ExprShape::Whole(right) = second else {
+        return second;
     };
-    let misfit = wanted_of(result, wanted, at, earlier_of(first, second));
-    ExprShape::Whole(misfit, e + f + 1, some + more, last, end)
+    let left_error = left.error;
+    let right_error = right.error;
+    let error = wanted_of(result, wanted, at, earlier_of(left_error, right_error));
+    ExprShape::Whole(ExprSummary {
+        error,
+        e: left.e + right.e + 1,
+        occurs: left.occurs + right.occurs,
+        nodes: right.nodes,
+        next: right.next,
+    })
 }
 
 // The shape of the whole expression at a cursor of the file.
 pub fn expr_shape(src: &[u8], count: u32, wanted: Kind, moved: u32, at: usize) -> ExprShape
     ensures { λ r. ⌜ r ≡ exprShape wanted moved at (wholeExpr (now (src .entry)) count at) ⌝ }
 {
-    expr_walk(src, count, wanted, moved, 32, 0, at)
+    expr_walk(src, count, wanted, moved, LEVELS, 0, at)
 }

@@ -13,7 +13,7 @@ use borrow.Fn.PlainCycle.{Measures, is, falls, and}
 use Rattle.expressions.specs.Expressions.{exprHead, bad, exprAt}
 use Rattle.expressions.specs.Shapes.{exprShape}
 use Rattle.expressions.proofs.Folds.{expr-step, childless, row-used, Headed, headed-as}
-use Rattle.expressions.proofs.Shapes.{shape-small, left-fault, right-fault, op-shape}
+use Rattle.expressions.proofs.Shapes.{Small, shape-small, left-fault, right-fault, op-shape}
 use Rattle.expressions.proofs.expr_walk.Reads as expr-walk
 use Rattle.expressions.proofs.expr_walk.Kinds as expr-walk-kinds
 use Rattle.expressions.proofs.+expr_walk.Lts-expr_walk as expr-walk-lts
@@ -71,19 +71,17 @@ left-is : (t : ℕ) (c : expr-walk-lts.After-known-told3 (callees t) (expr-walk-
     → let b = c .before .before .before .before in
     let a = b .before .before .before .before .before .before .before .before .before .before .args in
     let next = b .before .before .before .before .before .head .given .0 .1 .0 in
-    let l = c .before .left .given .0 in
     exprShape (b .before .a .given .0 .0) (a .moved) next (exprAt (a .levels - 1) (a .src .now) (a .count) (a .nodes + 1) next)
-    ≡ Whole (l .0) (l .1 .0) (l .1 .1 .0) (l .1 .1 .1 .0) (l .1 .1 .1 .1 .0)
-left-is t c = sym (c .before .before .before .expr-walk .ensures) ∙ c .before .left .given .1
+    ≡ Whole (c .before .first .given .0 .0)
+left-is t c = sym (c .before .before .before .expr-walk .ensures) ∙ c .before .first .given .1
 
 right-is : (t : ℕ) (c : expr-walk-lts.After-known-told4 (callees t) (expr-walk-at t) expr-walk.Post)
-    → let l = c .before .before .before .before .before .left .given .0 .1 .1 .1 in
+    → let l = c .before .before .before .before .before .first .given .0 .0 in
     let b = c .before .before .before .before .before .before .before .before in
     let a = b .before .before .before .before .before .before .before .before .before .before .args in
-    let r = c .before .right .given .0 in
-    exprShape (b .before .a .given .0 .1 .0) (a .moved) (l .1 .0) (exprAt (a .levels - 1) (a .src .now) (a .count) (l .0) (l .1 .0))
-    ≡ Whole (r .0) (r .1 .0) (r .1 .1 .0) (r .1 .1 .1 .0) (r .1 .1 .1 .1 .0)
-right-is t c = sym (c .before .before .before .expr-walk2 .ensures) ∙ c .before .right .given .1
+    exprShape (b .before .a .given .0 .1 .0) (a .moved) (l .next) (exprAt (a .levels - 1) (a .src .now) (a .count) (l .nodes) (l .next))
+    ≡ Whole (c .before .second .given .0 .0)
+right-is t c = sym (c .before .before .before .expr-walk2 .ensures) ∙ c .before .second .given .1
 
 room : (t : ℕ) (c : expr-walk-lts.After-known-told (callees t) (expr-walk-at t) expr-walk.Post)
     → c .before .before .before .before .before .before .args .nodes < 31
@@ -91,16 +89,11 @@ unfolding Headed
 room t c = headed-as _ _ _ _ _ (head-is t c) .0
 
 -- What the sums need: the numbers of an operand are at most 31.
-abbrev Small : ℕ → ℕ → ℕ → Type 0
-Small e occurs nodes = (e ≤ 31) × (occurs ≤ 31) × (nodes ≤ 31)
+small-left : (t : ℕ) (c : expr-walk-lts.After-known-told3 (callees t) (expr-walk-at t) expr-walk.Post) → Small (c .before .first .given .0 .0)
+small-left t c = shape-small _ _ _ _ _ _ _ _ (left-is t c)
 
-small-left : (t : ℕ) (c : expr-walk-lts.After-known-told3 (callees t) (expr-walk-at t) expr-walk.Post)
-    → let l = c .before .left .given .0 .1 in Small (l .0) (l .1 .0) (l .1 .1 .0)
-small-left t c = shape-small _ _ _ _ _ _ _ _ _ _ _ _ (left-is t c)
-
-small-right : (t : ℕ) (c : expr-walk-lts.After-known-told4 (callees t) (expr-walk-at t) expr-walk.Post)
-    → let r = c .before .right .given .0 .1 in Small (r .0) (r .1 .0) (r .1 .1 .0)
-small-right t c = shape-small _ _ _ _ _ _ _ _ _ _ _ _ (right-is t c)
+small-right : (t : ℕ) (c : expr-walk-lts.After-known-told4 (callees t) (expr-walk-at t) expr-walk.Post) → Small (c .before .second .given .0 .0)
+small-right t c = shape-small _ _ _ _ _ _ _ _ (right-is t c)
 
 expr-walk-returns : (t : ℕ) → expr-walk-lts.Need-returns (callees t) (expr-walk-at t) expr-walk.Post
 unfolding exprAt exprShape
@@ -136,18 +129,30 @@ expr-walk-returns-5 t c =
     let a = b .before .before .before .before in
     rw
     (c .enum-told3 .given .1)
-    (right-fault _ _ _ _ _ _ _ (more t a) (head-is t a) _ _ _ _ _ (row-is t b) _ _ _ _ _ (left-is t l) _ _
+    (right-fault _ _ _ _ _ _ _ (more t a) (head-is t a) _ _ _ _ _ (row-is t b) _ (left-is t l) _ _
     (sym (c .before .before .expr-walk2 .ensures) ∙ c .enum-told3 .given .1))
+
+-- The place where both operands are read.
+abbrev both-read : (t : ℕ) → expr-walk-lts.After-struct-known2 (callees t) (expr-walk-at t) expr-walk.Post → expr-walk-lts.After-known-told4 (callees t) (expr-walk-at t) expr-walk.Post
+both-read t c = c .before .before .before .before
+
+abbrev left-read : (t : ℕ) → expr-walk-lts.After-struct-known2 (callees t) (expr-walk-at t) expr-walk.Post → expr-walk-lts.After-known-told3 (callees t) (expr-walk-at t) expr-walk.Post
+left-read t c = both-read t c .before .before .before .before
+
+sums : (t : ℕ) (c : expr-walk-lts.After-struct-known2 (callees t) (expr-walk-at t) expr-walk.Post)
+    → Small (left-read t c .before .first .given .0 .0) × Small (both-read t c .before .second .given .0 .0)
+sums t c = (small-left t (left-read t c), small-right t (both-read t c))
 
 expr-walk-returns-6 : (t : ℕ) → expr-walk-lts.Need-returns-6 (callees t) (expr-walk-at t) expr-walk.Post
 expr-walk-returns-6 t c =
-    let r = c .before .before in
-    let l = r .before .before .before .before in
+    let s = c .before .before in
+    let r = both-read t s in
+    let l = left-read t s in
     let b = l .before .before .before .before in
     let a = b .before .before .before .before in
     rw
-    (c .wanted-of .ensures, c .before .earlier-of .ensures)
-    (op-shape _ _ _ _ _ _ _ (more t a) (head-is t a) _ _ _ _ _ (row-is t b) _ _ _ _ _ (left-is t l) _ _ _ _ _ (right-is t r))
+    (s .before .before .wanted-of .ensures, s .before .before .before .earlier-of .ensures)
+    (op-shape _ _ _ _ _ _ _ (more t a) (head-is t a) _ _ _ _ _ (row-is t b) _ (left-is t l) _ (right-is t r))
 
 pub +expr-walk-spec : {M : Type 1} → statement M
 +expr-walk-spec = close μ-expr-walk λ t. expr-walk-lts.spec (callees t)
@@ -163,11 +168,11 @@ pub +expr-walk-spec : {M : Type 1} → statement M
     (λ c. search needs) (λ c. search needs)
     (expr-walk-returns-4 t)
     (λ c. search needs)
-    (λ c κs. (search needs, small-left t c .2))
+    (λ c κs. (search needs, small-left t c .room))
     (λ c. search needs) (λ c. search needs)
     (expr-walk-returns-5 t)
     (λ c κs. search needs) (λ c κs. search needs)
-    (λ c. omega (arith, small-left t (c .before .before .before .before .before .before), small-right t (c .before .before)))
-    (λ c. omega (arith, small-left t (c .before .before .before .before .before .before), small-right t (c .before .before)))
-    (λ c. omega (arith, small-left t (c .before .before .before .before .before .before), small-right t (c .before .before)))
+    (λ c. omega (arith, sums t c .0, sums t c .1))
+    (λ c. omega (arith, sums t c .0, sums t c .1))
+    (λ c. omega (arith, sums t (c .before .before) .0, sums t (c .before .before) .1))
     (expr-walk-returns-6 t)

@@ -2,21 +2,21 @@
 use native.Mathlib.Numerals.{add-one}
 use borrow.Author.Needs.{needs}
 use Rattle.expressions.specs.Shapes.{exprShape}
-use Rattle.expressions.proofs.Shapes.{node-misfit}
+use Rattle.expressions.proofs.Shapes.{node-kind-error}
 use Rattle.expressions.proofs.leaf_of.Statement.{statement}
 use Rattle.expressions.proofs.leaf_of.Tie as tie
 
 returns : tie.Need-returns
 unfolding exprShape
-returns c = rw (c .before .before .head .given .1, add-one, c .wanted-of .ensures, ← node-misfit)
+returns c = rw (c .before .before .head .given .1, add-one, c .wanted-of .ensures, ← node-kind-error)
 
 returns-2 : tie.Need-returns-2
 unfolding exprShape
-returns-2 c = rw (c .before .before .head2 .given .1, add-one, c .wanted-of2 .ensures, ← node-misfit)
+returns-2 c = rw (c .before .before .head2 .given .1, add-one, c .wanted-of2 .ensures, ← node-kind-error)
 
 returns-3 : tie.Need-returns-3
 unfolding exprShape
-returns-3 c = rw (c .before .before .before .head3 .given .1, add-one, c .before .wanted-of3 .ensures, c .occurs-in .ensures, ← node-misfit)
+returns-3 c = rw (c .before .before .before .head3 .given .1, add-one, c .before .wanted-of3 .ensures, c .occurs-in .ensures, ← node-kind-error)
 
 returns-4 : tie.Need-returns-4
 unfolding exprShape

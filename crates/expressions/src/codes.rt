@@ -1,0 +1,20 @@
+// The numbers of document 01 that reading the handler file gives.
+
+// A field runs past the end.
+pub const MISSING: u32 = 10;
+// The number of variables is not 1 to 4.
+pub const VARIABLES: u32 = 11;
+// A size is not 2 to 16.
+pub const SIZE: u32 = 12;
+// N is over 64.
+pub const STATES: u32 = 13;
+// An unused statement code, or the unused operation.
+pub const UNUSED: u32 = 14;
+// No such variable.
+pub const NO_VARIABLE: u32 = 15;
+// Kinds do not fit.
+pub const KINDS: u32 = 16;
+// Too many or too deep.
+pub const TOO_MANY: u32 = 17;
+// A fill bit is not zero, or a further byte.
+pub const FILL: u32 = 18;
