@@ -133,9 +133,9 @@ unfolding isHead headOf machineIn
 declares sizes k at few known =
     let same = known .counted in
     let fits : isHead (headOf sizes) ≡ true =
-        and-both _ _ (and-both _ _ (le-leb (length sizes) 4 (omega arith)) (le-leb _ 64 (known .most)))
-        (all-intro 4 (λ v. isSize (getD (sizes ++ replicate (4 - length sizes) 1) v 0))
-        (λ v small. rw (getD-padded sizes (4 - length sizes) v (omega arith)) (and-both _ _ (le-leb 1 _ (known .each v .0)) (le-leb _ 16 (known .each v .1))))) in
+    and-both _ _ (and-both _ _ (le-leb (length sizes) 4 (omega arith)) (le-leb _ 64 (known .most)))
+    (all-intro 4 (λ v. isSize (getD (sizes ++ replicate (4 - length sizes) 1) v 0))
+    (λ v small. rw (getD-padded sizes (4 - length sizes) v (omega arith)) (and-both _ _ (le-leb 1 _ (known .each v .0)) (le-leb _ 16 (known .each v .1))))) in
     record {
       few = omega arith;
       starts = omega arith;

@@ -16,7 +16,7 @@ use Rattle.expressions.specs.declared.ExprHead.the-variants.{Integer, Tr
 unfoldable pub signed : ℕ → ℤ
 signed n = cond (ltb n 128) (pos n) (negsuc (255 - n))
 
--- What the payload of a tag says: 15 no such variable and 14 operation 7 stand at the payload's field.
+-- What the payload of a tag says: 15 no such variable and 14 operation 7 are at the payload's field.
 unfoldable pub integerHead : List ℕ → Field → ExprHead
 integerHead bytes Missing = Fault 10 (bitLength bytes)
 integerHead bytes (Value n next) = Integer (signed n) next
@@ -44,11 +44,11 @@ unfoldable pub tagHead : List ℕ → ℕ → ℕ → ℕ → Field → ExprHead
 tagHead bytes count nodes at Missing = Fault 10 (bitLength bytes)
 tagHead bytes count nodes at (Value tag next) = cond (leb 31 nodes) (Fault 17 at) (payloadHead bytes count next tag)
 
--- What stands at a node, where so many nodes of the expression stand before it.
+-- What is at a node, where so many nodes of the expression are before it.
 unfoldable pub exprHead : List ℕ → ℕ → ℕ → ℕ → ExprHead
 exprHead bytes count nodes at = tagHead bytes count nodes at (fieldAt bytes at 2)
 
--- An expression with the number of its nodes so far and the cursor behind it, or the first fault.
+-- An expression with the number of its nodes so far and the cursor after it, or the first fault.
 pub data ExprRead : Type 0 where
   good : Expr → ℕ → ℕ → ExprRead
   bad : ℕ → ℕ → ExprRead
@@ -68,7 +68,7 @@ onExprHead (Variable v next) nodes expr = good (var v) (suc nodes) next
 onExprHead (Operation o next) nodes expr = operands o (expr (suc nodes) next) expr
 onExprHead (Fault k place) nodes expr = bad k place
 
--- The expression at a cursor. The levels to go are one more than the 31 that can be there, so their end is never met.
+-- The expression at a cursor. The levels to go are one more than the 31 that there can be, so their end is never met.
 unfoldable pub exprAt : ℕ → List ℕ → ℕ → ℕ → ℕ → ExprRead
 exprAt zero bytes count nodes at = bad 17 at
 exprAt (suc levels) bytes count nodes at = onExprHead (exprHead bytes count nodes at) nodes (exprAt levels bytes count)

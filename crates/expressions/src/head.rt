@@ -1,7 +1,7 @@
 // The head of the file: the number of variables and their sizes.
 use crate::codes::MISSING;
-use crate::codes::STATES;
 use crate::codes::SIZE;
+use crate::codes::STATES;
 use crate::codes::VARIABLES;
 use bits::Field;
 ghost use mathlib.Core.Path.{_≡_};
@@ -10,12 +10,16 @@ ghost use Rattle.expressions.specs.Header.{fault, sizesRead, headAt, noH
 
 // Document 01: 1 to 4 variables, sizes of 2 to 16, at most 64 states.
 const MOST_VARIABLES: u64 = 4;
+
 const LEAST_SIZE: u64 = 2;
+
 const MOST_SIZE: u64 = 16;
+
 const MOST_STATES: u64 = 64;
 
 // The bits of the number of variables, and of a size.
 const COUNT_BITS: usize = 3;
+
 const SIZE_BITS: usize = 5;
 
 // The variables that the head declares: how many, the size of each (1 past the count), and how many states N.

@@ -19,18 +19,25 @@ pub mod head;
 
 // An expression has at most 31 nodes, so that it is read to one level more.
 const MOST_NODES: u32 = 31;
+
 const LEVELS: u32 = 32;
 
 // The bits of a node's tag, and of what each tag asks for.
 const TAG_BITS: usize = 2;
+
 const INTEGER_BITS: usize = 8;
+
 const TRUTH_BITS: usize = 1;
+
 const VARIABLE_BITS: usize = 2;
+
 const OPERATION_BITS: usize = 3;
 
 // The tags; an operation has the last one.
 const INTEGER: u64 = 0;
+
 const TRUTH: u64 = 1;
+
 const VARIABLE: u64 = 2;
 
 // The operation that is not used.

@@ -5,17 +5,17 @@ use mathlib.Core.Path.{_≡_, refl}
 use lib.IntN.{pos}
 use Rattle.bits.specs.Fields.{bitLength, bitAt, bitsAt, isThere, fieldAt, firstSet, fillBits, furtherByte, fillFrom, fillAt}
 use Rattle.semantics.specs.Language.{lit, int, nil, assign}
-use Rattle.handler.specs.declared.HandlerFile.the-variants.{Handler, Fault}
+use Rattle.handler.specs.declared.HandlerFound.the-variants.{Handler}
 use Rattle.handler.specs.declared.Part.the-variants.{Assign, Pair}
-use Rattle.expressions.specs.Header.{sizeRead, addSize, sizesRead, countRead, headerAt}
+use Rattle.expressions.specs.Header.{sizeRead, addSize, sizesRead, countRead, headAt, headOf, noHead}
 use Rattle.expressions.specs.Expressions.{signed, integerHead, truthHead, variableHead, operationHead, payloadHead, tagHead, exprHead, exprAt, wholeExpr}
 use Rattle.handler.specs.Statements.{targetHead, codeHead, markHead, stmtHead, stmtAt, wholeStmt}
 use Rattle.handler.specs.Reading.{handler, refused, readHandler}
-use Rattle.handler.specs.Shapes.{fileOf, partAt, behindOf}
+use Rattle.handler.specs.Shapes.{fileOf, partAt, afterOf}
 
 -- Opens all that reading a file computes with.
 opened : Unit {0}
-unfolding partAt fileOf readHandler headerAt countRead sizesRead addSize sizeRead wholeStmt stmtAt stmtHead markHead codeHead targetHead wholeExpr exprAt exprHead tagHead payloadHead integerHead truthHead variableHead operationHead signed fieldAt isThere bitsAt bitAt bitLength fillAt fillFrom furtherByte fillBits firstSet
+unfolding partAt fileOf headOf readHandler headAt countRead sizesRead addSize sizeRead wholeStmt stmtAt stmtHead markHead codeHead targetHead wholeExpr exprAt exprHead tagHead payloadHead integerHead truthHead variableHead operationHead signed fieldAt isThere bitsAt bitAt bitLength fillAt fillFrom furtherByte fillBits firstSet
 opened = tt
 
 -- One variable of size 2; 16 sequences, each the left side of the one before, leave the 17th level at bit 56.
@@ -44,12 +44,17 @@ abbrev loops : List ℕ
 loops = 0x48 ∷ 0x45 ∷ 0x75 ∷ 0xD7 ∷ 0x5D ∷ 0x75 ∷ 0xD7 ∷ 0x5D ∷ 0x75 ∷ 0xD7 ∷ 0x5D ∷ 0x75 ∷ 0xD6 ∷ 0x00 ∷ []
 
 pub handlers :
-    (readHandler (0x22 ∷ 0x20 ∷ 0x02 ∷ []) ≡ handler 1 2 8 (assign 0 (lit (int (pos 1)))))
-    × (readHandler (0x30 ∷ 0x00 ∷ []) ≡ handler 1 16 8 nil) × (readHandler (0x48 ∷ 0x40 ∷ []) ≡ handler 2 64 13 nil)
-    × (fileOf (readHandler (0x22 ∷ 0x20 ∷ 0x02 ∷ [])) ≡ Handler 1 2 8 1) × (fileOf (readHandler many) ≡ Handler 1 2 8 31)
-    × (fileOf (readHandler loops) ≡ Handler 2 64 13 (2 ^ 32))
+    (readHandler (0x22 ∷ 0x20 ∷ 0x02 ∷ []) ≡ handler (2 ∷ []) 8 (assign 0 (lit (int (pos 1)))))
+    × (readHandler (0x30 ∷ 0x00 ∷ []) ≡ handler (16 ∷ []) 8 nil) × (readHandler (0x48 ∷ 0x40 ∷ []) ≡ handler (8 ∷ 8 ∷ []) 13 nil)
+    × (fileOf (readHandler (0x22 ∷ 0x20 ∷ 0x02 ∷ [])) ≡ record {
+      found = Handler (record { at = 8; statements = 1; steps = 1 });
+      head = record { count = 1; sizes = 2 ∷ 1 ∷ 1 ∷ 1 ∷ []; states = 2 };
+    })
+    × (fileOf (readHandler many) .found ≡ Handler (record { at = 8; statements = 63; steps = 31 }))
+    × (fileOf (readHandler loops) .found ≡ Handler (record { at = 13; statements = 16; steps = 2 ^ 32 }))
+    × (fileOf (readHandler []) .head ≡ noHead)
 unfolding opened
-handlers = (refl, refl, refl, refl, refl, refl)
+handlers = (refl, refl, refl, refl, refl, refl, refl)
 
 -- 10: the end, the size that is not there, the code that is not there on the 17th level. 11. 12, before 13. 13.
 pub heads :
@@ -76,8 +81,8 @@ pub ends :
 unfolding opened
 ends = (refl, refl, refl, refl, refl)
 
--- What stands at a place.
+-- What is at a place.
 pub placed : (partAt (0x22 ∷ 0x20 ∷ 0x02 ∷ []) 1 8 ≡ Assign 0 13) × (partAt many 1 8 ≡ Pair 2 11)
-    × (behindOf (wholeStmt many 1 11) ≡ 104)
+    × (afterOf (wholeStmt many 1 11) ≡ 104)
 unfolding opened
 placed = (refl, refl, refl)

@@ -1,4 +1,4 @@
--- A handler that is read has kinds that fit: where there is no misfit, every node is of the kind wanted of it.
+-- A handler that is read has kinds that fit: where there is no kind error, every node is of the kind wanted of it.
 use Prim.Native.Nat.{ℕ, _+_}
 use mathlib.Core.Bool.{Bool, true, false, cond, _&&_}
 use mathlib.Core.Option.{Option, none, some}
@@ -9,10 +9,10 @@ use Rattle.semantics.specs.declared.Kind.the-variants.{Integer, Truth}
 use Rattle.semantics.specs.declared.Row.{Row}
 use Rattle.semantics.specs.declared.Row.the-variants.{Kinds, Unused}
 use Rattle.semantics.specs.Language.{Expr, lit, var, op, Stmt, nil, assign, seq, par, if, while, rowOf, sameKind, kindOf, rowFits, fits, kindsFit}
-use Rattle.expressions.specs.Kinds.{width, orPlace, rowMisfit, misfit}
-use Rattle.handler.specs.Kinds.{stmtWidth, stmtMisfit}
+use Rattle.expressions.specs.Kinds.{width, orPlace, rowKindError, kindError}
+use Rattle.handler.specs.Kinds.{stmtWidth, stmtKindError}
 
--- No misfit of a node, or of two parts, is none of each.
+-- No kind error of a node, or of two parts, is none of each.
 own : (b : Bool) (x : Option ℕ) (at : ℕ) → cond b x (some at) ≡ none → (b ≡ true) × (x ≡ none)
 own true x at e = (refl, e)
 own false x at e = absurd (let z : _≡_ {A = ℕ} 0 1 = cc in omega arith)
@@ -24,32 +24,32 @@ each (some place) y e = absurd (let z : _≡_ {A = ℕ} 0 1 = cc in omega arith)
 both : (a b : Bool) → a ≡ true → b ≡ true → (a && b) ≡ true
 both a b p q = rw (p, q)
 
-pub expr-fits : (k : Kind) (at : ℕ) (e : Expr) → misfit k at e ≡ none → fits k e ≡ true
+pub expr-fits : (k : Kind) (at : ℕ) (e : Expr) → kindError k at e ≡ none → fits k e ≡ true
 expr-fits k at (lit v) e = own (sameKind (kindOf v) k) none at e .0
 expr-fits k at (var v) e = own (sameKind Integer k) none at e .0
 expr-fits k at (op o l r) e = by (rowOf o) (λ a. expr-fits a (at + 5) l) (λ b. expr-fits b (at + 5 + width l) r) e
   where
-    by : (row : Row) → ((a : Kind) → misfit a (at + 5) l ≡ none → fits a l ≡ true) → ((b : Kind) → misfit b (at + 5 + width l) r ≡ none → fits b r ≡ true)
-        → rowMisfit row k at (λ a. misfit a (at + 5) l) (λ b. misfit b (at + 5 + width l) r) ≡ none
+    by : (row : Row) → ((a : Kind) → kindError a (at + 5) l ≡ none → fits a l ≡ true) → ((b : Kind) → kindError b (at + 5 + width l) r ≡ none → fits b r ≡ true)
+        → rowKindError row k at (λ a. kindError a (at + 5) l) (λ b. kindError b (at + 5 + width l) r) ≡ none
         → rowFits row k (λ a. fits a l) (λ b. fits b r) ≡ true
     by (Kinds a b c) left right e =
-        let node = own (sameKind c k) (orPlace (misfit a (at + 5) l) (misfit b (at + 5 + width l) r)) at e in
-        let sides = each (misfit a (at + 5) l) (misfit b (at + 5 + width l) r) (node .1) in
+        let node = own (sameKind c k) (orPlace (kindError a (at + 5) l) (kindError b (at + 5 + width l) r)) at e in
+        let sides = each (kindError a (at + 5) l) (kindError b (at + 5 + width l) r) (node .1) in
         rw (node .0, left a (sides .0), right b (sides .1))
     by Unused left right e = absurd (let z : _≡_ {A = ℕ} 0 1 = cc in omega arith)
 
-pub stmt-fits : (at : ℕ) (S : Stmt) → stmtMisfit at S ≡ none → kindsFit S ≡ true
+pub stmt-fits : (at : ℕ) (S : Stmt) → stmtKindError at S ≡ none → kindsFit S ≡ true
 stmt-fits at nil e = refl
 stmt-fits at (assign v x) e = expr-fits Integer (at + 5) x e
 stmt-fits at (seq l r) e =
-    let sides = each (stmtMisfit (at + 3) l) (stmtMisfit (at + 3 + stmtWidth l) r) e in
+    let sides = each (stmtKindError (at + 3) l) (stmtKindError (at + 3 + stmtWidth l) r) e in
     both _ _ (stmt-fits (at + 3) l (sides .0)) (stmt-fits (at + 3 + stmtWidth l) r (sides .1))
 stmt-fits at (par l r) e =
-    let sides = each (stmtMisfit (at + 3) l) (stmtMisfit (at + 3 + stmtWidth l) r) e in
+    let sides = each (stmtKindError (at + 3) l) (stmtKindError (at + 3 + stmtWidth l) r) e in
     both _ _ (stmt-fits (at + 3) l (sides .0)) (stmt-fits (at + 3 + stmtWidth l) r (sides .1))
 stmt-fits at (if x b) e =
-    let sides = each (misfit Truth (at + 3) x) (stmtMisfit (at + 3 + width x) b) e in
+    let sides = each (kindError Truth (at + 3) x) (stmtKindError (at + 3 + width x) b) e in
     both _ _ (expr-fits Truth (at + 3) x (sides .0)) (stmt-fits (at + 3 + width x) b (sides .1))
 stmt-fits at (while x b) e =
-    let sides = each (misfit Truth (at + 3) x) (stmtMisfit (at + 3 + width x) b) e in
+    let sides = each (kindError Truth (at + 3) x) (stmtKindError (at + 3 + width x) b) e in
     both _ _ (expr-fits Truth (at + 3) x (sides .0)) (stmt-fits (at + 3 + width x) b (sides .1))

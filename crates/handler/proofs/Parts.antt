@@ -92,7 +92,7 @@ from-start levels bytes count before at S after next most p =
     let counted : f .0 ≡ after - before = omega arith in
     rw counted at (f .1)
 
--- A statement, or an expression, stands at a place of the file.
+-- A statement, or an expression, is at a place of the file.
 pub record Stands (bytes : List ℕ) (count at : ℕ) (S : Stmt) : Type 0 where
   pub after : ℕ
   pub next : ℕ
@@ -103,7 +103,7 @@ pub record StandsExpr (bytes : List ℕ) (count at : ℕ) (e : Expr) : Type 0 wh
   pub next : ℕ
   pub read : wholeExpr bytes count at ≡ good e nodes next
 
--- Its parts stand where `partOf` places them.
+-- Its parts are where `partOf` places them.
 abbrev pub PartsOf : List ℕ → ℕ → ℕ → Stmt → Type 0
 PartsOf bytes count at nil = Unit {0}
 PartsOf bytes count at (assign v e) = StandsExpr bytes count (at + 5) e
@@ -195,12 +195,12 @@ module _ (bytes : List ℕ) (count at : ℕ) where
       by (Test code next) m = test code next (m .2) (m .3) (m .4) (wholeExpr bytes count next) refl
       by (Fault k place) m = tt
 
-  -- A statement's parts stand in their places.
+  -- A statement's parts are in their places.
   pub parts : (S : Stmt) → Stands bytes count at S → PartsOf bytes count at S
   unfolding wholeStmt
   parts S s = rw (s .read) at apart .1
 
-  -- What stands at a known statement.
+  -- What is at a known statement.
   pub part-known : (S : Stmt) → Stands bytes count at S → partAt bytes count at ≡ partOf at S
   unfolding wholeStmt partAt
   part-known S s = rw (s .read) at apart .0

@@ -17,6 +17,7 @@ use Rattle.expressions.specs.Expressions.{ExprRead, good, bad, wholeExpr}
 use Rattle.handler.specs.Statements.{targetHead, codeHead, markHead, stmtHead, StmtRead, whole, fault, paired, tested, onAssigned, onBody, onTest, onRight, onLeft, onStmtHead, stmtAt}
 use Rattle.expressions.specs.Kinds.{width}
 use Rattle.handler.specs.Kinds.{stmtWidth}
+use Rattle.handler.specs.StatementTable.{statements}
 use Rattle.expressions.proofs.Folds.{expr-read}
 
 -- One level of reading, in the code's numbers.
@@ -86,7 +87,7 @@ whole-ends bytes count at e nodes next p = expr-read 32 bytes count 0 at e nodes
 -- What is known of a statement that was read: where it ends, and that it counts among at most 63.
 pub record ReadStmt (before at : ℕ) (S : Stmt) (after next : ℕ) : Type 0 where
   pub ends : next ≡ at + stmtWidth S
-  pub counted : before < after
+  pub counted : after ≡ before + statements S
   pub room : after ≤ 63
 
 abbrev AllRead : ℕ → ℕ → StmtRead → Type 0
@@ -101,6 +102,14 @@ tested-width : (b : Bool) (e : Expr) (s : Stmt) → stmtWidth (cond b (if e s) (
 tested-width true e s = refl
 tested-width false e s = refl
 
+paired-count : (b : Bool) (l r : Stmt) → statements (cond b (seq l r) (par l r)) ≡ 1 + statements l + statements r
+paired-count true l r = refl
+paired-count false l r = refl
+
+tested-count : (b : Bool) (e : Expr) (s : Stmt) → statements (cond b (if e s) (while e s)) ≡ 1 + statements s
+tested-count true e s = refl
+tested-count false e s = refl
+
 all-read : (levels : ℕ) (bytes : List ℕ) (count before at : ℕ) → AllRead before at (stmtAt levels bytes count before at)
 unfolding stmtAt Marked
 all-read zero bytes count before at = tt
@@ -111,7 +120,7 @@ all-read (suc levels) bytes count before at =
         → AllRead so-far behind x → AllRead before at (onRight code l x)
     right code next placed l so-far behind first (fault k place) known = tt
     right code next placed l so-far behind first (whole r after end) known =
-        omega (arith, first, known, paired-width (eqb code 2) l r)
+        omega (arith, first, known, paired-width (eqb code 2) l r, paired-count (eqb code 2) l r)
 
     left : (code next : ℕ) → next ≡ at + 3 → (x : StmtRead) → AllRead (suc before) next x → (stmt : ℕ → ℕ → StmtRead)
         → ((n i : ℕ) → AllRead n i (stmt n i)) → AllRead before at (onLeft code x stmt)
@@ -122,7 +131,7 @@ all-read (suc levels) bytes count before at =
     body : (code next behind : ℕ) → next ≡ at + 3 → (e : Expr) → behind ≡ next + width e → (x : StmtRead) → AllRead (suc before) behind x
         → AllRead before at (onBody code e x)
     body code next behind placed e ends (fault k place) known = tt
-    body code next behind placed e ends (whole b after end) known = omega (arith, known, tested-width (eqb code 4) e b)
+    body code next behind placed e ends (whole b after end) known = omega (arith, known, tested-width (eqb code 4) e b, tested-count (eqb code 4) e b)
 
     test : (code next : ℕ) → next ≡ at + 3 → (x : ExprRead) → wholeExpr bytes count next ≡ x → (stmt : ℕ → ℕ → StmtRead)
         → ((n i : ℕ) → AllRead n i (stmt n i)) → AllRead before at (onTest code (suc before) x stmt)

@@ -4,29 +4,35 @@ use Prim.Native.Nat.{ℕ, zero, suc, _+_, _-_, _*_, _^_, _≤_, _<_, min}
 use mathlib.Core.Bool.{Bool, true, false, cond}
 use mathlib.Core.List.{List}
 use mathlib.Core.Option.{Option, none, some}
-use mathlib.Core.Path.{_≡_, refl, ap}
+use mathlib.Core.Path.{_≡_, refl, ap, _∙_}
 use native.Mathlib.Nat.{suc-mul}
 use native.Mathlib.Numerals.{add-one}
 use native.Mathlib.Omega.{arith}
 use borrow.Author.Tests.{leb-true, leb-false}
 use lib.Dec.{leb, eqb}
+use lib.ListN.{length}
 use Rattle.bits.specs.Fields.{fillAt}
 use Rattle.bits.specs.declared.Fill.{Fill}
 use Rattle.bits.specs.declared.Fill.the-variants.{Ends, Wrong}
 use Rattle.semantics.specs.declared.Kind.the-variants.{Integer, Truth}
 use Rattle.semantics.specs.Language.{Expr, Stmt, seq, par, if, while}
+use Rattle.semantics.specs.States.{product}
 use Rattle.semantics.specs.StepNumber.{E, steps}
-use Rattle.expressions.specs.declared.Misfit.{Misfit}
+use Rattle.expressions.specs.declared.KindError.{KindError}
+use Rattle.expressions.specs.declared.ExprSummary.{ExprSummary}
 use Rattle.expressions.specs.declared.ExprShape.the-variants as expr
+use Rattle.handler.specs.declared.StmtSummary.{StmtSummary}
 use Rattle.handler.specs.declared.StmtShape.{StmtShape}
 use Rattle.handler.specs.declared.StmtShape.the-variants as stmt
 use Rattle.handler.specs.declared.StmtHead.the-variants.{Assign, Pair, Test}
+use Rattle.expressions.specs.Header.{headOf}
 use Rattle.expressions.specs.Expressions.{ExprRead, good, bad, wholeExpr}
 use Rattle.handler.specs.Statements.{stmtHead, StmtRead, whole, fault, onAssigned, onBody, onTest, onRight, onLeft, stmtAt, wholeStmt}
-use Rattle.expressions.specs.Kinds.{width, orPlace, misfit}
-use Rattle.handler.specs.Kinds.{stmtWidth, stmtMisfit}
-use Rattle.expressions.specs.Shapes.{asMisfit, exprShape}
-use Rattle.handler.specs.Shapes.{stmtShape, assignedOf, pairOf, testedOf, filledOf, judgedOf, fileOf}
+use Rattle.expressions.specs.Kinds.{width, orPlace, kindError}
+use Rattle.handler.specs.Kinds.{stmtWidth, stmtKindError}
+use Rattle.handler.specs.StatementTable.{statements}
+use Rattle.expressions.specs.Shapes.{asKindError, exprSummary, exprShape}
+use Rattle.handler.specs.Shapes.{stmtSummary, stmtShape, assignedOf, pairOf, testedOf, fittingOf, filledOf, judgedOf, fileOf}
 use Rattle.handler.specs.Reading.{onKinds, onFill, onStmt}
 use Rattle.expressions.proofs.Shapes.{or-earlier, shaped, faulted}
 use Rattle.handler.proofs.StmtFolds.{stmt-step, Marked, marked, whole-ends, stmt-read}
@@ -44,17 +50,17 @@ cap-part x y b = by (leb b (2 ^ 32)) refl y
         omega (arith, leb-false b (2 ^ 32) t, suc-mul y (min b (2 ^ 32) + 1), suc-mul y (b + 1))
 
 -- What a whole shape says of the statement that was read.
-pub record StmtShaped (N at : ℕ) (x : StmtRead) (s : ℕ) (m : Misfit) (after next : ℕ) : Type 0 where
+pub record StmtShaped (N at : ℕ) (x : StmtRead) (w : StmtSummary) : Type 0 where
   pub tree : Stmt
-  pub was : x ≡ whole tree after next
-  pub counts : s ≡ min (steps N tree) (2 ^ 32)
-  pub misfits : m ≡ asMisfit (stmtMisfit at tree)
+  pub was : x ≡ whole tree (w .statements) (w .next)
+  pub is : w ≡ stmtSummary N at tree (w .statements) (w .next)
 
-pub stmt-shaped : (N at : ℕ) (x : StmtRead) (s : ℕ) (m : Misfit) (after next : ℕ) → stmtShape N at x ≡ stmt.Whole s m after next
-    → StmtShaped N at x s m after next
+pub stmt-shaped : (N at : ℕ) (x : StmtRead) (w : StmtSummary) → stmtShape N at x ≡ stmt.Whole w → StmtShaped N at x w
 unfolding stmtShape
-stmt-shaped N at (whole S a i) s m after next p = record { tree = S; was = cc; counts = cc; misfits = cc }
-stmt-shaped N at (fault k place) s m after next p = absurd (let z : _≡_ {A = ℕ} 0 1 = cc in omega arith)
+stmt-shaped N at (whole S a i) w p =
+    let same : stmtSummary N at S a i ≡ w = cc in
+    rw (← same) (record { tree = S; was = refl; is = refl })
+stmt-shaped N at (fault k place) w p = absurd (let z : _≡_ {A = ℕ} 0 1 = cc in omega arith)
 
 pub stmt-faulted : (N at : ℕ) (x : StmtRead) (k place : ℕ) → stmtShape N at x ≡ stmt.Fault k place → x ≡ fault k place
 unfolding stmtShape
@@ -62,49 +68,59 @@ stmt-faulted N at (whole S a i) k place p = absurd (let z : _≡_ {A = ℕ} 0 1 
 stmt-faulted N at (fault j i) k place p = cc
 
 -- An assignment.
-assigned-made : (N at v next before : ℕ) (x : ExprRead) → next ≡ at + 5
-    → assignedOf before (exprShape Integer 0 next x) ≡ stmtShape N at (onAssigned v before x)
+assigned-made : (N at v next after : ℕ) (x : ExprRead) → next ≡ at + 5
+    → assignedOf after (exprShape Integer 0 next x) ≡ stmtShape N at (onAssigned v after x)
 unfolding exprShape stmtShape
-assigned-made N at v next before (good e nodes behind) placed = rw placed
-assigned-made N at v next before (bad k place) placed = refl
+assigned-made N at v next after (good e nodes behind) placed = rw placed
+assigned-made N at v next after (bad k place) placed = refl
 
 -- A sequence or parallel whose left side was read.
-pair-made : (N at code next before behind : ℕ) (l : Stmt) (x : StmtRead) → next ≡ at + 3 → behind ≡ next + stmtWidth l
-    → pairOf (stmtShape N next (whole l before behind)) (stmtShape N behind x) ≡ stmtShape N at (onRight code l x)
+pair-made : (N at code next so-far behind : ℕ) (l : Stmt) (x : StmtRead) → next ≡ at + 3 → behind ≡ next + stmtWidth l
+    → pairOf (stmtSummary N next l so-far behind) (stmtShape N behind x) ≡ stmtShape N at (onRight code l x)
 unfolding stmtShape
-pair-made N at code next before behind l (fault k place) placed ends = refl
-pair-made N at code next before behind l (whole r after end) placed ends =
+pair-made N at code next so-far behind l (fault k place) placed ends = refl
+pair-made N at code next so-far behind l (whole r after end) placed ends =
     rw (← or-earlier, ends, placed) (by (eqb code 2))
   where
-    both : Misfit
-    both = asMisfit (orPlace (stmtMisfit (at + 3) l) (stmtMisfit (at + 3 + stmtWidth l) r))
+    made : ℕ → StmtShape
+    made s =
+        stmt.Whole (record {
+          steps = s;
+          error = asKindError (orPlace (stmtKindError (at + 3) l) (stmtKindError (at + 3 + stmtWidth l) r));
+          statements = after;
+          next = end;
+        })
 
     capped : min (min (steps N l) (2 ^ 32) + min (steps N r) (2 ^ 32) + 1) (2 ^ 32) ≡ min (steps N l + steps N r + 1) (2 ^ 32)
     capped = omega arith
 
-    by : (b : Bool) → stmt.Whole (min (min (steps N l) (2 ^ 32) + min (steps N r) (2 ^ 32) + 1) (2 ^ 32)) both after end
-        ≡ stmtShape N at (whole (cond b (seq l r) (par l r)) after end)
+    by : (b : Bool) → made (min (min (steps N l) (2 ^ 32) + min (steps N r) (2 ^ 32) + 1) (2 ^ 32)) ≡ stmtShape N at (whole (cond b (seq l r) (par l r)) after end)
     by true = rw capped
     by false = rw capped
 
 -- An if or while whose test was read.
 tested-made : (N at code next nodes behind : ℕ) (e : Expr) (x : StmtRead) → next ≡ at + 3 → behind ≡ next + width e
-    → testedOf N code (exprShape Truth 0 next (good e nodes behind)) (stmtShape N behind x) ≡ stmtShape N at (onBody code e x)
+    → testedOf N code (exprSummary Truth 0 next e nodes behind) (stmtShape N behind x) ≡ stmtShape N at (onBody code e x)
 unfolding exprShape stmtShape
 tested-made N at code next nodes behind e (fault k place) placed ends = refl
 tested-made N at code next nodes behind e (whole b after end) placed ends =
     rw (← or-earlier, ends, placed) (by (eqb code 4))
   where
-    both : Misfit
-    both = asMisfit (orPlace (misfit Truth (at + 3) e) (stmtMisfit (at + 3 + width e) b))
+    made : ℕ → StmtShape
+    made s =
+        stmt.Whole (record {
+          steps = s;
+          error = asKindError (orPlace (kindError Truth (at + 3) e) (stmtKindError (at + 3 + width e) b));
+          statements = after;
+          next = end;
+        })
 
     body : ℕ
     body = min (steps N b) (2 ^ 32)
 
-    by : (t : Bool) → stmt.Whole (min (cond t (E e + 1 + body) (N * (E e + 2) + (N - 1) * (body + 1))) (2 ^ 32)) both after end
-        ≡ stmtShape N at (whole (cond t (if e b) (while e b)) after end)
-    by true = ap (λ (s : ℕ). stmt.Whole s both after end) (omega arith)
-    by false = ap (λ (s : ℕ). stmt.Whole s both after end) (cap-part (N * (E e + 2)) (N - 1) (steps N b))
+    by : (t : Bool) → made (min (cond t (E e + 1 + body) (N * (E e + 2) + (N - 1) * (body + 1))) (2 ^ 32)) ≡ stmtShape N at (whole (cond t (if e b) (while e b)) after end)
+    by true = ap made (omega arith)
+    by false = ap made (cap-part (N * (E e + 2)) (N - 1) (steps N b))
 
 -- What a walk answers at each head, from what the walks of the parts answer.
 module _ (bytes : List ℕ) (count levels before at N : ℕ) (more : 0 < levels) where
@@ -133,15 +149,16 @@ module _ (bytes : List ℕ) (count levels before at N : ℕ) (more : 0 < levels)
             stmt-faulted N next (below (before + 1) next) k place p,
           )
 
-      pub pair-shape : (s : ℕ) (m : Misfit) (so-far behind : ℕ) → stmtShape N next (below (before + 1) next) ≡ stmt.Whole s m so-far behind
-          → pairOf (stmt.Whole s m so-far behind) (stmtShape N behind (below so-far behind)) ≡ here
+      pub pair-shape : (l : StmtSummary) → stmtShape N next (below (before + 1) next) ≡ stmt.Whole l
+          → pairOf l (stmtShape N (l .next) (below (l .statements) (l .next))) ≡ here
       unfolding Marked
-      pair-shape s m so-far behind p =
-          let l = stmt-shaped N next (below (before + 1) next) s m so-far behind p in
-          rw
-          (← p, stmt-step bytes count levels before at _ more head, ← add-one before, l .was)
-          (pair-made N at code next so-far behind (l .tree) (below so-far behind) (marked bytes count (levels - 1) before at _ head .2)
-          (stmt-read (levels - 1) bytes count (before + 1) next (l .tree) so-far behind (l .was) .ends))
+      pair-shape l p =
+          let left = stmt-shaped N next (below (before + 1) next) l p in
+          let right = below (l .statements) (l .next) in
+          rw (stmt-step bytes count levels before at _ more head, ← add-one before, left .was)
+          (ap (λ x. pairOf x (stmtShape N (l .next) right)) (left .is)
+          ∙ pair-made N at code next (l .statements) (l .next) (left .tree) right (marked bytes count (levels - 1) before at _ head .2)
+          (stmt-read (levels - 1) bytes count (before + 1) next (left .tree) (l .statements) (l .next) (left .was) .ends))
 
     module _ (head : stmtHead bytes count (levels - 1) before at ≡ Test code next) where
       pub test-fault : (k place : ℕ) → exprShape Truth 0 next (wholeExpr bytes count next) ≡ expr.Fault k place → stmt.Fault k place ≡ here
@@ -149,31 +166,39 @@ module _ (bytes : List ℕ) (count levels before at N : ℕ) (more : 0 < levels)
       test-fault k place p =
           rw (stmt-step bytes count levels before at _ more head, faulted Truth 0 next (wholeExpr bytes count next) k place p)
 
-      pub test-shape : (m : Misfit) (e occurs nodes behind : ℕ)
-          → exprShape Truth 0 next (wholeExpr bytes count next) ≡ expr.Whole m e occurs nodes behind
-          → testedOf N code (expr.Whole m e occurs nodes behind) (stmtShape N behind (below (before + 1) behind)) ≡ here
+      pub test-shape : (e : ExprSummary) → exprShape Truth 0 next (wholeExpr bytes count next) ≡ expr.Whole e
+          → testedOf N code e (stmtShape N (e .next) (below (before + 1) (e .next))) ≡ here
       unfolding Marked
-      test-shape m e occurs nodes behind p =
-          let t = shaped Truth 0 next (wholeExpr bytes count next) m e occurs nodes behind p in
-          rw
-          (← p, stmt-step bytes count levels before at _ more head, ← add-one before, t .was)
-          (tested-made N at code next nodes behind (t .tree) (below (before + 1) behind) (marked bytes count (levels - 1) before at _ head .2)
-          (whole-ends bytes count next (t .tree) nodes behind (t .was)))
+      test-shape e p =
+          let test = shaped Truth 0 next (wholeExpr bytes count next) e p in
+          let body = below (before + 1) (e .next) in
+          rw (stmt-step bytes count levels before at _ more head, ← add-one before, test .was)
+          (ap (λ x. testedOf N code x (stmtShape N (e .next) body)) (test .is)
+          ∙ tested-made N at code next (e .nodes) (e .next) (test .tree) body (marked bytes count (levels - 1) before at _ head .2)
+          (whole-ends bytes count next (test .tree) (e .nodes) (e .next) (test .was)))
 
 -- The file is judged as it is read.
-judged-made : (bytes : List ℕ) (count n at : ℕ) (x : StmtRead) → judgedOf bytes count n at (stmtShape n at x) ≡ fileOf (onStmt bytes count n at x)
-unfolding stmtShape fileOf
-judged-made bytes count n at (fault k place) = refl
-judged-made bytes count n at (whole S before next) = by (fillAt bytes next)
+judged-made : (bytes sizes : List ℕ) (at : ℕ) (x : StmtRead) → wholeStmt bytes (length sizes) at ≡ x
+    → judgedOf bytes (headOf sizes) at (stmtShape (product sizes) at x) ≡ fileOf (onStmt bytes sizes at x)
+unfolding stmtShape fileOf wholeStmt
+judged-made bytes sizes at (fault k place) read = refl
+judged-made bytes sizes at (whole S after next) read = by (fillAt bytes next)
   where
-    kinds : (o : Option ℕ) → filledOf count n at (min (steps n S) (2 ^ 32)) (asMisfit o) Ends ≡ fileOf (onKinds count n at S o)
-    kinds none = refl
+    w : StmtSummary
+    w = stmtSummary (product sizes) at S after next
+
+    counted : after ≡ statements S
+    counted = omega (arith, stmt-read 17 bytes (length sizes) 0 at S after next read .counted)
+
+    kinds : (o : Option ℕ) → fittingOf (headOf sizes) at w (asKindError o) ≡ fileOf (onKinds sizes at S o)
+    kinds none = rw counted
     kinds (some place) = refl
 
-    by : (f : Fill) → filledOf count n at (min (steps n S) (2 ^ 32)) (asMisfit (stmtMisfit at S)) f ≡ fileOf (onFill count n at S f)
-    by Ends = kinds (stmtMisfit at S)
+    by : (f : Fill) → filledOf (headOf sizes) at w f ≡ fileOf (onFill sizes at S f)
+    by Ends = kinds (stmtKindError at S)
     by (Wrong place) = refl
 
-pub judged : (bytes : List ℕ) (count n at : ℕ) → judgedOf bytes count n at (stmtShape n at (stmtAt 17 bytes count 0 at)) ≡ fileOf (onStmt bytes count n at (wholeStmt bytes count at))
+pub judged : (bytes sizes : List ℕ) (at : ℕ)
+    → judgedOf bytes (headOf sizes) at (stmtShape (product sizes) at (stmtAt 17 bytes (length sizes) 0 at)) ≡ fileOf (onStmt bytes sizes at (wholeStmt bytes (length sizes) at))
 unfolding wholeStmt
-judged bytes count n at = judged-made bytes count n at (stmtAt 17 bytes count 0 at)
+judged bytes sizes at = judged-made bytes sizes at (stmtAt 17 bytes (length sizes) 0 at) refl

@@ -4,7 +4,7 @@ use Prim.Native.Nat.{ℕ, _+_}
 use mathlib.Core.Option.{Option, none}
 use Rattle.semantics.specs.declared.Kind.the-variants.{Integer, Truth}
 use Rattle.semantics.specs.Language.{Stmt, nil, assign, seq, par, if, while}
-use Rattle.expressions.specs.Kinds.{width, orPlace, misfit}
+use Rattle.expressions.specs.Kinds.{width, orPlace, kindError}
 
 -- How many bits a statement takes.
 abbrev pub stmtWidth : Stmt → ℕ
@@ -16,10 +16,10 @@ stmtWidth (if e b) = 3 + width e + stmtWidth b
 stmtWidth (while e b) = 3 + width e + stmtWidth b
 
 -- An assigned expression is an integer, a test a truth value.
-abbrev pub stmtMisfit : ℕ → Stmt → Option ℕ
-stmtMisfit at nil = none
-stmtMisfit at (assign v e) = misfit Integer (at + 5) e
-stmtMisfit at (seq l r) = orPlace (stmtMisfit (at + 3) l) (stmtMisfit (at + 3 + stmtWidth l) r)
-stmtMisfit at (par l r) = orPlace (stmtMisfit (at + 3) l) (stmtMisfit (at + 3 + stmtWidth l) r)
-stmtMisfit at (if e b) = orPlace (misfit Truth (at + 3) e) (stmtMisfit (at + 3 + width e) b)
-stmtMisfit at (while e b) = orPlace (misfit Truth (at + 3) e) (stmtMisfit (at + 3 + width e) b)
+abbrev pub stmtKindError : ℕ → Stmt → Option ℕ
+stmtKindError at nil = none
+stmtKindError at (assign v e) = kindError Integer (at + 5) e
+stmtKindError at (seq l r) = orPlace (stmtKindError (at + 3) l) (stmtKindError (at + 3 + stmtWidth l) r)
+stmtKindError at (par l r) = orPlace (stmtKindError (at + 3) l) (stmtKindError (at + 3 + stmtWidth l) r)
+stmtKindError at (if e b) = orPlace (kindError Truth (at + 3) e) (stmtKindError (at + 3 + width e) b)
+stmtKindError at (while e b) = orPlace (kindError Truth (at + 3) e) (stmtKindError (at + 3 + width e) b)

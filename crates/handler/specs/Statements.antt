@@ -28,11 +28,11 @@ unfoldable pub markHead : List ℕ → ℕ → Bool → ℕ → Field → StmtHe
 markHead bytes count tooMany at Missing = Fault 10 (bitLength bytes)
 markHead bytes count tooMany at (Value code next) = cond tooMany (Fault 17 at) (codeHead bytes count at code next)
 
--- What stands at a statement with so many statements before it, where so many levels are left below it.
+-- What is at a statement with so many statements before it, where so many levels are left below it.
 unfoldable pub stmtHead : List ℕ → ℕ → ℕ → ℕ → ℕ → StmtHead
 stmtHead bytes count below before at = markHead bytes count (eqb below 0 || leb 63 before) at (fieldAt bytes at 3)
 
--- A statement with the number of statements so far and the cursor behind it, or the first fault.
+-- A statement with the number of statements so far and the cursor after it, or the first fault.
 pub data StmtRead : Type 0 where
   whole : Stmt → ℕ → ℕ → StmtRead
   fault : ℕ → ℕ → StmtRead

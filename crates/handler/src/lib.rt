@@ -1,11 +1,26 @@
-// The handler file, read from its bits: nothing is kept in memory, a statement or an expression is the number of its first bit.
-use expressions::Misfit;
+// The handler file, read once from front to back.
+use expressions::KindError;
+use expressions::head::Head;
 
 pub mod reading;
 pub mod statements;
+pub mod table;
 
-// What stands at a statement's first bits, with the cursor behind: nil; an assignment, by its variable; sequence (2) or
-// parallel (3), by the code; if (4) or while (5), by the code; or a fault.
+// The codes of statements.
+pub const NIL: u32 = 0;
+
+pub const ASSIGNMENT: u32 = 1;
+
+pub const SEQUENCE: u32 = 2;
+
+pub const PARALLEL: u32 = 3;
+
+pub const IF: u32 = 4;
+
+pub const WHILE: u32 = 5;
+
+// What is at a statement's first bits, and the cursor after it: nil; an assignment, by its variable; sequence or parallel, by the
+// code; if or while, by the code; or a fault.
 pub enum StmtHead {
     Nil(usize),
     Assign(u32, usize),
@@ -14,22 +29,41 @@ pub enum StmtHead {
     Fault(u32, usize),
 }
 
-// What a whole statement is made of: its step number, at most 2 ^ 32, its misfit, the statements so far and the cursor
-// behind; or a fault.
+// Of a whole statement: its step number, at most 2 ^ 32, its kind error, the number of statements so far and the cursor after it.
+pub struct StmtSummary {
+    pub steps: u64,
+    pub error: KindError,
+    pub statements: u32,
+    pub next: usize,
+}
+
+// What reading a whole statement gives, or a fault.
 pub enum StmtShape {
-    Whole(u64, Misfit, u32, usize),
+    Whole(StmtSummary),
     Fault(u32, usize),
 }
 
-// A handler file: its number of variables, N, the statement's first bit and the step number, at most 2 ^ 32; or its fault.
-pub enum HandlerFile {
-    Handler(u32, u32, usize, u64),
+// Of a handler file: the first bit of its statement, how many statements there are, and the step number, at most 2 ^ 32.
+pub struct HandlerSummary {
+    pub at: usize,
+    pub statements: u32,
+    pub steps: u64,
+}
+
+// A handler, or the first fault of the file and its place.
+pub enum HandlerFound {
+    Handler(HandlerSummary),
     Fault(u32, usize),
 }
 
-// What stands at a statement's first bit, with the first bits of its parts: an assignment's variable and expression; the
-// code of a sequence or parallel and its left side, behind which the right one stands; the code of an if or while, test and
-// body; or no statement.
+// What reading a handler file gives.
+pub struct HandlerFile {
+    pub found: HandlerFound,
+    pub head: Head,
+}
+
+// What is at a statement's first bit, with the first bits of its parts: an assignment's variable and expression; the code of a
+// sequence or parallel and its left side; the code of an if or while, test and body; or no statement.
 pub enum Part {
     Nil,
     Assign(u32, usize),

@@ -1,34 +1,66 @@
-// The whole handler file, front to back, and what stands at a statement of it.
+// The whole handler file, front to back, and what is at a statement of it.
 use crate::HandlerFile;
+use crate::HandlerFound;
+use crate::HandlerSummary;
 use crate::Part;
 use crate::StmtHead;
 use crate::StmtShape;
+use crate::statements::LEVELS;
+use crate::statements::MOST_LEVELS;
 use crate::statements::stmt_head_at;
 use crate::statements::stmt_walk;
 use bits::Fill;
 use expressions::ExprShape;
-use expressions::Header;
-use expressions::Misfit;
+use expressions::KindError;
+use expressions::codes::FILL;
+use expressions::codes::KINDS;
 use expressions::expr_shape;
-use expressions::head::read_header;
+use expressions::head::Head;
+use expressions::head::HeadEnd;
+use expressions::head::no_head;
+use expressions::head::read_head;
 use semantics::Kind;
 ghost use mathlib.Core.Path.{_≡_};
-ghost use Rattle.handler.specs.Reading.{readHandler};
+ghost use Rattle.handler.specs.Reading.{refused, readHandler};
 ghost use Rattle.handler.specs.Statements.{wholeStmt};
-ghost use Rattle.handler.specs.Shapes.{judgedOf, fileOf, partAt, behindOf};
+ghost use Rattle.handler.specs.Shapes.{judgedOf, fileOf, partAt, afterOf};
+
+// A faulty file.
+fn faulty(code: u32, place: usize) -> HandlerFile
+    ensures { λ r. ⌜ r ≡ fileOf (refused code place) ⌝ }
+{
+    let head = no_head();
+    HandlerFile {
+        found: HandlerFound::Fault(code, place),
+        head,
+    }
+}
 
 // The file's answer from its statement's: 18 the end of the file, then 16 once no other fault is met.
-fn judged_of(src: &[u8], count: u32, n: u32, at: usize, read: StmtShape) -> HandlerFile
-    ensures { λ r. ⌜ r ≡ judgedOf (now (src .entry)) count n at read ⌝ }
+fn judged_of(src: &[u8], head: Head, at: usize, read: StmtShape) -> HandlerFile
+    ensures { λ r. ⌜ r ≡ judgedOf (now (src .entry)) head at read ⌝ }
 {
     match read {
-        StmtShape::Fault(k, place) => HandlerFile::Fault(k, place),
-        StmtShape::Whole(steps, misfit, _, next) => match bits::read_fill(src, next) {
-            Fill::Wrong(place) => HandlerFile::Fault(18, place),
-            Fill::Ends => match misfit {
-                Misfit::At(place) => HandlerFile::Fault(16, place),
-                Misfit::Fits => HandlerFile::Handler(count, n, at, steps),
-            },
+        StmtShape::Fault(code, place) => faulty(code, place),
+        StmtShape::Whole(stmt) => match bits::read_fill(src, stmt.next) {
+            Fill::Wrong(place) => faulty(FILL, place),
+            Fill::Ends => {
+                let error = stmt.error;
+                match error {
+                    KindError::At(place) => faulty(KINDS, place),
+                    KindError::Nowhere => {
+                        let handler = HandlerSummary {
+                            at,
+                            statements: stmt.statements,
+                            steps: stmt.steps,
+                        };
+                        HandlerFile {
+                            found: HandlerFound::Handler(handler),
+                            head,
+                        }
+                    }
+                }
+            }
         },
     }
 }
@@ -37,43 +69,42 @@ fn judged_of(src: &[u8], count: u32, n: u32, at: usize, read: StmtShape) -> Hand
 pub fn read_handler(src: &[u8]) -> HandlerFile
     ensures { λ r. ⌜ r ≡ fileOf (readHandler (now (src .entry))) ⌝ }
 {
-    match read_header(src) {
-        Header::Fault(k, place) => HandlerFile::Fault(k, place),
-        Header::Sizes(count, n, at) => judged_of(
-            src,
-            count,
-            n,
-            at,
-            stmt_walk(src, count, n, 17, 0, at),
-        ),
+    let file = read_head(src);
+    let head = file.head;
+    let end = file.end;
+    match end {
+        HeadEnd::Fault(code, place) => faulty(code, place),
+        HeadEnd::Statement(at) => {
+            let read = stmt_walk(src, head.count, head.states, LEVELS, 0, at);
+            judged_of(src, head, at, read)
+        }
     }
 }
 
-// What stands at a statement's first bit, and where its parts begin: only a test is read, to find the body.
+// What is at a statement's first bit, and where its parts begin: only a test is read, to find the body.
 pub fn part_at(src: &[u8], count: u32, at: usize) -> Part
     ensures { λ r. ⌜ r ≡ partAt (now (src .entry)) count at ⌝ }
 {
-    match stmt_head_at(src, count, 16, 0, at) {
+    match stmt_head_at(src, count, MOST_LEVELS, 0, at) {
         StmtHead::Nil(_) => Part::Nil,
         StmtHead::Assign(v, next) => Part::Assign(v, next),
         StmtHead::Pair(code, next) => Part::Pair(code, next),
         StmtHead::Test(code, next) => {
-            let ExprShape::Whole(_, _, _, _, body) = expr_shape(src, count, Kind::Truth, 0, next)
-            else {
+            let ExprShape::Whole(test) = expr_shape(src, count, Kind::Truth, 0, next) else {
                 return Part::Nothing;
             };
-            Part::Test(code, next, body)
+            Part::Test(code, next, test.next)
         }
         StmtHead::Fault(_, _) => Part::Nothing,
     }
 }
 
-// The cursor behind the statement at a cursor; 0 where none stands.
+// The cursor after the statement at a cursor; 0 where there is none.
 pub fn stmt_end(src: &[u8], count: u32, at: usize) -> usize
-    ensures { λ r. ⌜ r ≡ behindOf (wholeStmt (now (src .entry)) count at) ⌝ }
+    ensures { λ r. ⌜ r ≡ afterOf (wholeStmt (now (src .entry)) count at) ⌝ }
 {
-    let StmtShape::Whole(_, _, _, next) = stmt_walk(src, count, 1, 17, 0, at) else {
+    let StmtShape::Whole(stmt) = stmt_walk(src, count, 1, LEVELS, 0, at) else {
         return 0;
     };
-    next
+    stmt.next
 }

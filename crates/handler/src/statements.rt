@@ -1,9 +1,20 @@
-// Statements: what stands at a statement, and what a whole statement is made of.
+// Statements: what is at a statement, and what a whole statement is made of.
+use crate::ASSIGNMENT;
+use crate::IF;
+use crate::NIL;
+use crate::PARALLEL;
 use crate::StmtHead;
 use crate::StmtShape;
+use crate::StmtSummary;
+use crate::WHILE;
 use bits::Field;
 use expressions::ExprShape;
-use expressions::Misfit;
+use expressions::ExprSummary;
+use expressions::KindError;
+use expressions::codes::MISSING;
+use expressions::codes::NO_VARIABLE;
+use expressions::codes::TOO_MANY;
+use expressions::codes::UNUSED;
 use expressions::earlier_of;
 use expressions::expr_shape;
 use semantics::Kind;
@@ -13,6 +24,18 @@ ghost use Rattle.bits.specs.Fields.{fieldAt};
 ghost use Rattle.handler.specs.Shapes.{stmtShape, assignedOf, pairOf, testSteps, testedOf};
 ghost use Rattle.handler.specs.Statements.{targetHead, codeHead, stmtHead, stmtAt, wholeStmt};
 
+// At most 63 statements, 16 levels of them; they are read to one level more.
+const MOST_STATEMENTS: u32 = 63;
+
+pub(crate) const MOST_LEVELS: u32 = 16;
+
+pub(crate) const LEVELS: u32 = 17;
+
+// The bits of a statement's code, and of an assignment's variable.
+const CODE_BITS: usize = 3;
+
+const TARGET_BITS: usize = 2;
+
 // One more than the limit of the step number: sums stop here.
 const PAST: u64 = 4294967296;
 
@@ -20,46 +43,46 @@ const PAST: u64 = 4294967296;
 fn target_at(src: &[u8], count: u32, at: usize) -> StmtHead
     ensures { λ r. ⌜ r ≡ targetHead (now (src .entry)) count at (fieldAt (now (src .entry)) at 2) ⌝ }
 {
-    let Field::Value(v, next) = bits::read(src, at, 2) else {
-        return StmtHead::Fault(10, bits::bit_length(src));
+    let Field::Value(v, next) = bits::read(src, at, TARGET_BITS) else {
+        return StmtHead::Fault(MISSING, bits::bit_length(src));
     };
     if v < count as u64 {
         StmtHead::Assign(v as u32, next)
     } else {
-        StmtHead::Fault(15, at)
+        StmtHead::Fault(NO_VARIABLE, at)
     }
 }
 
-// What a statement's code asks for, at the cursor behind the code.
-fn code_at(src: &[u8], count: u32, at: usize, code: u64, next: usize) -> StmtHead
+// What a statement's code asks for, at the cursor after the code.
+fn code_at(src: &[u8], count: u32, at: usize, code: u32, next: usize) -> StmtHead
     ensures { λ r. ⌜ r ≡ codeHead (now (src .entry)) count at code next ⌝ }
 {
-    if code == 0 {
+    if code == NIL {
         return StmtHead::Nil(next);
     }
-    if code == 1 {
+    if code == ASSIGNMENT {
         return target_at(src, count, next);
     }
-    if code < 4 {
-        return StmtHead::Pair(code as u32, next);
+    if code <= PARALLEL {
+        return StmtHead::Pair(code, next);
     }
-    if code < 6 {
-        return StmtHead::Test(code as u32, next);
+    if code <= WHILE {
+        return StmtHead::Test(code, next);
     }
-    StmtHead::Fault(14, at)
+    StmtHead::Fault(UNUSED, at)
 }
 
-// What stands at a statement with `before` statements before it, where `below` levels are left below it.
+// What is at a statement with `before` statements before it, where `below` levels are left below it.
 pub fn stmt_head_at(src: &[u8], count: u32, below: u32, before: u32, at: usize) -> StmtHead
     ensures { λ r. ⌜ r ≡ stmtHead (now (src .entry)) count below before at ⌝ }
 {
-    let Field::Value(code, next) = bits::read(src, at, 3) else {
-        return StmtHead::Fault(10, bits::bit_length(src));
+    let Field::Value(code, next) = bits::read(src, at, CODE_BITS) else {
+        return StmtHead::Fault(MISSING, bits::bit_length(src));
     };
-    if below == 0 || before >= 63 {
-        return StmtHead::Fault(17, at);
+    if below == 0 || before >= MOST_STATEMENTS {
+        return StmtHead::Fault(TOO_MANY, at);
     }
-    code_at(src, count, at, code, next)
+    code_at(src, count, at, code as u32, next)
 }
 
 // A step number as far as one past the limit.
@@ -70,17 +93,20 @@ fn capped(steps: u64) -> u64
 }
 
 // The shape of an assignment from that of its expression.
-fn assigned_of(before: u32, assigned: ExprShape) -> StmtShape
-    ensures { λ r. ⌜ r ≡ assignedOf before assigned ⌝ }
+fn assigned_of(after: u32, assigned: ExprShape) -> StmtShape
+    ensures { λ r. ⌜ r ≡ assignedOf after assigned ⌝ }
 {
     match assigned {
-        ExprShape::Whole(misfit, e, _, _, next) => StmtShape::Whole(
-            e as u64 + 1,
-            misfit,
-            before,
-            next,
-        ),
-        ExprShape::Fault(k, place) => StmtShape::Fault(k, place),
+        ExprShape::Whole(expr) => {
+            let error = expr.error;
+            StmtShape::Whole(StmtSummary {
+                steps: expr.e as u64 + 1,
+                error,
+                statements: after,
+                next: expr.next,
+            })
+        }
+        ExprShape::Fault(code, place) => StmtShape::Fault(code, place),
     }
 }
 
@@ -92,26 +118,31 @@ fn pair_steps(left: u64, right: u64) -> u64
 }
 
 // The shape of a sequence or parallel from those of its sides.
-fn pair_of(left: StmtShape, right: StmtShape) -> StmtShape
+fn pair_of(left: StmtSummary, right: StmtShape) -> StmtShape
     ensures { λ r. ⌜ r ≡ pairOf left right ⌝ }
 {
-    let StmtShape::Whole(s, first, _, _) = left else {
-        return left;
-    };
-    let StmtShape::Whole(t, second, before, next) = right else {
+    let StmtShape::Whole(second) = right else {
         return right;
     };
-    StmtShape::Whole(pair_steps(s, t), earlier_of(first, second), before, next)
+    let left_error = left.error;
+    let right_error = second.error;
+    let error = earlier_of(left_error, right_error);
+    StmtShape::Whole(StmtSummary {
+        steps: pair_steps(left.steps, second.steps),
+        error,
+        statements: second.statements,
+        next: second.next,
+    })
 }
 
-// The step number of an if (4) or a while (5) over n states, from its test's E and its body's, capped as in a pair.
+// The step number of an if or a while over n states, from its test's E and its body's, capped as in a pair.
 fn test_steps(n: u32, code: u32, e: u32, body: u64) -> u64
     requires { ⌜ (1 ≤ n) × (n ≤ 64) ⌝ }
     ensures { λ r. ⌜ r ≡ min (testSteps n code e body) (2 ^ 32) ⌝ }
 {
     let part = capped(body);
     let reads = e as u64;
-    if code == 4 {
+    if code == IF {
         return capped(reads + 1 + part);
     }
     let states = n as u64;
@@ -119,24 +150,22 @@ fn test_steps(n: u32, code: u32, e: u32, body: u64) -> u64
 }
 
 // The shape of an if or while from those of its test and its body.
-fn tested_of(n: u32, code: u32, test: ExprShape, body: StmtShape) -> StmtShape
+fn tested_of(n: u32, code: u32, test: ExprSummary, body: StmtShape) -> StmtShape
     requires { ⌜ (1 ≤ n) × (n ≤ 64) ⌝ }
     ensures { λ r. ⌜ r ≡ testedOf n code test body ⌝ }
 {
-    match test {
-        ExprShape::Fault(k, place) => StmtShape::Fault(k, place),
-        ExprShape::Whole(first, e, _, _, _) => match body {
-            StmtShape::Fault(k, place) => StmtShape::Fault(k, place),
-            StmtShape::Whole(b, second, before, next) => {
-                StmtShape::Whole(
-                    test_steps(n, code, e, b),
-                    earlier_of(first, second),
-                    before,
-                    next,
-                )
-            }
-        },
-    }
+    let StmtShape::Whole(inner) = body else {
+        return body;
+    };
+    let test_error = test.error;
+    let body_error = inner.error;
+    let error = earlier_of(test_error, body_error);
+    StmtShape::Whole(StmtSummary {
+        steps: test_steps(n, code, test.e, inner.steps),
+        error,
+        statements: inner.statements,
+        next: inner.next,
+    })
 }
 
 // The shape of the statement at a cursor over n states, read to so many levels.
@@ -152,35 +181,34 @@ pub(crate) fn stmt_walk(
     ensures { λ r. ⌜ r ≡ stmtShape n at (stmtAt levels (now (src .entry)) count before at) ⌝ }
 {
     if levels == 0 {
-        return StmtShape::Fault(17, at);
+        return StmtShape::Fault(TOO_MANY, at);
     }
     match stmt_head_at(src, count, levels - 1, before, at) {
-        StmtHead::Nil(next) => StmtShape::Whole(0, Misfit::Fits, before + 1, next),
+        StmtHead::Nil(next) => StmtShape::Whole(StmtSummary {
+            steps: 0,
+            error: KindError::Nowhere,
+            statements: before + 1,
+            next,
+        }),
         StmtHead::Assign(_, next) => assigned_of(
             before + 1,
             expr_shape(src, count, Kind::Integer, 0, next),
         ),
         StmtHead::Pair(_, next) => {
-            let left = stmt_walk(src, count, n, levels - 1, before + 1, next);
-            let StmtShape::Whole(_, _, so_far, behind) = left else {
-                return left;
+            let first = stmt_walk(src, count, n, levels - 1, before + 1, next);
+            let StmtShape::Whole(left) = first else {
+                return first;
             };
-            pair_of(left, stmt_walk(src, count, n, levels - 1, so_far, behind))
+            let second = stmt_walk(src, count, n, levels - 1, left.statements, left.next);
+            pair_of(left, second)
         }
-        StmtHead::Test(code, next) => {
-            let test = expr_shape(src, count, Kind::Truth, 0, next);
-            match test {
-                ExprShape::Fault(k, place) => StmtShape::Fault(k, place),
-                ExprShape::Whole(_, _, _, _, behind) => {
-                    tested_of(
-                        n,
-                        code,
-                        test,
-                        stmt_walk(src, count, n, levels - 1, before + 1, behind),
-                    )
-                }
+        StmtHead::Test(code, next) => match expr_shape(src, count, Kind::Truth, 0, next) {
+            ExprShape::Fault(fault, place) => StmtShape::Fault(fault, place),
+            ExprShape::Whole(test) => {
+                let body = stmt_walk(src, count, n, levels - 1, before + 1, test.next);
+                tested_of(n, code, test, body)
             }
-        }
-        StmtHead::Fault(k, place) => StmtShape::Fault(k, place),
+        },
+        StmtHead::Fault(fault, place) => StmtShape::Fault(fault, place),
     }
 }

@@ -25,7 +25,7 @@ returns c =
 
 returns-5 : tie.Need-returns-5
 returns-5 c =
-    rw (shaped _ _ _ _ _ _ _ _ _ (sym (c .before .before .before .expr-shape .ensures) ∙ c .before .body .given .1) .was)
+    rw (shaped _ _ _ _ _ (sym (c .before .before .before .expr-shape .ensures) ∙ c .before .test .given .1) .was)
     at (test-of (c .before .before .before .before))
 
 pub part-at-spec : {M : Type 1} → statement M

@@ -76,9 +76,9 @@ unfolding Marked
 test-room t c = marked _ _ _ _ _ _ (head-is t (c .before .before .before) _ (c .before .code .given .1)) .1
 
 right-room : (t : ℕ) (c : stmt-walk-lts.After-known-told4 (callees t) (stmt-walk-at t) stmt-walk.Post)
-    → c .before .left .given .0 .1 .1 .0 ≤ 63
+    → c .before .first .given .0 .0 .statements ≤ 63
 right-room t c =
-    let l = stmt-shaped _ _ _ _ _ _ _ (sym (c .before .before .before .stmt-walk .ensures) ∙ c .before .left .given .1) in
+    let l = stmt-shaped _ _ _ _ (sym (c .before .before .before .stmt-walk .ensures) ∙ c .before .first .given .1) in
     stmt-read _ _ _ _ _ _ _ _ (l .was) .room
 
 stmt-walk-returns : (t : ℕ) → stmt-walk-lts.Need-returns (callees t) (stmt-walk-at t) stmt-walk.Post
@@ -112,14 +112,14 @@ stmt-walk-returns-5 t c =
     let h = l .before .before .before .before .before .before in
     rw
     (c .pair-of .ensures, c .before .stmt-walk2 .ensures)
-    (pair-shape _ _ _ _ _ _ (more t h) _ _ (head-is t h _ (l .before .before .before .before .next3 .given .1)) _ _ _ _
-    (sym (l .before .before .stmt-walk .ensures) ∙ l .left .given .1))
+    (pair-shape _ _ _ _ _ _ (more t h) _ _ (head-is t h _ (l .before .before .before .before .next3 .given .1)) _
+    (sym (l .before .before .stmt-walk .ensures) ∙ l .first .given .1))
 
 stmt-walk-returns-6 : (t : ℕ) → stmt-walk-lts.Need-returns-6 (callees t) (stmt-walk-at t) stmt-walk.Post
 stmt-walk-returns-6 t c =
     let h = c .before .before .before .before .before .before .before in
     test-fault _ _ _ _ _ _ (more t h) _ _ (head-is t h _ (c .before .before .before .before .before .code .given .1)) _ _
-    (sym (c .before .before .before .expr-shape2 .ensures) ∙ c .before .test .given .1)
+    (sym (c .before .before .before .expr-shape2 .ensures) ∙ c .before .fault .given .1)
 
 stmt-walk-returns-7 : (t : ℕ) → stmt-walk-lts.Need-returns-7 (callees t) (stmt-walk-at t) stmt-walk.Post
 stmt-walk-returns-7 t c =
@@ -127,14 +127,14 @@ stmt-walk-returns-7 t c =
     let h = e .before .before .before .before .before .before in
     rw
     (c .tested-of .ensures, c .before .stmt-walk3 .ensures)
-    (test-shape _ _ _ _ _ _ (more t h) _ _ (head-is t h _ (e .before .before .before .before .code .given .1)) _ _ _ _ _
-    (sym (e .before .before .expr-shape2 .ensures) ∙ e .test2 .given .1))
+    (test-shape _ _ _ _ _ _ (more t h) _ _ (head-is t h _ (e .before .before .before .before .code .given .1)) _
+    (sym (e .before .before .expr-shape2 .ensures) ∙ e .test .given .1))
 
 stmt-walk-returns-8 : (t : ℕ) → stmt-walk-lts.Need-returns-8 (callees t) (stmt-walk-at t) stmt-walk.Post
 unfolding stmtShape
 stmt-walk-returns-8 t c =
     let h = c .before .before .before in
-    rw (stmt-step _ _ _ _ _ _ (more t h) (head-is t h _ (c .before .k .given .1)))
+    rw (stmt-step _ _ _ _ _ _ (more t h) (head-is t h _ (c .before .fault2 .given .1)))
 
 pub +stmt-walk-spec : {M : Type 1} → statement M
 +stmt-walk-spec = close μ-stmt-walk λ t. stmt-walk-lts.spec (callees t)

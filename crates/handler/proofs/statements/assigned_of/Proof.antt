@@ -8,9 +8,9 @@ use Rattle.handler.proofs.statements.assigned_of.Tie as tie
 
 returns : tie.Need-returns
 returns c =
-    let e = c .before .assigned .given .0 .1 .0 in
+    let e = c .before .before .assigned .given .0 .0 .e in
     let within : min (e + 1) (2 ^ 32) ≡ e + 1 = omega arith in
-    rw (c .before .assigned .given .1, within)
+    rw (c .before .before .assigned .given .1, within)
 
 returns-2 : tie.Need-returns-2
 returns-2 c = rw (c .before .assigned2 .given .1)

@@ -1,4 +1,6 @@
 -- The tests on the code say which case of `codeHead` holds.
+use Prim.Native.Nat.{_≤_, _<_}
+use native.Mathlib.Omega.{arith}
 use borrow.Author.Needs.{needs}
 use borrow.Author.Tests.{eq-eqb, ne-eqb, lt-ltb, le-ltb}
 use Rattle.handler.specs.Statements.{codeHead}
@@ -15,37 +17,31 @@ returns-2 c = rw (ne-eqb _ 0 (c .before .before .if1 .left), eq-eqb _ 1 (c .befo
 
 returns-3 : tie.Need-returns-3
 unfolding codeHead
-returns-3 c = rw (ne-eqb _ 0 (c .before .before .if1 .left), ne-eqb _ 1 (c .before .if2 .left), lt-ltb _ 4 (c .if3 .taken))
+returns-3 c =
+    let code = c .before .before .before .before .args .code in
+    rw (ne-eqb code 0 (c .before .before .if1 .left), ne-eqb code 1 (c .before .if2 .left), lt-ltb code 4 (omega arith))
 
 returns-4 : tie.Need-returns-4
 unfolding codeHead
 returns-4 c =
+    let code = c .before .before .before .before .before .args .code in
     rw (
-      ne-eqb _ 0 (c .before .before .before .if1 .left),
-      ne-eqb _ 1 (c .before .before .if2 .left),
-      le-ltb _ 4 (c .before .if3 .left),
-      lt-ltb _ 6 (c .if4 .taken),
+      ne-eqb code 0 (c .before .before .before .if1 .left),
+      ne-eqb code 1 (c .before .before .if2 .left),
+      le-ltb code 4 (omega arith),
+      lt-ltb code 6 (omega arith),
     )
 
 returns-5 : tie.Need-returns-5
 unfolding codeHead
 returns-5 c =
+    let code = c .before .before .before .before .before .args .code in
     rw (
-      ne-eqb _ 0 (c .before .before .before .if1 .left),
-      ne-eqb _ 1 (c .before .before .if2 .left),
-      le-ltb _ 4 (c .before .if3 .left),
-      le-ltb _ 6 (c .if4 .left),
+      ne-eqb code 0 (c .before .before .before .if1 .left),
+      ne-eqb code 1 (c .before .before .if2 .left),
+      le-ltb code 4 (omega arith),
+      le-ltb code 6 (omega arith),
     )
 
 pub code-at-spec : {M : Type 1} → statement M
-code-at-spec =
-    tie.close
-    (tie.spec
-    returns
-    (λ c κs. search needs)
-    returns-2
-    (λ c. search needs)
-    returns-3
-    (λ c. search needs)
-    returns-4
-    returns-5)
+code-at-spec = tie.close (tie.spec returns (λ c κs. search needs) returns-2 returns-3 returns-4 returns-5)

@@ -1,7 +1,10 @@
--- The code read and the tests on the counts say which case of `markHead` holds.
+-- The code read and the tests on the counts say which case of `markHead` holds; 3 bits are below 8.
 use mathlib.Core.Logic.{⊎-elim}
+use mathlib.Core.Path.{sym, _∙_}
+use native.Mathlib.Omega.{arith}
 use borrow.Author.Needs.{needs}
 use borrow.Author.Tests.{eq-eqb, ne-eqb}
+use Rattle.bits.proofs.Laws.{there}
 use Rattle.handler.specs.Statements.{markHead, stmtHead}
 use Rattle.handler.proofs.statements.stmt_head_at.Statement.{statement}
 use Rattle.handler.proofs.statements.stmt_head_at.Tie as tie
@@ -16,6 +19,10 @@ returns-2 c =
     rw
     (← c .before .before .before .before .read .ensures, c .before .before .code .given .1)
     (⊎-elim (λ h. rw (eq-eqb _ 0 (h .taken))) (λ h. rw (ne-eqb _ 0 (h .0 .left), h .1 .taken)) (c .if1 .came))
+
+cast-code-at : tie.Need-cast-code-at
+cast-code-at c =
+    omega (arith, there _ _ _ _ _ (sym (c .before .before .before .before .before .read .ensures) ∙ c .before .before .before .code .given .1))
 
 returns-3 : tie.Need-returns-3
 unfolding stmtHead markHead
@@ -35,5 +42,6 @@ stmt-head-at-spec =
     (λ c κs. search needs) (λ c. search needs) (λ c. search needs) (λ c κs. search needs)
     returns
     returns-2
+    cast-code-at
     (λ c κs. search needs)
     returns-3)
