@@ -14,7 +14,7 @@ ghost use Rattle.handler.specs.Reading.{readHandler};
 ghost use Rattle.derivation.specs.Nodes.{nodeAt};
 ghost use Rattle.derivation.specs.Tables.{written};
 ghost use Rattle.rules.specs.declared.Place.the-variants.{Bit, Node};
-ghost use Rattle.rules.specs.Verdicts.{refusedAt, tablesOf, onHandler, answer, workAfter, Upheld};
+ghost use Rattle.rules.specs.Verdicts.{refusedAt, tablesOf, onHandler, answer, workAfter, AcceptedIsSound};
 ghost use Rattle.rules.specs.Walks.{stmtIn, walkOn, decided, Walkable, Handled};
 
 pub mod walk;
@@ -144,11 +144,11 @@ fn check_proof(
 }
 
 // The check of two files. It takes every pair of files and every work buffer; on acceptance the tables are in the first 1,040
-// work words, and what the pair promises of every list of events is `Upheld`.
+// work words, and both files are read and keep demand 3 (`AcceptedIsSound`).
 pub fn check(handler: &[u8], proof: &[u8], work: &mut [u64]) -> Verdict
     ensures verdict { λ r. ⌜ r ≡ answer (now (handler .entry)) (now (proof .entry)) (length (now (work .entry))) .verdict ⌝ }
     ensures words { λ _. ⌜ now (work .exit) ≡ workAfter (now (handler .entry)) (now (proof .entry)) (now (work .entry)) ⌝ }
-    ensures promise { λ r. ⌜ Upheld (now (handler .entry)) (now (proof .entry)) r ⌝ }
+    ensures promise { λ r. ⌜ AcceptedIsSound (now (handler .entry)) (now (proof .entry)) r ⌝ }
 {
     if work.len() < 1040 {
         return at_bit(1, 0);
