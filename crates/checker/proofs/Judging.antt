@@ -1,7 +1,7 @@
 -- The proof file over a handler file that was read, stage by stage, and the four ways out of the check.
 use Prim.Native.Nat.{ℕ, _-_, _^_, _≤_, _<_}
-use mathlib.Core.Path.{_≡_, refl, sym, _∙_, ap, subst}
-use mathlib.Core.Bool.{Bool, true, false, cond}
+use mathlib.Core.Path.{_≡_, refl, sym, _∙_, ap}
+use mathlib.Core.Bool.{Bool, true, false}
 use mathlib.Core.List.{List}
 use mathlib.Core.Option.{Option, none, some}
 use native.Mathlib.Omega.{arith}
@@ -25,10 +25,9 @@ use Rattle.checker.specs.declared.Place.the-variants.{Bit, Node}
 use Rattle.checker.specs.declared.Fault.{Fault}
 use Rattle.checker.specs.declared.Verdict.{Verdict}
 use Rattle.checker.specs.declared.Verdict.the-variants.{Accepted, Refused}
-use Rattle.checker.specs.Verdicts.{Answer, refusedAt, untouched, cleared, tablesOf, onSteps, onFault, onProof, onHandler, answer, workAfter, Upheld}
+use Rattle.checker.specs.Verdicts.{refusedAt, untouched, cleared, tablesOf, onSteps, onFault, onProof, onHandler, answer}
 use Rattle.checker.specs.Walks.{stmtIn, isStmt, isNode, wayOf, walkOn, decided, Ready, Walkable, Handled}
 use Rattle.checker.proofs.Stages.{stages, decided-answer, words-kept, words-cleared}
-use Rattle.checker.proofs.Demand.{upheld}
 
 pub refused-proof : (r : Proofs.ProofRead) (k place : ℕ) → Proofs.fileOf r ≡ File.Fault k place → r ≡ Proofs.refused k place
 refused-proof (Proofs.proof s r a d) k place f = absurd (let z : _≡_ {A = ℕ} 0 1 = cc in omega arith)
@@ -119,12 +118,3 @@ writes hb pb (handler count n at S) = by (Proofs.readProof pb n)
     by : (p : Proofs.ProofRead) → onProof hb pb count n S p .writes ≡ true
     by (Proofs.refused k place) = refl
     by (Proofs.proof sets relations root d) = writes-fault (firstFault (tablesOf hb pb count n sets) d S 0) (steps n S) (tableWord pb n sets relations)
-
--- A verdict and work words that are those of the answer meet the whole promise.
-pub promised : (hb pb work after : List ℕ) (v : Verdict) (a : Answer) → answer hb pb (length work) ≡ a → v ≡ a .verdict
-    → after ≡ cond (a .writes) (written (a .words) work) work
-    → (v ≡ answer hb pb (length work) .verdict) × ((after ≡ workAfter hb pb work) × Upheld hb pb v)
-unfolding workAfter
-promised hb pb work after v a is verdict words =
-    let v-is : v ≡ answer hb pb (length work) .verdict = verdict ∙ sym (ap (λ x. x .verdict) is) in
-    (v-is, (rw is words, subst (Upheld hb pb) (sym v-is) (upheld hb pb (length work))))

@@ -94,3 +94,12 @@ module _ (bytes sizes work nodeTable statementTable : List ℕ) (t : Tables) (se
 
     named : specOf t (namesOf d) ≡ wordSpec (t .machine .states) work (namesOf d)
     named = sym (spec-is (namesOf d) (names-known sets relations d (h .known)))
+
+  -- What a node's own conditions say, from the words as from the files. Where 30 fails nothing else matters.
+  module _ (i s bit place : ℕ) (S : Stmt) where
+    abbrev Means : Derivation → Type 0
+    Means d = own i s ≡ firstBroken (obligations t d S)
+
+    own-skip : (h : Names) → AtHand i s bit place (skip h) S → Means (skip h)
+    unfolding obligationsAt obligationsIn
+    own-skip h a = rw (node-is a, statement-is a, ready .machine-is, named a)

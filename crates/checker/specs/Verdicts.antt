@@ -10,7 +10,7 @@ use lib.Dec.{ltb}
 use Rattle.semantics.specs.Language.{Stmt}
 use Rattle.semantics.specs.States.{machineOf}
 use Rattle.semantics.specs.StepNumber.{steps}
-use Rattle.semantics.specs.Derivations.{Derivation, Tables, namesOf, specOf}
+use Rattle.semantics.specs.Derivations.{Derivation, Tables, Spec, namesOf, specOf}
 use Rattle.semantics.specs.Checking.{Broken, firstFault}
 use Rattle.semantics.specs.Promise.{Promise}
 use Rattle.expressions.specs.Header.{sizesOf}
@@ -75,10 +75,30 @@ module _ (hb pb : List ℕ) where
   unfoldable pub workAfter : List ℕ → List ℕ
   workAfter work = cond (answer (length work) .writes) (written (answer (length work) .words) work) work
 
--- Demand 3 of the bytes themselves: what acceptance promises of the handler file's whole statement, with the root's P, R, G
--- and Q as the proof file holds them.
-pub record Upheld (hb pb : List ℕ) (v : Verdict) : Type 0 where
-  pub upheld : (bound : ℕ) → v ≡ Accepted bound
-      → (count n at : ℕ) (S : Stmt) → readHandler hb ≡ handler count n at S
-      → (sets relations root : ℕ) (d : Derivation) → Proofs.readProof pb n ≡ Proofs.proof sets relations root d
-      → Promise (machineOf (sizesOf hb count)) S (specOf (tablesOf hb pb count n sets) (namesOf d)) bound
+-- What two files hold where both are read: the number of variables, N, the statement's first bit and the statement; over that N,
+-- the numbers of sets and relations, the root's first bit and the derivation.
+pub record PairRead (hb pb : List ℕ) : Type 0 where
+  pub variables : ℕ
+  pub N : ℕ
+  pub statement-bit : ℕ
+  pub statement : Stmt
+  pub handler-read : readHandler hb ≡ handler variables N statement-bit statement
+  pub sets : ℕ
+  pub relations : ℕ
+  pub root-bit : ℕ
+  pub derivation : Derivation
+  pub proof-read : Proofs.readProof pb N ≡ Proofs.proof sets relations root-bit derivation
+
+module _ {hb pb : List ℕ} where
+  abbrev pub tablesIn : PairRead hb pb → Tables
+  tablesIn pair = tablesOf hb pb (pair .variables) (pair .N) (pair .sets)
+
+  -- The root's P, R, G and Q, as the proof file holds them.
+  abbrev pub rootSpec : PairRead hb pb → Spec
+  rootSpec pair = specOf (tablesIn pair) (namesOf (pair .derivation))
+
+-- Demand 3 of the bytes themselves: where a pair of files is accepted, both are read, and the handler file's whole statement
+-- keeps its promise with the root's tables and the stated number.
+pub record AcceptedIsSound (hb pb : List ℕ) (v : Verdict) : Type 0 where
+  pub sound : (k : ℕ) → v ≡ Accepted k
+      → (pair : PairRead hb pb) × Promise (machineOf (sizesOf hb (pair .variables))) (pair .statement) (rootSpec pair) k

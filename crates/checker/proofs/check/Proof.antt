@@ -1,13 +1,11 @@
 -- Each way out of the check is one of the answer's, so that verdict, words and promise follow together (`promised`).
-use mathlib.Core.Path.{_≡_, refl, sym, _∙_, ap}
-use mathlib.Core.Bool.{cond}
-use native.Mathlib.Omega.{arith}
+use mathlib.Core.Path.{refl, sym, _∙_, ap}
 use borrow.Author.Needs.{needs}
-use Rattle.derivation.specs.Tables.{written}
 use Rattle.handler.specs.Reading.{readHandler}
 use Rattle.checker.specs.Verdicts.{onHandler}
 use Rattle.checker.proofs.Stages.{handled, refused-file}
-use Rattle.checker.proofs.Judging.{few-words, long-handler, long-proof, both-read, writes, promised}
+use Rattle.checker.proofs.Judging.{few-words, long-handler, long-proof, both-read, writes}
+use Rattle.checker.proofs.Demand.{promised}
 use Rattle.checker.proofs.check.Statement.{statement}
 use Rattle.checker.proofs.check.Tie as tie
 
