@@ -4,6 +4,7 @@ use mathlib.Core.Path.{_≡_}
 use mathlib.Core.List.{List}
 use mathlib.Core.Option.{none}
 use lib.ListN.{length}
+use Rattle.semantics.specs.States.{product}
 use Rattle.semantics.specs.StepNumber.{steps}
 use Rattle.semantics.specs.Checking.{firstFault}
 use Rattle.checker.specs.Verdicts.{PairRead, tablesIn}
@@ -18,5 +19,5 @@ pub record Acceptable (hb pb : List ℕ) (words k : ℕ) : Type 0 where
   -- no node breaks a condition
   pub unbroken : firstFault (tablesIn pair) (pair .derivation) (pair .statement) 0 ≡ none
   -- k is the step number, and within its limit
-  pub number : k ≡ steps (pair .N) (pair .statement)
+  pub number : k ≡ steps (product (pair .sizes)) (pair .statement)
   pub limit : k ≤ 4294967295

@@ -8,12 +8,11 @@ use mathlib.Core.Option.{Option, none, some}
 use lib.ListN.{length}
 use lib.Dec.{ltb}
 use Rattle.semantics.specs.Language.{Stmt}
-use Rattle.semantics.specs.States.{machineOf}
+use Rattle.semantics.specs.States.{product, machineOf}
 use Rattle.semantics.specs.StepNumber.{steps}
 use Rattle.semantics.specs.Derivations.{Derivation, Tables, Spec, namesOf, specOf}
 use Rattle.semantics.specs.Checking.{Broken, firstFault}
 use Rattle.semantics.specs.Promise.{Promise}
-use Rattle.expressions.specs.Header.{sizesOf}
 use Rattle.handler.specs.Reading.{HandlerRead, handler, refused, readHandler}
 use Rattle.derivation.specs.Tables.{inSetOf, inRelationOf, tableWord, written}
 use Rattle.derivation.specs.Reading as Proofs
@@ -26,10 +25,10 @@ use Rattle.checker.specs.declared.Verdict.the-variants.{Accepted, Refuse
 abbrev pub refusedAt : ℕ → Place → Verdict
 refusedAt k place = Refused (record { number = k; place = place })
 
--- The tables as the proof file holds them, over the variables of the handler file.
-abbrev pub tablesOf : List ℕ → List ℕ → ℕ → ℕ → ℕ → Tables
-tablesOf hb pb count n sets =
-    record { machine = machineOf (sizesOf hb count); sets = inSetOf pb n; relations = inRelationOf pb n sets }
+-- The tables as the proof file holds them where it has so many sets, over variables of these sizes.
+abbrev pub tablesOf : List ℕ → List ℕ → ℕ → Tables
+tablesOf pb sizes sets =
+    record { machine = machineOf sizes; sets = inSetOf pb (product sizes); relations = inRelationOf pb (product sizes) sets }
 
 -- What the check answers and leaves in the work words: whether it writes to them, and what the first 1,040 then hold.
 pub record Answer : Type 0 where
@@ -56,14 +55,14 @@ onFault none k words = onSteps k words
 onFault (some b) k words = cleared (refusedAt (b .number) (Node (b .node)))
 
 module _ (hb pb : List ℕ) where
-  abbrev pub onProof : ℕ → ℕ → Stmt → Proofs.ProofRead → Answer
-  onProof count n S (Proofs.refused k place) = cleared (refusedAt k (Bit place))
-  onProof count n S (Proofs.proof sets relations root d) =
-      onFault (firstFault (tablesOf hb pb count n sets) d S 0) (steps n S) (tableWord pb n sets relations)
+  abbrev pub onProof : List ℕ → Stmt → Proofs.ProofRead → Answer
+  onProof sizes S (Proofs.refused k place) = cleared (refusedAt k (Bit place))
+  onProof sizes S (Proofs.proof sets relations root d) =
+      onFault (firstFault (tablesOf pb sizes sets) d S 0) (steps (product sizes) S) (tableWord pb (product sizes) sets relations)
 
   abbrev pub onHandler : HandlerRead → Answer
   onHandler (refused k place) = cleared (refusedAt k (Bit place))
-  onHandler (handler count n at S) = onProof count n S (Proofs.readProof pb n)
+  onHandler (handler sizes at S) = onProof sizes S (Proofs.readProof pb (product sizes))
 
   -- The answer to two files with so many work words.
   unfoldable pub answer : ℕ → Answer
@@ -75,23 +74,22 @@ module _ (hb pb : List ℕ) where
   unfoldable pub workAfter : List ℕ → List ℕ
   workAfter work = cond (answer (length work) .writes) (written (answer (length work) .words) work) work
 
--- What two files hold where both are read: the number of variables, N, the statement's first bit and the statement; over that N,
+-- What two files hold where both are read: the sizes of the variables, the statement's first bit and the statement; over that N,
 -- the numbers of sets and relations, the root's first bit and the derivation.
 pub record PairRead (hb pb : List ℕ) : Type 0 where
-  pub variables : ℕ
-  pub N : ℕ
+  pub sizes : List ℕ
   pub statement-bit : ℕ
   pub statement : Stmt
-  pub handler-read : readHandler hb ≡ handler variables N statement-bit statement
+  pub handler-read : readHandler hb ≡ handler sizes statement-bit statement
   pub sets : ℕ
   pub relations : ℕ
   pub root-bit : ℕ
   pub derivation : Derivation
-  pub proof-read : Proofs.readProof pb N ≡ Proofs.proof sets relations root-bit derivation
+  pub proof-read : Proofs.readProof pb (product sizes) ≡ Proofs.proof sets relations root-bit derivation
 
 module _ {hb pb : List ℕ} where
   abbrev pub tablesIn : PairRead hb pb → Tables
-  tablesIn pair = tablesOf hb pb (pair .variables) (pair .N) (pair .sets)
+  tablesIn pair = tablesOf pb (pair .sizes) (pair .sets)
 
   -- The root's P, R, G and Q, as the proof file holds them.
   abbrev pub rootSpec : PairRead hb pb → Spec
@@ -101,4 +99,4 @@ module _ {hb pb : List ℕ} where
 -- keeps its promise with the root's tables and the stated number.
 pub record AcceptedIsSound (hb pb : List ℕ) (v : Verdict) : Type 0 where
   pub sound : (k : ℕ) → v ≡ Accepted k
-      → (pair : PairRead hb pb) × Promise (machineOf (sizesOf hb (pair .variables))) (pair .statement) (rootSpec pair) k
+      → (pair : PairRead hb pb) × Promise (machineOf (pair .sizes)) (pair .statement) (rootSpec pair) k

@@ -1,38 +1,34 @@
-// The conditions of each rule on the tables in the work words, the walk over the nodes, and the check of two files.
-use derivation::ProofFile;
+// The check of two files: both are read once, and then the loop over the nodes asks the conditions of each.
+use derivation::ProofFound;
 use derivation::reading::load;
 use derivation::words::clear;
-use handler::HandlerFile;
+use expressions::head::Head;
+use handler::HandlerFound;
 use handler::reading::read_handler;
-use walk::walk;
+use nodes::FirstFault;
+use nodes::first_fault;
 ghost use mathlib.Core.Path.{_≡_};
 ghost use Prim.Native.Nat.{_≤_};
 ghost use lib.ListN.{length};
-ghost use Rattle.handler.specs.Statements.{wholeStmt};
-ghost use Rattle.handler.specs.Shapes.{behindOf};
 ghost use Rattle.handler.specs.Reading.{readHandler};
-ghost use Rattle.derivation.specs.Nodes.{nodeAt};
 ghost use Rattle.derivation.specs.Tables.{written};
 ghost use Rattle.checker.specs.declared.Place.the-variants.{Bit, Node};
-ghost use Rattle.checker.specs.Verdicts.{refusedAt, tablesOf, onHandler, answer, workAfter, Upheld};
-ghost use Rattle.checker.specs.Walks.{stmtIn, walkOn, decided, Walkable, Handled};
+ghost use Rattle.checker.specs.Verdicts.{refusedAt, onHandler, answer, workAfter, AcceptedIsSound};
+ghost use Rattle.checker.specs.Refinement.{Handled, decided};
 
-pub mod walk;
+pub mod nodes;
 
-// How many variables and states the handler file has, and how many sets and relations the proof file.
-pub struct Counts {
-    pub variables: u32,
-    pub states: u32,
-    pub sets: u32,
-    pub relations: u32,
-}
+// The host lends at least so many work words, and a file has at most so many bytes.
+const WORK_WORDS: usize = 1040;
+const MOST_BYTES: usize = 16384;
 
-// What walking a derivation over a statement finds: the number of the next node, its first bit and the first bit behind the
-// statement; or the first fault's number and node.
-pub enum Walked {
-    Through(u32, usize, usize),
-    Broken(u32, u32),
-}
+// The largest step number that is stated.
+const MOST_STEPS: u64 = 4294967295;
+
+// Document 01's numbers that the check itself gives.
+const FEW_WORDS: u32 = 1;
+const LONG_FILE: u32 = 2;
+const MANY_STEPS: u32 = 80;
 
 // Where a fault is: a bit of its file or a node of the derivation.
 pub enum Place {
@@ -72,39 +68,19 @@ fn at_node(number: u32, node: u32) -> Verdict
     })
 }
 
-// The verdict by what the walk found and the step number, which is over the limit from 2 ^ 32 on.
-fn decide(way: Walked, steps: u64) -> Verdict
-    ensures { λ r. ⌜ r ≡ decided way steps ⌝ }
+// The verdict by what the loop found and the step number.
+fn decide(found: FirstFault, steps: u64) -> Verdict
+    ensures { λ r. ⌜ r ≡ decided found steps ⌝ }
 {
-    match way {
-        Walked::Broken(number, node) => at_node(number, node),
-        Walked::Through(_, _, _) => {
-            if steps > 4294967295 {
-                return at_node(80, 0);
+    match found {
+        FirstFault::Broken(number, node) => at_node(number, node),
+        FirstFault::Nothing => {
+            if steps > MOST_STEPS {
+                return at_node(MANY_STEPS, 0);
             }
             Verdict::Accepted(steps as u32)
         }
     }
-}
-
-// The nodes of a proof file whose tables are in the work words, over the handler file's statement.
-fn judge(
-    handler: &[u8],
-    proof: &[u8],
-    work: &[u64],
-    c: Counts,
-    root: usize,
-    stmt: usize,
-    steps: u64,
-) -> Verdict
-    requires { ⌜ Walkable (now handler) (now proof) (now work) c 25 0 root stmt ⌝ }
-    ensures { λ r.
-        ⌜ r ≡ decided (walkOn (tablesOf (now (handler .entry)) (now (proof .entry)) (c .variables) (c .states) (c .sets))
-        (nodeAt 25 (now (proof .entry)) (c .sets) (c .relations) 0 root)
-        (stmtIn (wholeStmt (now (handler .entry)) (c .variables) stmt)) (behindOf (wholeStmt (now (handler .entry)) (c .variables) stmt))
-        0) steps ⌝ }
-{
-    decide(walk(handler, proof, work, c, 25, 0, root, stmt), steps)
 }
 
 // The proof file over a handler file that was read: its tables stay in the work words only if the pair is accepted.
@@ -112,27 +88,24 @@ fn check_proof(
     handler: &[u8],
     proof: &[u8],
     work: &mut [u64],
-    variables: u32,
-    states: u32,
-    stmt: usize,
+    head: Head,
+    statements: &[u64],
     steps: u64,
 ) -> Verdict
-    requires { ⌜ Handled (now handler) variables states stmt steps ⌝ }
+    requires { ⌜ Handled (now handler) head (now statements) steps ⌝ }
     requires { ⌜ 1040 ≤ length (now work) ⌝ }
     ensures verdict { λ r. ⌜ r ≡ onHandler (now (handler .entry)) (now (proof .entry)) (readHandler (now (handler .entry))) .verdict ⌝ }
     ensures words { λ _.
         ⌜ now (work .exit) ≡ written (onHandler (now (handler .entry)) (now (proof .entry)) (readHandler (now (handler .entry))) .words) (now (work .entry)) ⌝ }
 {
-    match load(proof, states, work) {
-        ProofFile::Fault(number, place) => at_bit(number, place),
-        ProofFile::Proof(sets, relations, root) => {
-            let c = Counts {
-                variables,
-                states,
-                sets,
-                relations,
-            };
-            match judge(handler, proof, &work[..], c, root, stmt, steps) {
+    let file = load(proof, head.states, work);
+    let found = file.found;
+    match found {
+        ProofFound::Fault(number, place) => at_bit(number, place),
+        ProofFound::Proof(read) => {
+            let table = file.nodes;
+            let fault = first_fault(handler, head, &work[..], &table, statements, read.nodes);
+            match decide(fault, steps) {
                 Verdict::Accepted(k) => Verdict::Accepted(k),
                 Verdict::Refused(fault) => {
                     clear(work);
@@ -144,34 +117,32 @@ fn check_proof(
 }
 
 // The check of two files. It takes every pair of files and every work buffer; on acceptance the tables are in the first 1,040
-// work words, and what the pair promises of every list of events is `Upheld`.
+// work words, and what the pair promises of every list of events is `AcceptedIsSound`.
 pub fn check(handler: &[u8], proof: &[u8], work: &mut [u64]) -> Verdict
     ensures verdict { λ r. ⌜ r ≡ answer (now (handler .entry)) (now (proof .entry)) (length (now (work .entry))) .verdict ⌝ }
     ensures words { λ _. ⌜ now (work .exit) ≡ workAfter (now (handler .entry)) (now (proof .entry)) (now (work .entry)) ⌝ }
-    ensures promise { λ r. ⌜ Upheld (now (handler .entry)) (now (proof .entry)) r ⌝ }
+    ensures promise { λ r. ⌜ AcceptedIsSound (now (handler .entry)) (now (proof .entry)) r ⌝ }
 {
-    if work.len() < 1040 {
-        return at_bit(1, 0);
+    if work.len() < WORK_WORDS {
+        return at_bit(FEW_WORDS, 0);
     }
-    if handler.len() > 16384 {
-        return at_bit(2, 0);
+    if handler.len() > MOST_BYTES {
+        return at_bit(LONG_FILE, 0);
     }
-    if proof.len() > 16384 {
-        return at_bit(2, 0);
+    if proof.len() > MOST_BYTES {
+        return at_bit(LONG_FILE, 0);
     }
-    match read_handler(handler) {
-        HandlerFile::Fault(number, place) => {
+    let file = read_handler(handler);
+    let found = file.found;
+    match found {
+        HandlerFound::Fault(number, place) => {
             clear(work);
             at_bit(number, place)
         }
-        HandlerFile::Handler(variables, states, stmt, steps) => check_proof(
-            handler,
-            proof,
-            work,
-            variables,
-            states,
-            stmt,
-            steps,
-        ),
+        HandlerFound::Handler(read) => {
+            let head = file.head;
+            let statements = file.statements;
+            check_proof(handler, proof, work, head, &statements, read.steps)
+        }
     }
 }
