@@ -11,6 +11,7 @@ use lib.ListN.{length}
 use lib.Dec.{ltb}
 use borrow.Author.Tests.{ltb-false, le-ltb}
 use Rattle.semantics.specs.Language.{Stmt}
+use Rattle.semantics.specs.States.{product}
 use Rattle.semantics.specs.StepNumber.{steps}
 use Rattle.semantics.specs.Checking.{Broken, firstFault}
 use Rattle.handler.specs.Reading.{HandlerRead, handler, refused, readHandler}
@@ -50,18 +51,18 @@ module _ (hb pb : List ℕ) (words k : ℕ) where
 
   module _ (enough : 1040 ≤ words) (short : length hb ≤ 16384) (short′ : length pb ≤ 16384) where
     -- 20 to 25: the proof file is read over the handler file's N.
-    by-proof : (c n at : ℕ) (S : Stmt) → readHandler hb ≡ handler c n at S → (r : Proofs.ProofRead) → Proofs.readProof pb n ≡ r
-        → onProof hb pb c n S r .verdict ≡ Accepted k → Acceptable hb pb words k
-    by-proof c n at S h (Proofs.refused j place) p e = absurd (let z : _≡_ {A = ℕ} 0 1 = cc in omega arith)
-    by-proof c n at S h (Proofs.proof sets relations root d) p e =
-        let (unbroken, (number, limit)) = by-fault (firstFault (tablesOf hb pb c n sets) d S 0) (steps n S) k (tableWord pb n sets relations) e in
+    by-proof : (sizes : List ℕ) (at : ℕ) (S : Stmt) → readHandler hb ≡ handler sizes at S → (r : Proofs.ProofRead)
+        → Proofs.readProof pb (product sizes) ≡ r → onProof pb sizes S r .verdict ≡ Accepted k → Acceptable hb pb words k
+    by-proof sizes at S h (Proofs.refused j place) p e = absurd (let z : _≡_ {A = ℕ} 0 1 = cc in omega arith)
+    by-proof sizes at S h (Proofs.proof sets relations root d) p e =
+        let N = product sizes in
+        let (unbroken, (number, limit)) = by-fault (firstFault (tablesOf pb sizes sets) d S 0) (steps N S) k (tableWord pb N sets relations) e in
         record {
           enough = enough;
           handler-length = short;
           proof-length = short′;
           pair = record {
-            variables = c;
-            N = n;
+            sizes = sizes;
             statement-bit = at;
             statement = S;
             handler-read = h;
@@ -77,9 +78,9 @@ module _ (hb pb : List ℕ) (words k : ℕ) where
         }
 
     -- 10 to 18: the handler file is read.
-    by-handler : (r : HandlerRead) → readHandler hb ≡ r → onHandler hb pb r .verdict ≡ Accepted k → Acceptable hb pb words k
+    by-handler : (r : HandlerRead) → readHandler hb ≡ r → onHandler pb r .verdict ≡ Accepted k → Acceptable hb pb words k
     by-handler (refused j place) h e = absurd (let z : _≡_ {A = ℕ} 0 1 = cc in omega arith)
-    by-handler (handler c n at S) h e = by-proof c n at S h (Proofs.readProof pb n) refl e
+    by-handler (handler sizes at S) h e = by-proof sizes at S h (Proofs.readProof pb (product sizes)) refl e
 
   accepted : answer hb pb words .verdict ≡ Accepted k → Acceptable hb pb words k
   accepted e =

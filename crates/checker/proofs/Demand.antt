@@ -6,14 +6,12 @@ use mathlib.Core.Bool.{cond}
 use mathlib.Core.List.{List}
 use lib.ListN.{length}
 use Rattle.semantics.specs.States.{machineOf}
-use Rattle.semantics.specs.StepNumber.{steps}
 use Rattle.semantics.specs.Promise.{Promise}
 use Rattle.semantics.proofs.Soundness.{soundness}
-use Rattle.expressions.specs.Header.{sizesOf}
 use Rattle.derivation.specs.Tables.{written}
 use Rattle.checker.specs.declared.Verdict.{Verdict}
 use Rattle.checker.specs.Verdicts.{Answer, tablesIn, rootSpec, answer, workAfter, AcceptedIsSound}
-use Rattle.checker.proofs.Stages.{kinds-fit, states-are}
+use Rattle.checker.proofs.Stages.{kinds-fit}
 use Rattle.checker.proofs.Acceptance.{accepted-exactly}
 
 pub accepted-is-sound : (hb pb : List ℕ) (words : ℕ) → AcceptedIsSound hb pb (answer hb pb words .verdict)
@@ -21,11 +19,9 @@ accepted-is-sound hb pb words = record {
   sound = λ k e.
       let a = accepted-exactly hb pb words k .0 e in
       let p = a .pair in
-      let N-is = states-are hb (p .variables) (p .N) (p .statement-bit) (p .statement) (p .handler-read) in
-      let kinds = kinds-fit hb (p .variables) (p .N) (p .statement-bit) (p .statement) (p .handler-read) in (
+      let kinds = kinds-fit hb (p .sizes) (p .statement-bit) (p .statement) (p .handler-read) in (
         p,
-        subst (Promise (machineOf (sizesOf hb (p .variables))) (p .statement) (rootSpec p))
-            (ap (λ N. steps N (p .statement)) N-is ∙ sym (a .number))
+        subst (Promise (machineOf (p .sizes)) (p .statement) (rootSpec p)) (sym (a .number))
             (soundness (tablesIn p) (p .derivation) (p .statement) 0 (a .unbroken) kinds),
       );
 }

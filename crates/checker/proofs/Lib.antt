@@ -1,11 +1,7 @@
--- The walk over the nodes of a derivation, and the theorem of the bytes.
-pub mod Demand
-pub mod Faults
-pub mod Loaded
-pub mod Standing
-pub mod Meeting
-pub mod Walking
+-- What the loop finds, demand 2 and demand 3 of the bytes.
 pub mod Stages
+pub mod Loaded
+pub mod Meaning
 pub mod Judging
-pub mod Sites
-pub mod Owed
+pub mod Acceptance
+pub mod Demand

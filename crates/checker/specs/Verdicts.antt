@@ -54,7 +54,7 @@ abbrev pub onFault : Option Broken → ℕ → (ℕ → ℕ) → Answer
 onFault none k words = onSteps k words
 onFault (some b) k words = cleared (refusedAt (b .number) (Node (b .node)))
 
-module _ (hb pb : List ℕ) where
+module _ (pb : List ℕ) where
   abbrev pub onProof : List ℕ → Stmt → Proofs.ProofRead → Answer
   onProof sizes S (Proofs.refused k place) = cleared (refusedAt k (Bit place))
   onProof sizes S (Proofs.proof sets relations root d) =
@@ -64,11 +64,12 @@ module _ (hb pb : List ℕ) where
   onHandler (refused k place) = cleared (refusedAt k (Bit place))
   onHandler (handler sizes at S) = onProof sizes S (Proofs.readProof pb (product sizes))
 
+module _ (hb pb : List ℕ) where
   -- The answer to two files with so many work words.
   unfoldable pub answer : ℕ → Answer
   answer words =
       cond (ltb words 1040) (untouched (refusedAt 1 (Bit 0)))
-      (cond (ltb 16384 (length hb) || ltb 16384 (length pb)) (untouched (refusedAt 2 (Bit 0))) (onHandler (readHandler hb)))
+      (cond (ltb 16384 (length hb) || ltb 16384 (length pb)) (untouched (refusedAt 2 (Bit 0))) (onHandler pb (readHandler hb)))
 
   -- The work words at exit.
   unfoldable pub workAfter : List ℕ → List ℕ

@@ -94,9 +94,9 @@ fn check_proof(
 ) -> Verdict
     requires { ⌜ Handled (now handler) head (now statements) steps ⌝ }
     requires { ⌜ 1040 ≤ length (now work) ⌝ }
-    ensures verdict { λ r. ⌜ r ≡ onHandler (now (handler .entry)) (now (proof .entry)) (readHandler (now (handler .entry))) .verdict ⌝ }
+    ensures verdict { λ r. ⌜ r ≡ onHandler (now (proof .entry)) (readHandler (now (handler .entry))) .verdict ⌝ }
     ensures words { λ _.
-        ⌜ now (work .exit) ≡ written (onHandler (now (handler .entry)) (now (proof .entry)) (readHandler (now (handler .entry))) .words) (now (work .entry)) ⌝ }
+        ⌜ now (work .exit) ≡ written (onHandler (now (proof .entry)) (readHandler (now (handler .entry))) .words) (now (work .entry)) ⌝ }
 {
     let file = load(proof, head.states, work);
     let found = file.found;
