@@ -1,6 +1,6 @@
 -- Laws that every walk over expressions cites: one level of reading, what a node's head says of its place, and what is
 -- known of an expression that was read.
-use Prim.Native.Nat.{ℕ, zero, suc, _+_, _-_, _≤_, _<_}
+use Prim.Native.Nat.{ℕ, zero, suc, _+_, _-_, _*_, _≤_, _<_}
 use mathlib.Core.Bool.{Bool, true, false, cond}
 use mathlib.Core.List.{List, [], _∷_}
 use mathlib.Core.Logic.{⊎-elim}
@@ -128,10 +128,12 @@ module _ (bytes : List ℕ) (count nodes : ℕ) where
   pub headed-as : (at : ℕ) (head : ExprHead) → exprHead bytes count nodes at ≡ head → Headed count nodes at head
   headed-as at head e = rw e at (headed at)
 
--- What is known of an expression that was read: where it ends, and that its nodes count for its E and are at most 31.
+-- What is known of an expression that was read: where it ends, that its nodes count for its E and are at most 31, of at most 10 bits
+-- each.
 pub record Read (nodes at : ℕ) (e : Expr) (after next : ℕ) : Type 0 where
   pub ends : next ≡ at + width e
   pub counted : nodes + E e ≤ after
+  pub short : width e + 10 * nodes ≤ 10 * after
   pub room : after ≤ 31
 
 abbrev AllRead : ℕ → ℕ → ExprRead → Type 0

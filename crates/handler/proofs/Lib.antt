@@ -1,6 +1,8 @@
 -- Laws of reading that the proofs here and callers cite; each function's proof is in its own folder.
 pub mod StmtFolds
 pub mod StmtShapes
+pub mod StatementTable
 pub mod Parts
+pub mod Handlers
 pub mod Fitting
 pub mod Cases

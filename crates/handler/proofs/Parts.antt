@@ -18,7 +18,7 @@ use Rattle.handler.specs.Statements.{markHead, stmtHead, StmtRead, whole
 use Rattle.expressions.specs.Kinds.{width}
 use Rattle.handler.specs.Kinds.{stmtWidth}
 use Rattle.handler.specs.Shapes.{testPart, headPart, partAt}
-use Rattle.handler.proofs.StmtFolds.{Marked, marked, whole-ends, stmt-read}
+use Rattle.handler.proofs.StmtFolds.{Marked, marked, whole-read, stmt-read}
 
 -- Where there is room, a head does not depend on how much.
 same-head : (bytes : List ℕ) (count below before below′ before′ at : ℕ) (head : StmtHead) → 0 < below → before < 63 → 0 < below′ → before′ < 63
@@ -71,7 +71,7 @@ module _ (bytes : List ℕ) (count d : ℕ) where
       same : (h : StmtHead) → stmtHead bytes count levels b at ≡ h → 0 < levels → b < 63 → stmtHead bytes count levels′ before at ≡ h
       same h p deep room = same-head bytes count levels b levels′ before at h deep room (omega arith) (omega arith) p
 
-      by : (h : StmtHead) → stmtHead bytes count levels b at ≡ h → Marked levels b at h
+      by : (h : StmtHead) → stmtHead bytes count levels b at ≡ h → Marked count levels b at h
           → ((n m i : ℕ) → n ≡ m + d → Fresh d (stmtAt levels bytes count n i) (stmtAt levels′ bytes count m i))
           → Fresh d (onStmtHead h (wholeExpr bytes count) b (stmtAt levels bytes count))
           (onStmtHead (stmtHead bytes count levels′ before at) (wholeExpr bytes count) before (stmtAt levels′ bytes count))
@@ -180,7 +180,7 @@ module _ (bytes : List ℕ) (count at : ℕ) where
           → Apart (testPart code next x) (onTest code 1 x below)
       test code next placed least most (bad k place) p = tt
       test code next placed least most (good e nodes behind) p =
-          body code next placed least most e behind (whole-ends bytes count next e nodes behind p)
+          body code next placed least most e behind (whole-read bytes count next e nodes behind p .ends)
           (record { nodes = nodes; next = behind; read = p }) (below 1 behind) refl
 
       assigned : (v next : ℕ) → next ≡ at + 5 → (x : ExprRead) → wholeExpr bytes count next ≡ x → Apart (part.Assign v next) (onAssigned v 1 x)
@@ -188,7 +188,7 @@ module _ (bytes : List ℕ) (count at : ℕ) where
       assigned v next placed (good e nodes behind) p =
           (rw placed, rw (← placed) (record { nodes = nodes; next = behind; read = p }))
 
-      by : (h : StmtHead) → Marked 16 0 at h → Apart (headPart bytes count h) (onStmtHead h (wholeExpr bytes count) 0 below)
+      by : (h : StmtHead) → Marked count 16 0 at h → Apart (headPart bytes count h) (onStmtHead h (wholeExpr bytes count) 0 below)
       by (Nil next) m = (refl, tt)
       by (Assign v next) m = assigned v next (m .2) (wholeExpr bytes count next) refl
       by (Pair code next) m = left code next (m .2) (m .3) (m .4) (below 1 next) refl

@@ -1,5 +1,5 @@
 -- Laws of reading statements: one level, what a head says of its place, and what is known of a statement that was read.
-use Prim.Native.Nat.{ℕ, zero, suc, _+_, _-_, _≤_, _<_}
+use Prim.Native.Nat.{ℕ, zero, suc, _+_, _-_, _*_, _≤_, _<_}
 use mathlib.Core.Bool.{Bool, true, false, cond, _||_}
 use mathlib.Core.List.{List}
 use mathlib.Core.Path.{_≡_, refl}
@@ -31,31 +31,32 @@ stmt-step bytes count (suc levels) before at head more e =
     let here : stmtHead bytes count levels before at ≡ head = rw less at e in
     rw (here, less)
 
--- What is known where a statement's head is no fault: there was room for the statement, and where the head ends.
-unfoldable pub Marked : ℕ → ℕ → ℕ → StmtHead → Type 0
-Marked below before at (Nil next) = (0 < below) × (before < 63) × (next ≡ at + 3)
-Marked below before at (Assign v next) = (0 < below) × (before < 63) × (next ≡ at + 5)
-Marked below before at (Pair code next) = (0 < below) × (before < 63) × (next ≡ at + 3) × (2 ≤ code) × (code < 4)
-Marked below before at (Test code next) = (0 < below) × (before < 63) × (next ≡ at + 3) × (4 ≤ code) × (code < 6)
-Marked below before at (Fault k place) = Unit {0}
+-- What is known where a statement's head is no fault: there was room for the statement, where the head ends, and that an assigned
+-- variable is there.
+unfoldable pub Marked : ℕ → ℕ → ℕ → ℕ → StmtHead → Type 0
+Marked count below before at (Nil next) = (0 < below) × (before < 63) × (next ≡ at + 3)
+Marked count below before at (Assign v next) = (0 < below) × (before < 63) × (next ≡ at + 5) × (v < count) × (v < 4)
+Marked count below before at (Pair code next) = (0 < below) × (before < 63) × (next ≡ at + 3) × (2 ≤ code) × (code < 4)
+Marked count below before at (Test code next) = (0 < below) × (before < 63) × (next ≡ at + 3) × (4 ≤ code) × (code < 6)
+Marked count below before at (Fault k place) = Unit {0}
 
 module _ (bytes : List ℕ) (count below before : ℕ) where
   module _ (deep : 0 < below) (room : before < 63) (at next : ℕ) (moved : next ≡ at + 3) where
-    on-target : (f : Field) → fieldAt bytes next 2 ≡ f → Marked below before at (targetHead bytes count next f)
+    on-target : (f : Field) → fieldAt bytes next 2 ≡ f → Marked count below before at (targetHead bytes count next f)
     unfolding Marked targetHead
     on-target Missing e = tt
     on-target (Value v after) e = by (ltb v count) refl
       where
-        by : (b : Bool) → ltb v count ≡ b → Marked below before at (cond b (Assign v after) (Fault 15 next))
-        by true t = omega (arith, there bytes next 2 v after e)
+        by : (b : Bool) → ltb v count ≡ b → Marked count below before at (cond b (Assign v after) (Fault 15 next))
+        by true t = omega (arith, there bytes next 2 v after e, ltb-true)
         by false t = tt
 
-    on-code : (code : ℕ) → Marked below before at (codeHead bytes count at code next)
+    on-code : (code : ℕ) → Marked count below before at (codeHead bytes count at code next)
     unfolding Marked codeHead
     on-code code = by (eqb code 0) (eqb code 1) (ltb code 4) (ltb code 6) refl refl refl refl
       where
         by : (a b c d : Bool) → eqb code 0 ≡ a → eqb code 1 ≡ b → ltb code 4 ≡ c → ltb code 6 ≡ d
-            → Marked below before at (cond a (Nil next) (cond b (targetHead bytes count next (fieldAt bytes next 2)) (cond c (Pair code next) (cond d (Test code next) (Fault 14 at)))))
+            → Marked count below before at (cond a (Nil next) (cond b (targetHead bytes count next (fieldAt bytes next 2)) (cond c (Pair code next) (cond d (Test code next) (Fault 14 at)))))
         by true b c d t u p q = omega arith
         by false true c d t u p q = on-target _ refl
         by false false true d t u p q =
@@ -65,93 +66,113 @@ module _ (bytes : List ℕ) (count below before : ℕ) where
         by false false false true t u p q = omega (arith, ltb-true, ltb-false)
         by false false false false t u p q = tt
 
-  pub marked : (at : ℕ) (head : StmtHead) → stmtHead bytes count below before at ≡ head → Marked below before at head
+  pub marked : (at : ℕ) (head : StmtHead) → stmtHead bytes count below before at ≡ head → Marked count below before at head
   unfolding Marked stmtHead markHead
   marked at head e = rw e at (by (fieldAt bytes at 3) refl)
     where
       full : (a b : Bool) → eqb below 0 ≡ a → leb 63 before ≡ b → (code next : ℕ) → next ≡ at + 3
-          → Marked below before at (cond (a || b) (Fault 17 at) (codeHead bytes count at code next))
+          → Marked count below before at (cond (a || b) (Fault 17 at) (codeHead bytes count at code next))
       full true b p q code next moved = tt
       full false true p q code next moved = tt
       full false false p q code next moved = let some = eqb-false below 0 p in on-code (omega arith) (leb-false 63 before q) at next moved code
 
-      by : (f : Field) → fieldAt bytes at 3 ≡ f → Marked below before at (markHead bytes count (eqb below 0 || leb 63 before) at f)
+      by : (f : Field) → fieldAt bytes at 3 ≡ f → Marked count below before at (markHead bytes count (eqb below 0 || leb 63 before) at f)
       by Missing e = tt
       by (Value code next) e = full (eqb below 0) (leb 63 before) refl refl code next (there bytes at 3 code next e .moved)
 
--- Where a whole expression ends.
-pub whole-ends : (bytes : List ℕ) (count at : ℕ) (e : Expr) (nodes next : ℕ) → wholeExpr bytes count at ≡ good e nodes next → next ≡ at + width e
-unfolding wholeExpr
-whole-ends bytes count at e nodes next p = expr-read 32 bytes count 0 at e nodes next p .ends
+-- Where a whole expression ends; it has at most 31 nodes of 10 bits.
+pub record ReadExpr (at : ℕ) (e : Expr) (next : ℕ) : Type 0 where
+  pub ends : next ≡ at + width e
+  pub short : width e ≤ 310
 
--- What is known of a statement that was read: where it ends, and that it counts among at most 63.
-pub record ReadStmt (before at : ℕ) (S : Stmt) (after next : ℕ) : Type 0 where
+pub whole-read : (bytes : List ℕ) (count at : ℕ) (e : Expr) (nodes next : ℕ) → wholeExpr bytes count at ≡ good e nodes next → ReadExpr at e next
+unfolding wholeExpr
+whole-read bytes count at e nodes next p =
+    let known = expr-read 32 bytes count 0 at e nodes next p in
+    record { ends = known .ends; short = omega arith }
+
+-- The variables that a statement assigns are below a count.
+abbrev pub TargetsBelow : ℕ → Stmt → Type 0
+TargetsBelow count nil = Unit {0}
+TargetsBelow count (assign v e) = v < count
+TargetsBelow count (seq l r) = TargetsBelow count l × TargetsBelow count r
+TargetsBelow count (par l r) = TargetsBelow count l × TargetsBelow count r
+TargetsBelow count (if e b) = TargetsBelow count b
+TargetsBelow count (while e b) = TargetsBelow count b
+
+-- What is known of a statement that was read: where it ends, that it counts among at most 63, and how long it is: a code and a
+-- variable of 5 bits, and an expression of at most 31 nodes of 10 bits.
+pub record ReadStmt (count before at : ℕ) (S : Stmt) (after next : ℕ) : Type 0 where
   pub ends : next ≡ at + stmtWidth S
   pub counted : after ≡ before + statements S
   pub room : after ≤ 63
+  pub short : stmtWidth S ≤ 315 * statements S
+  pub targets : TargetsBelow count S
 
-abbrev AllRead : ℕ → ℕ → StmtRead → Type 0
-AllRead before at (whole S after next) = ReadStmt before at S after next
-AllRead before at (fault k place) = Unit {0}
+abbrev AllRead : ℕ → ℕ → ℕ → StmtRead → Type 0
+AllRead count before at (whole S after next) = ReadStmt count before at S after next
+AllRead count before at (fault k place) = Unit {0}
 
-paired-width : (b : Bool) (l r : Stmt) → stmtWidth (cond b (seq l r) (par l r)) ≡ 3 + stmtWidth l + stmtWidth r
-paired-width true l r = refl
-paired-width false l r = refl
+-- A statement made of parts that were read.
+pair-read : (b : Bool) (count before at next : ℕ) (l r : Stmt) (so-far behind after end : ℕ) → next ≡ at + 3
+    → ReadStmt count (suc before) next l so-far behind → ReadStmt count so-far behind r after end
+    → ReadStmt count before at (cond b (seq l r) (par l r)) after end
+pair-read true count before at next l r so-far behind after end placed first second =
+    record { ends = omega arith; counted = omega arith; room = second .room; short = omega arith; targets = (first .targets, second .targets) }
+pair-read false count before at next l r so-far behind after end placed first second =
+    record { ends = omega arith; counted = omega arith; room = second .room; short = omega arith; targets = (first .targets, second .targets) }
 
-tested-width : (b : Bool) (e : Expr) (s : Stmt) → stmtWidth (cond b (if e s) (while e s)) ≡ 3 + width e + stmtWidth s
-tested-width true e s = refl
-tested-width false e s = refl
+test-read : (t : Bool) (count before at next : ℕ) (e : Expr) (b : Stmt) (behind after end : ℕ) → next ≡ at + 3 → ReadExpr next e behind
+    → ReadStmt count (suc before) behind b after end → ReadStmt count before at (cond t (if e b) (while e b)) after end
+test-read true count before at next e b behind after end placed first second =
+    record { ends = omega arith; counted = omega arith; room = second .room; short = omega arith; targets = second .targets }
+test-read false count before at next e b behind after end placed first second =
+    record { ends = omega arith; counted = omega arith; room = second .room; short = omega arith; targets = second .targets }
 
-paired-count : (b : Bool) (l r : Stmt) → statements (cond b (seq l r) (par l r)) ≡ 1 + statements l + statements r
-paired-count true l r = refl
-paired-count false l r = refl
-
-tested-count : (b : Bool) (e : Expr) (s : Stmt) → statements (cond b (if e s) (while e s)) ≡ 1 + statements s
-tested-count true e s = refl
-tested-count false e s = refl
-
-all-read : (levels : ℕ) (bytes : List ℕ) (count before at : ℕ) → AllRead before at (stmtAt levels bytes count before at)
+all-read : (levels : ℕ) (bytes : List ℕ) (count before at : ℕ) → AllRead count before at (stmtAt levels bytes count before at)
 unfolding stmtAt Marked
 all-read zero bytes count before at = tt
 all-read (suc levels) bytes count before at =
     by (stmtHead bytes count levels before at) (marked bytes count levels before at _ refl) (all-read levels bytes count)
   where
-    right : (code next : ℕ) → next ≡ at + 3 → (l : Stmt) (so-far behind : ℕ) → ReadStmt (suc before) next l so-far behind → (x : StmtRead)
-        → AllRead so-far behind x → AllRead before at (onRight code l x)
+    right : (code next : ℕ) → next ≡ at + 3 → (l : Stmt) (so-far behind : ℕ) → ReadStmt count (suc before) next l so-far behind → (x : StmtRead)
+        → AllRead count so-far behind x → AllRead count before at (onRight code l x)
     right code next placed l so-far behind first (fault k place) known = tt
     right code next placed l so-far behind first (whole r after end) known =
-        omega (arith, first, known, paired-width (eqb code 2) l r, paired-count (eqb code 2) l r)
+        pair-read (eqb code 2) count before at next l r so-far behind after end placed first known
 
-    left : (code next : ℕ) → next ≡ at + 3 → (x : StmtRead) → AllRead (suc before) next x → (stmt : ℕ → ℕ → StmtRead)
-        → ((n i : ℕ) → AllRead n i (stmt n i)) → AllRead before at (onLeft code x stmt)
+    left : (code next : ℕ) → next ≡ at + 3 → (x : StmtRead) → AllRead count (suc before) next x → (stmt : ℕ → ℕ → StmtRead)
+        → ((n i : ℕ) → AllRead count n i (stmt n i)) → AllRead count before at (onLeft code x stmt)
     left code next placed (fault k place) known stmt later = tt
     left code next placed (whole l so-far behind) known stmt later =
         right code next placed l so-far behind known (stmt so-far behind) (later so-far behind)
 
-    body : (code next behind : ℕ) → next ≡ at + 3 → (e : Expr) → behind ≡ next + width e → (x : StmtRead) → AllRead (suc before) behind x
-        → AllRead before at (onBody code e x)
-    body code next behind placed e ends (fault k place) known = tt
-    body code next behind placed e ends (whole b after end) known = omega (arith, known, tested-width (eqb code 4) e b, tested-count (eqb code 4) e b)
+    body : (code next behind : ℕ) → next ≡ at + 3 → (e : Expr) → ReadExpr next e behind → (x : StmtRead) → AllRead count (suc before) behind x
+        → AllRead count before at (onBody code e x)
+    body code next behind placed e first (fault k place) known = tt
+    body code next behind placed e first (whole b after end) known = test-read (eqb code 4) count before at next e b behind after end placed first known
 
     test : (code next : ℕ) → next ≡ at + 3 → (x : ExprRead) → wholeExpr bytes count next ≡ x → (stmt : ℕ → ℕ → StmtRead)
-        → ((n i : ℕ) → AllRead n i (stmt n i)) → AllRead before at (onTest code (suc before) x stmt)
+        → ((n i : ℕ) → AllRead count n i (stmt n i)) → AllRead count before at (onTest code (suc before) x stmt)
     test code next placed (bad k place) read stmt later = tt
     test code next placed (good e nodes behind) read stmt later =
-        body code next behind placed e (whole-ends bytes count next e nodes behind read) (stmt (suc before) behind) (later (suc before) behind)
+        body code next behind placed e (whole-read bytes count next e nodes behind read) (stmt (suc before) behind) (later (suc before) behind)
 
-    assigned : (v next : ℕ) → before < 63 → next ≡ at + 5 → (x : ExprRead) → wholeExpr bytes count next ≡ x
-        → AllRead before at (onAssigned v (suc before) x)
-    assigned v next room placed (bad k place) read = tt
-    assigned v next room placed (good e nodes behind) read = omega (arith, whole-ends bytes count next e nodes behind read)
+    assigned : (v next : ℕ) → before < 63 → next ≡ at + 5 → v < count → (x : ExprRead) → wholeExpr bytes count next ≡ x
+        → AllRead count before at (onAssigned v (suc before) x)
+    assigned v next room placed target (bad k place) read = tt
+    assigned v next room placed target (good e nodes behind) read =
+        let known = whole-read bytes count next e nodes behind read in
+        record { ends = omega arith; counted = omega arith; room = omega arith; short = omega arith; targets = target }
 
-    by : (h : StmtHead) → Marked levels before at h → ((n i : ℕ) → AllRead n i (stmtAt levels bytes count n i))
-        → AllRead before at (onStmtHead h (wholeExpr bytes count) before (stmtAt levels bytes count))
-    by (Nil next) p later = omega (arith, p)
-    by (Assign v next) p later = assigned v next (p .1) (p .2) (wholeExpr bytes count next) refl
+    by : (h : StmtHead) → Marked count levels before at h → ((n i : ℕ) → AllRead count n i (stmtAt levels bytes count n i))
+        → AllRead count before at (onStmtHead h (wholeExpr bytes count) before (stmtAt levels bytes count))
+    by (Nil next) p later = record { ends = p .2; counted = omega arith; room = omega arith; short = omega arith; targets = tt }
+    by (Assign v next) p later = assigned v next (p .1) (p .2) (p .3) (wholeExpr bytes count next) refl
     by (Pair code next) p later = left code next (p .2) (stmtAt levels bytes count (suc before) next) (later (suc before) next) (stmtAt levels bytes count) later
     by (Test code next) p later = test code next (p .2) (wholeExpr bytes count next) refl (stmtAt levels bytes count) later
     by (Fault k place) p later = tt
 
 pub stmt-read : (levels : ℕ) (bytes : List ℕ) (count before at : ℕ) (S : Stmt) (after next : ℕ)
-    → stmtAt levels bytes count before at ≡ whole S after next → ReadStmt before at S after next
+    → stmtAt levels bytes count before at ≡ whole S after next → ReadStmt count before at S after next
 stmt-read levels bytes count before at S after next p = rw p at (all-read levels bytes count before at)

@@ -35,7 +35,7 @@ use Rattle.expressions.specs.Shapes.{asKindError, exprSummary, exprShape}
 use Rattle.handler.specs.Shapes.{stmtSummary, stmtShape, assignedOf, pairOf, testedOf, fittingOf, filledOf, judgedOf, fileOf}
 use Rattle.handler.specs.Reading.{onKinds, onFill, onStmt}
 use Rattle.expressions.proofs.Shapes.{or-earlier, shaped, faulted}
-use Rattle.handler.proofs.StmtFolds.{stmt-step, Marked, marked, whole-ends, stmt-read}
+use Rattle.handler.proofs.StmtFolds.{stmt-step, Marked, marked, whole-read, stmt-read}
 
 -- A part past the limit may count as one past it, also where it counts y times.
 pub cap-part : (x y b : ℕ) → min (x + y * (min b (2 ^ 32) + 1)) (2 ^ 32) ≡ min (x + y * (b + 1)) (2 ^ 32)
@@ -175,7 +175,7 @@ module _ (bytes : List ℕ) (count levels before at N : ℕ) (more : 0 < levels)
           rw (stmt-step bytes count levels before at _ more head, ← add-one before, test .was)
           (ap (λ x. testedOf N code x (stmtShape N (e .next) body)) (test .is)
           ∙ tested-made N at code next (e .nodes) (e .next) (test .tree) body (marked bytes count (levels - 1) before at _ head .2)
-          (whole-ends bytes count next (test .tree) (e .nodes) (e .next) (test .was)))
+          (whole-read bytes count next (test .tree) (e .nodes) (e .next) (test .was) .ends))
 
 -- The file is judged as it is read.
 judged-made : (bytes sizes : List ℕ) (at : ℕ) (x : StmtRead) → wholeStmt bytes (length sizes) at ≡ x

@@ -1,0 +1,73 @@
+-- What a handler file that was read says of its head, its statement and its kinds.
+use Prim.Native.Nat.{ℕ, _≤_, _<_}
+use mathlib.Core.List.{List}
+use mathlib.Core.Option.{Option, none, some}
+use mathlib.Core.Path.{_≡_, refl}
+use native.Mathlib.Omega.{arith}
+use lib.ListN.{length}
+use Rattle.bits.specs.Fields.{fillAt}
+use Rattle.bits.specs.declared.Fill.{Fill}
+use Rattle.bits.specs.declared.Fill.the-variants.{Ends, Wrong}
+use Rattle.semantics.specs.Language.{Stmt, nil, assign, seq, par, if, while}
+use Rattle.semantics.specs.Conditions.{targetOf}
+use Rattle.expressions.specs.Header as head
+use Rattle.handler.specs.Statements.{StmtRead, whole, fault, wholeStmt}
+use Rattle.handler.specs.Kinds.{stmtKindError}
+use Rattle.handler.specs.StatementTable.{statements}
+use Rattle.handler.specs.Reading.{handler, refused, onKinds, onFill, onStmt, onHead, readHandler}
+use Rattle.handler.proofs.StmtFolds.{TargetsBelow, stmt-read}
+use Rattle.handler.proofs.Parts.{Stands}
+
+-- What was found on the way to a handler.
+pub record KnownHandler (bytes sizes : List ℕ) (at : ℕ) (S : Stmt) : Type 0 where
+  pub head : head.headAt bytes ≡ head.declared sizes at
+  pub stands : Stands bytes (length sizes) at S
+  pub fits : stmtKindError at S ≡ none
+  pub few : statements S ≤ 63
+  pub targets : TargetsBelow (length sizes) S
+
+module _ (bytes sizes : List ℕ) (at : ℕ) (S : Stmt) where
+  by-kinds : (xs : List ℕ) (i : ℕ) (T : Stmt) (o : Option ℕ) → onKinds xs i T o ≡ handler sizes at S → (o ≡ none) × (handler xs i T ≡ handler sizes at S)
+  by-kinds xs i T none e = (refl, e)
+  by-kinds xs i T (some place) e = absurd (let z : _≡_ {A = ℕ} 0 1 = cc in omega arith)
+
+  by-fill : (xs : List ℕ) (i : ℕ) (T : Stmt) (f : Fill) → onFill xs i T f ≡ handler sizes at S
+      → (stmtKindError i T ≡ none) × (handler xs i T ≡ handler sizes at S)
+  by-fill xs i T Ends e = by-kinds xs i T (stmtKindError i T) e
+  by-fill xs i T (Wrong place) e = absurd (let z : _≡_ {A = ℕ} 0 1 = cc in omega arith)
+
+  by-stmt : (xs : List ℕ) (i : ℕ) (x : StmtRead) → head.headAt bytes ≡ head.declared xs i → wholeStmt bytes (length xs) i ≡ x
+      → onStmt bytes xs i x ≡ handler sizes at S → KnownHandler bytes sizes at S
+  unfolding wholeStmt
+  by-stmt xs i (fault k place) h w e = absurd (let z : _≡_ {A = ℕ} 0 1 = cc in omega arith)
+  by-stmt xs i (whole T after next) h w e =
+      let (fit, is) = by-fill xs i T (fillAt bytes next) e in
+      let sizes-are : xs ≡ sizes = cc in
+      let at-is : i ≡ at = cc in
+      let S-is : T ≡ S = cc in
+      let read : wholeStmt bytes (length sizes) at ≡ whole S after next = rw (sizes-are, at-is, S-is) at w in
+      let known = stmt-read 17 bytes (length sizes) 0 at S after next read in
+      record {
+        head = rw (sizes-are, at-is) at h;
+        stands = record { after = after; next = next; read = read };
+        fits = rw (at-is, S-is) at fit;
+        few = omega arith;
+        targets = known .targets;
+      }
+
+  by-head : (h : head.HeadRead) → head.headAt bytes ≡ h → onHead bytes h ≡ handler sizes at S → KnownHandler bytes sizes at S
+  by-head (head.fault k place) h e = absurd (let z : _≡_ {A = ℕ} 0 1 = cc in omega arith)
+  by-head (head.declared xs i) h e = by-stmt xs i (wholeStmt bytes (length xs) i) h refl e
+
+  pub known-handler : readHandler bytes ≡ handler sizes at S → KnownHandler bytes sizes at S
+  unfolding readHandler
+  known-handler e = by-head (head.headAt bytes) refl e
+
+-- Of a statement with no assignment the variable is 0.
+pub target-small : (count : ℕ) (S : Stmt) → count ≤ 4 → TargetsBelow count S → targetOf S < 4
+target-small count nil few below = omega arith
+target-small count (assign v e) few below = omega arith
+target-small count (seq l r) few below = omega arith
+target-small count (par l r) few below = omega arith
+target-small count (if e b) few below = omega arith
+target-small count (while e b) few below = omega arith
