@@ -3,56 +3,61 @@
 use Prim.Native.Nat.{ℕ, suc, _+_, _≤_, _<_}
 use mathlib.Core.Path.{_≡_, refl, sym, _∙_, ap, subst}
 use mathlib.Core.Bool.{Bool, true, false}
-use mathlib.Core.List.{List, [], _∷_, _++_}
+use mathlib.Core.List.{List, [], _∷_, _++_, append-assoc}
 use mathlib.Core.Option.{Option, none, some}
 use native.Mathlib.Omega.{arith}
 use lib.Dec.{eqb}
-use lib.ListN.{length, getD, drop}
-use lib.Seq.{drop-drop, drop-append-seam}
+use lib.ListN.{length, drop}
+use lib.Seq.{drop-drop, drop-at}
 use Rattle.states.specs.Search.{must}
 use Rattle.semantics.specs.declared.Names.{Names}
 use Rattle.semantics.specs.Language.{Expr, Stmt, nil, assign, seq, par, if, while}
-use Rattle.semantics.specs.States.{Machine, machineOf}
 use Rattle.semantics.specs.Derivations.{Derivation, skip, assignment, sequence, parallel, conditional, iteration, weaken, namesOf, nodes, Tables, setOf, relationOf, specOf}
-use Rattle.semantics.specs.Conditions.{codeOf, targetOf, exprOf, firstOf, secondOf}
+use Rattle.semantics.specs.Conditions.{codeOf, firstOf, secondOf}
 use Rattle.semantics.specs.Checking.{Broken, firstBroken, orBroken, atNode, obligations, firstFault}
-use Rattle.semantics.proofs.Clear.{clear, made, says30}
-use Rattle.expressions.specs.declared.head.Head.{Head}
+use Rattle.semantics.proofs.Clear.{clear, says30}
 use Rattle.expressions.specs.Header.{headOf, machineIn}
 use Rattle.expressions.specs.Kinds.{width}
 use Rattle.evaluation.specs.Values.{exprIn}
-use Rattle.handler.specs.declared.table.Statement.{Statement}
+use Rattle.evaluation.proofs.Laws.{expr-read}
 use Rattle.handler.specs.Kinds.{stmtWidth}
-use Rattle.handler.specs.StatementTable as Table
-use Rattle.handler.proofs.Parts.{Stands, StandsExpr, PartsOf, parts}
-use Rattle.handler.proofs.StatementTable.{length-statementWords, statement-held}
-use Rattle.derivation.specs.declared.Node.{Node}
-use Rattle.derivation.specs.NodeTable.{nodeIn, nodeBits, nodeRecord, nodeWords}
+use Rattle.handler.specs.StatementTable.{statements, statementIn, statementRecord}
+use Rattle.handler.proofs.StmtFolds.{TargetsBelow}
+use Rattle.handler.proofs.Parts.{Stands, StandsExpr, parts}
+use Rattle.handler.proofs.StatementTable.{Held, parts-held, statement-held}
+use Rattle.handler.proofs.Handlers.{target-small}
+use Rattle.derivation.specs.NodeTable.{nodeIn, nodeBits, ruleOf, nodeRecord, nodeWords}
 use Rattle.derivation.proofs.NodeTable.{Named, Known, names-known, length-nodeWords, node-held}
 use Rattle.rules.specs.Words.{wordSet, wordRelation, wordSpec}
 use Rattle.rules.specs.Obligations.{obligationsIn}
 use Rattle.checker.specs.Nodes.{statementAfter, obligationsAt, faultsFrom}
-
--- What comes after the first words of a list that is held from i on.
-after-words : (table front back : List ℕ) (i : ℕ) → drop i table ≡ front ++ back → drop (i + length front) table ≡ back
-after-words table front back i e = sym (drop-drop (length front) i table) ∙ ap (drop (length front)) e ∙ drop-append-seam front back
 
 or-assoc : (a b c : Option Broken) → orBroken (orBroken a b) c ≡ orBroken a (orBroken b c)
 or-assoc none b c = refl
 or-assoc (some x) b c = refl
 
 -- A condition of a node that is broken ends the search; else it goes on with the nodes after it.
-pass : (i : ℕ) (own : Option ℕ) (below rest : Option Broken) (next : Option Broken) → (own ≡ none → next ≡ orBroken below rest)
+pass : (i : ℕ) (own : Option ℕ) (below next rest : Option Broken) → (own ≡ none → next ≡ orBroken below rest)
     → orBroken (atNode i own) next ≡ orBroken (orBroken (atNode i own) below) rest
-pass i none below rest next on = on refl
-pass i (some k) below rest next on = refl
+pass i none below next rest on = on refl
+pass i (some k) below next rest on = refl
 
-alone : (i : ℕ) (own : Option ℕ) → atNode i own ≡ orBroken (atNode i own) none
-alone i none = refl
-alone i (some k) = refl
+no-more : (i : ℕ) (own : Option ℕ) → atNode i own ≡ orBroken (atNode i own) none
+no-more i none = refl
+no-more i (some k) = refl
 
--- The words hold the tables of the proof file, and the head its machine.
+-- The words after the first one, and after those of the first of two parts.
+later : (table rest : List ℕ) (word i : ℕ) → drop i table ≡ word ∷ rest → drop (suc i) table ≡ rest
+later table rest word i e =
+    let next : i + 1 ≡ suc i = omega arith in
+    ap (λ n. drop n table) (sym next) ∙ sym (drop-drop 1 i table) ∙ ap (drop 1) e
+
+second : (table front back : List ℕ) (i k : ℕ) → length front ≡ k → drop i table ≡ front ++ back → drop (i + k) table ≡ back
+second table front back i k long e = sym (drop-drop k i table) ∙ ap (drop k) e ∙ drop-at front back k long
+
+-- The work words hold the tables of the proof file, and the head is the machine's.
 pub record Decoded (sizes work : List ℕ) (t : Tables) (sets relations : ℕ) : Type 0 where
+  pub few-sizes : length sizes ≤ 4
   pub few-sets : sets ≤ 16
   pub few-relations : relations ≤ 16
   pub machine-is : machineIn (headOf sizes) ≡ t .machine
@@ -63,13 +68,13 @@ module _ (bytes sizes work nodeTable statementTable : List ℕ) (t : Tables) (se
   -- A derivation and a statement from node i and statement s of the tables on.
   pub record AtHand (i s bit place : ℕ) (d : Derivation) (S : Stmt) : Type 0 where
     pub known : Known sets relations d
-    pub stands : Stands bytes (length sizes) place S
     pub node-room : i + nodes d ≤ 127
-    pub statement-room : s + Table.statements S ≤ 63
     pub node-rest : List ℕ
     pub nodes-are : drop i nodeTable ≡ nodeWords i bit d ++ node-rest
-    pub statement-rest : List ℕ
-    pub statements-are : drop s statementTable ≡ Table.statementWords s place S ++ statement-rest
+    pub stands : Stands bytes (length sizes) place S
+    pub targets : TargetsBelow (length sizes) S
+    pub statement-room : s + statements S ≤ 63
+    pub statements-are : Held statementTable s place S
 
   spec-is : (h : Names) → Named sets relations h → wordSpec (t .machine .states) work h ≡ specOf t h
   spec-is h k = λ i. record {
@@ -85,21 +90,24 @@ module _ (bytes sizes work nodeTable statementTable : List ℕ) (t : Tables) (se
   abbrev faults : ℕ → ℕ → ℕ → Option Broken
   faults = faultsFrom bytes (headOf sizes) work nodeTable statementTable
 
-  module _ {i s bit place : ℕ} {d : Derivation} {S : Stmt} (h : AtHand i s bit place d S) where
+  module _ {i s bit place : ℕ} {d : Derivation} {S : Stmt} (a : AtHand i s bit place d S) where
     node-is : nodeIn nodeTable i ≡ nodeRecord i bit d
-    node-is = node-held sets relations (ready .few-sets) (ready .few-relations) nodeTable (h .node-rest) i bit d (h .known) (h .node-room) (h .nodes-are)
+    node-is = node-held sets relations nodeTable (a .node-rest) i bit d (a .known) (ready .few-sets) (ready .few-relations) (a .node-room) (a .nodes-are)
 
-    statement-is : Table.statementIn statementTable s ≡ Table.statementRecord s place S
-    statement-is = statement-held bytes sizes statementTable (h .statement-rest) s place S (h .stands) (h .statement-room) (h .statements-are)
+    statement-is : statementIn statementTable s ≡ statementRecord s place S
+    statement-is =
+        statement-held statementTable s place S (a .statements-are) (target-small (length sizes) S (ready .few-sizes) (a .targets)) (a .statement-room)
 
-    named : specOf t (namesOf d) ≡ wordSpec (t .machine .states) work (namesOf d)
-    named = sym (spec-is (namesOf d) (names-known sets relations d (h .known)))
+    tables-are : wordSpec (t .machine .states) work (namesOf d) ≡ specOf t (namesOf d)
+    tables-are = spec-is (namesOf d) (names-known sets relations d (a .known))
 
-  -- What a node's own conditions say, from the words as from the files. Where 30 fails nothing else matters.
-  module _ (i s bit place : ℕ) (S : Stmt) where
-    abbrev Means : Derivation → Type 0
-    Means d = own i s ≡ firstBroken (obligations t d S)
+  -- The expression of a statement.
+  expr-is : (place : ℕ) (e : Expr) → StandsExpr bytes (length sizes) place e → exprIn bytes (headOf sizes .count) place ≡ e
+  unfolding headOf
+  expr-is place e x = expr-read bytes (length sizes) place e (x .nodes) (x .next) (x .read)
 
-    own-skip : (h : Names) → AtHand i s bit place (skip h) S → Means (skip h)
-    unfolding obligationsAt obligationsIn
-    own-skip h a = rw (node-is a, statement-is a, ready .machine-is, named a)
+  -- The children's words come after their node's.
+  module _ {i s bit place : ℕ} {S : Stmt} where
+    left-child : (h : Names) (l r : Derivation) (rest : List ℕ)
+        → drop i nodeTable ≡ nodeWords i bit (sequence h l r) ++ rest → drop (suc i) nodeTable ≡ nodeWords (suc i) (bit + 19) l ++ (nodeWords (suc i + nodes l) (bit + 19 + nodeBits l) r ++ rest)
+    left-child h l r rest e = later nodeTable _ _ i e ∙ append-assoc (nodeWords (suc i) (bit + 19) l) _ rest
