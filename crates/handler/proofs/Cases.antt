@@ -6,16 +6,15 @@ use lib.IntN.{pos}
 use Rattle.bits.specs.Fields.{bitLength, bitAt, bitsAt, isThere, fieldAt, firstSet, fillBits, furtherByte, fillFrom, fillAt}
 use Rattle.semantics.specs.Language.{lit, int, nil, assign}
 use Rattle.handler.specs.declared.HandlerFound.the-variants.{Handler}
-use Rattle.handler.specs.declared.Part.the-variants.{Assign, Pair}
 use Rattle.expressions.specs.Header.{sizeRead, addSize, sizesRead, countRead, headAt, headOf, noHead}
 use Rattle.expressions.specs.Expressions.{signed, integerHead, truthHead, variableHead, operationHead, payloadHead, tagHead, exprHead, exprAt, wholeExpr}
 use Rattle.handler.specs.Statements.{targetHead, codeHead, markHead, stmtHead, stmtAt, wholeStmt}
 use Rattle.handler.specs.Reading.{handler, refused, readHandler}
-use Rattle.handler.specs.Shapes.{fileOf, partAt, afterOf}
+use Rattle.handler.specs.Shapes.{fileOf}
 
 -- Opens all that reading a file computes with.
 opened : Unit {0}
-unfolding partAt fileOf headOf readHandler headAt countRead sizesRead addSize sizeRead wholeStmt stmtAt stmtHead markHead codeHead targetHead wholeExpr exprAt exprHead tagHead payloadHead integerHead truthHead variableHead operationHead signed fieldAt isThere bitsAt bitAt bitLength fillAt fillFrom furtherByte fillBits firstSet
+unfolding fileOf headOf readHandler headAt countRead sizesRead addSize sizeRead wholeStmt stmtAt stmtHead markHead codeHead targetHead wholeExpr exprAt exprHead tagHead payloadHead integerHead truthHead variableHead operationHead signed fieldAt isThere bitsAt bitAt bitLength fillAt fillFrom furtherByte fillBits firstSet
 opened = tt
 
 -- One variable of size 2; 16 sequences, each the left side of the one before, leave the 17th level at bit 56.
@@ -80,9 +79,3 @@ pub ends :
     × (readHandler (0x22 ∷ 0x23 ∷ 0x80 ∷ []) ≡ refused 18 16)
 unfolding opened
 ends = (refl, refl, refl, refl, refl)
-
--- What is at a place.
-pub placed : (partAt (0x22 ∷ 0x20 ∷ 0x02 ∷ []) 1 8 ≡ Assign 0 13) × (partAt many 1 8 ≡ Pair 2 11)
-    × (afterOf (wholeStmt many 1 11) ≡ 104)
-unfolding opened
-placed = (refl, refl, refl)

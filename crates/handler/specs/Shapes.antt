@@ -19,16 +19,10 @@ use Rattle.expressions.specs.declared.head.Head.{Head}
 use Rattle.handler.specs.declared.StmtSummary.{StmtSummary}
 use Rattle.handler.specs.declared.StmtShape.{StmtShape}
 use Rattle.handler.specs.declared.StmtShape.the-variants as stmt
-use Rattle.handler.specs.declared.HandlerSummary.{HandlerSummary}
 use Rattle.handler.specs.declared.HandlerFile.{HandlerFile}
 use Rattle.handler.specs.declared.HandlerFound.the-variants as found
-use Rattle.handler.specs.declared.StmtHead.{StmtHead}
-use Rattle.handler.specs.declared.StmtHead.the-variants as head
-use Rattle.handler.specs.declared.Part.{Part}
-use Rattle.handler.specs.declared.Part.the-variants.{Nil, Assign, Pair, Test, Nothing}
 use Rattle.expressions.specs.Header.{headOf, noHead}
-use Rattle.expressions.specs.Expressions.{ExprRead, good, bad, wholeExpr}
-use Rattle.handler.specs.Statements.{StmtRead, whole, fault, stmtHead}
+use Rattle.handler.specs.Statements.{StmtRead, whole, fault}
 use Rattle.handler.specs.Kinds.{stmtKindError}
 use Rattle.handler.specs.StatementTable.{statements}
 use Rattle.expressions.specs.Shapes.{asKindError, earlierOf}
@@ -93,23 +87,3 @@ filledOf h at w Ends = fittingOf h at w (w .error)
 abbrev pub judgedOf : List ℕ → Head → ℕ → StmtShape → HandlerFile
 judgedOf bytes h at (stmt.Whole w) = filledOf h at w (fillAt bytes (w .next))
 judgedOf bytes h at (stmt.Fault k place) = fileOf (refused k place)
-
--- The cursor after a statement that was read; 0 where none was.
-abbrev pub afterOf : StmtRead → ℕ
-afterOf (whole S after next) = next
-afterOf (fault k place) = 0
-
--- What is at a statement's place, by its head: the left side is after the code, the body where the test ends.
-abbrev pub testPart : ℕ → ℕ → ExprRead → Part
-testPart code next (good e nodes behind) = Test code next behind
-testPart code next (bad k place) = Nothing
-
-abbrev pub headPart : List ℕ → ℕ → StmtHead → Part
-headPart bytes count (head.Nil next) = Nil
-headPart bytes count (head.Assign v next) = Assign v next
-headPart bytes count (head.Pair code next) = Pair code next
-headPart bytes count (head.Test code next) = testPart code next (wholeExpr bytes count next)
-headPart bytes count (head.Fault k place) = Nothing
-
-unfoldable pub partAt : List ℕ → ℕ → ℕ → Part
-partAt bytes count at = headPart bytes count (stmtHead bytes count 16 0 at)

@@ -27,8 +27,6 @@ ghost use Rattle.handler.specs.Statements.{targetHead, codeHead, stmtHea
 // At most 63 statements, 16 levels of them; they are read to one level more.
 const MOST_STATEMENTS: u32 = 63;
 
-pub(crate) const MOST_LEVELS: u32 = 16;
-
 pub(crate) const LEVELS: u32 = 17;
 
 // The bits of a statement's code, and of an assignment's variable.
