@@ -56,8 +56,9 @@ pub enum HandlerFound {
     Fault(u32, usize),
 }
 
-// What reading a handler file gives.
+// What reading a handler file gives: its handler, its head, and its statements as a table (`table`), all 0 after a fault.
 pub struct HandlerFile {
     pub found: HandlerFound,
     pub head: Head,
+    pub statements: [u64; 63],
 }

@@ -9,13 +9,12 @@ use bits::Fill;
 use expressions::KindError;
 use expressions::codes::FILL;
 use expressions::codes::KINDS;
-use expressions::head::Head;
 use expressions::head::HeadEnd;
 use expressions::head::no_head;
 use expressions::head::read_head;
 ghost use mathlib.Core.Path.{_≡_};
 ghost use Rattle.handler.specs.Reading.{refused, readHandler};
-ghost use Rattle.handler.specs.Shapes.{judgedOf, fileOf};
+ghost use Rattle.handler.specs.Shapes.{foundOf, fileOf};
 
 // A faulty file.
 fn faulty(code: u32, place: usize) -> HandlerFile
@@ -25,32 +24,27 @@ fn faulty(code: u32, place: usize) -> HandlerFile
     HandlerFile {
         found: HandlerFound::Fault(code, place),
         head,
+        statements: [0; 63],
     }
 }
 
-// The file's answer from its statement's: 18 the end of the file, then 16 once no other fault is met.
-fn judged_of(src: &[u8], head: Head, at: usize, read: StmtShape) -> HandlerFile
-    ensures { λ r. ⌜ r ≡ judgedOf (now (src .entry)) head at read ⌝ }
+// What is found, from what reading the statement gives: 18 the end of the file, then 16 once no other fault is met.
+fn found_of(src: &[u8], at: usize, read: StmtShape) -> HandlerFound
+    ensures { λ r. ⌜ r ≡ foundOf (now (src .entry)) at read ⌝ }
 {
     match read {
-        StmtShape::Fault(code, place) => faulty(code, place),
+        StmtShape::Fault(code, place) => HandlerFound::Fault(code, place),
         StmtShape::Whole(stmt) => match bits::read_fill(src, stmt.next) {
-            Fill::Wrong(place) => faulty(FILL, place),
+            Fill::Wrong(place) => HandlerFound::Fault(FILL, place),
             Fill::Ends => {
                 let error = stmt.error;
                 match error {
-                    KindError::At(place) => faulty(KINDS, place),
-                    KindError::Nowhere => {
-                        let handler = HandlerSummary {
-                            at,
-                            statements: stmt.statements,
-                            steps: stmt.steps,
-                        };
-                        HandlerFile {
-                            found: HandlerFound::Handler(handler),
-                            head,
-                        }
-                    }
+                    KindError::At(place) => HandlerFound::Fault(KINDS, place),
+                    KindError::Nowhere => HandlerFound::Handler(HandlerSummary {
+                        at,
+                        statements: stmt.statements,
+                        steps: stmt.steps,
+                    }),
                 }
             }
         },
@@ -67,8 +61,17 @@ pub fn read_handler(src: &[u8]) -> HandlerFile
     match end {
         HeadEnd::Fault(code, place) => faulty(code, place),
         HeadEnd::Statement(at) => {
-            let read = stmt_walk(src, head.count, head.states, LEVELS, 0, at);
-            judged_of(src, head, at, read)
+            let mut statements = [0u64; 63];
+            let read = stmt_walk(src, &mut statements, head.count, head.states, LEVELS, 0, at);
+            let found = found_of(src, at, read);
+            match found {
+                HandlerFound::Fault(code, place) => faulty(code, place),
+                HandlerFound::Handler(_) => HandlerFile {
+                    found,
+                    head,
+                    statements,
+                },
+            }
         }
     }
 }
