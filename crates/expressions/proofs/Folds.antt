@@ -17,7 +17,7 @@ use Rattle.bits.specs.Fields.{fieldAt}
 use Rattle.bits.specs.declared.Field.{Field}
 use Rattle.bits.specs.declared.Field.the-variants.{Value, Missing}
 use Rattle.bits.proofs.Laws.{there}
-use Rattle.semantics.specs.Language.{Expr, lit, var, op, int, truth, rowOf}
+use Rattle.semantics.specs.Language.{Expr, lit, var, op, rowOf}
 use Rattle.semantics.specs.declared.Row.the-variants.{Unused}
 use Rattle.semantics.specs.StepNumber.{E}
 use Rattle.semantics.specs.Conditions.{occurrences}

@@ -3,9 +3,9 @@ use Prim.Native.Nat.{ℕ, zero, suc, _+_, _-_, _*_, _≤_, _<_}
 use native.Mathlib.Nat.{mul-assoc, mul-one, one-mul, mul-le-mul-left}
 use native.Mathlib.Omega.{arith}
 use borrow.Author.Tests.{leb-true, ltb-false, le-leb}
-use mathlib.Core.Bool.{Bool, true, false, cond, _&&_, _||_, and-eq-true-iff, true≢false}
+use mathlib.Core.Bool.{Bool, true, false, cond, _&&_, _||_, true≢false}
 use mathlib.Core.List.{List, [], _∷_, _++_}
-use mathlib.Core.Path.{_≡_, refl, sym, ap, ap₂, _∙_}
+use mathlib.Core.Path.{_≡_, refl, sym, ap, _∙_}
 use lib.Dec.{leb, ltb}
 use lib.ListN.{length, getD, replicate, length-append, getD-replicate}
 use lib.Seq.{take-append-seam}
@@ -13,8 +13,7 @@ use Rattle.bits.specs.Fields.{fieldAt}
 use Rattle.bits.specs.declared.Field.{Field}
 use Rattle.bits.specs.declared.Field.the-variants.{Value, Missing}
 use Rattle.bits.proofs.Laws.{there}
-use Rattle.states.specs.Search.{all}
-use Rattle.states.proofs.Search.{and-left, and-right, and-both, all-intro, all-at}
+use Rattle.states.proofs.Search.{and-right, and-both, all-intro}
 use Rattle.semantics.specs.States.{product, machineOf}
 use Rattle.expressions.specs.declared.head.HeadFile.{HeadFile}
 use Rattle.expressions.specs.declared.head.HeadEnd.the-variants as end

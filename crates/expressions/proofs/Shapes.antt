@@ -4,22 +4,20 @@ use mathlib.Core.Bool.{Bool, true, false, cond}
 use mathlib.Core.List.{List}
 use mathlib.Core.Option.{Option, none, some}
 use mathlib.Core.Path.{_≡_, refl, ap, ap₂, _∙_}
-use native.Mathlib.Numerals.{add-one}
 use native.Mathlib.Omega.{arith}
 use Rattle.semantics.specs.declared.Kind.{Kind}
 use Rattle.semantics.specs.declared.Row.the-variants.{Kinds}
 use Rattle.semantics.specs.Language.{Expr, op, rowOf, sameKind}
 use Rattle.semantics.specs.StepNumber.{E}
 use Rattle.semantics.specs.Conditions.{occurrences}
-use Rattle.expressions.specs.declared.KindError.{KindError}
-use Rattle.expressions.specs.declared.KindError.the-variants.{Nowhere, At}
+use Rattle.expressions.specs.declared.KindError.the-variants.{At}
 use Rattle.expressions.specs.declared.ExprSummary.{ExprSummary}
 use Rattle.expressions.specs.declared.ExprShape.{ExprShape}
 use Rattle.expressions.specs.declared.ExprShape.the-variants as expr
 use Rattle.expressions.specs.declared.ExprHead.the-variants.{Operation}
 use Rattle.expressions.specs.Expressions.{exprHead, ExprRead, good, bad, exprAt}
 use Rattle.expressions.proofs.Folds.{inner-step, Headed, headed-as, expr-read, occurs-below}
-use Rattle.expressions.specs.Kinds.{width, orPlace, kindError}
+use Rattle.expressions.specs.Kinds.{width, orPlace}
 use Rattle.expressions.specs.Shapes.{asKindError, earlierOf, inMask, exprSummary, exprShape}
 
 -- Kind errors.

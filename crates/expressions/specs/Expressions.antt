@@ -1,7 +1,7 @@
 -- Document 01, "The two files": an expression is 2 bits, then an integer, a truth value, a variable or an operation with its
 -- two operands; at most 31 nodes.
-use Prim.Native.Nat.{ℕ, zero, suc, _+_, _-_}
-use mathlib.Core.Bool.{Bool, cond}
+use Prim.Native.Nat.{ℕ, zero, suc, _-_}
+use mathlib.Core.Bool.{cond}
 use mathlib.Core.List.{List}
 use lib.Dec.{leb, ltb, eqb}
 use lib.IntN.{ℤ, pos, negsuc}

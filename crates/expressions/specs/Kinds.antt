@@ -3,7 +3,6 @@
 use Prim.Native.Nat.{ℕ, _+_}
 use mathlib.Core.Bool.{cond}
 use mathlib.Core.Option.{Option, none, some}
-use lib.Dec.{eqb}
 use Rattle.semantics.specs.declared.Kind.{Kind}
 use Rattle.semantics.specs.declared.Kind.the-variants.{Integer}
 use Rattle.semantics.specs.declared.Row.{Row}

@@ -1,21 +1,22 @@
 -- Worked examples by computation: document 01's files, and each of 10 to 18 with its place.
-use Prim.Native.Nat.{ℕ, _^_}
+use Prim.Native.Nat.{ℕ, _+_, _*_, _^_}
 use mathlib.Core.List.{List, [], _∷_, _++_}
 use mathlib.Core.Path.{_≡_, refl}
 use lib.IntN.{pos}
+use lib.ListN.{replicate}
 use Rattle.bits.specs.Fields.{bitLength, bitAt, bitsAt, isThere, fieldAt, firstSet, fillBits, furtherByte, fillFrom, fillAt}
 use Rattle.semantics.specs.Language.{lit, int, nil, assign}
 use Rattle.handler.specs.declared.HandlerFound.the-variants.{Handler}
-use Rattle.handler.specs.declared.Part.the-variants.{Assign, Pair}
 use Rattle.expressions.specs.Header.{sizeRead, addSize, sizesRead, countRead, headAt, headOf, noHead}
 use Rattle.expressions.specs.Expressions.{signed, integerHead, truthHead, variableHead, operationHead, payloadHead, tagHead, exprHead, exprAt, wholeExpr}
 use Rattle.handler.specs.Statements.{targetHead, codeHead, markHead, stmtHead, stmtAt, wholeStmt}
+use Rattle.handler.specs.StatementTable.{statementWord, wordOf, statementTable}
 use Rattle.handler.specs.Reading.{handler, refused, readHandler}
-use Rattle.handler.specs.Shapes.{fileOf, partAt, afterOf}
+use Rattle.handler.specs.Shapes.{fileOf}
 
 -- Opens all that reading a file computes with.
 opened : Unit {0}
-unfolding partAt fileOf headOf readHandler headAt countRead sizesRead addSize sizeRead wholeStmt stmtAt stmtHead markHead codeHead targetHead wholeExpr exprAt exprHead tagHead payloadHead integerHead truthHead variableHead operationHead signed fieldAt isThere bitsAt bitAt bitLength fillAt fillFrom furtherByte fillBits firstSet
+unfolding fileOf headOf statementTable wordOf statementWord readHandler headAt countRead sizesRead addSize sizeRead wholeStmt stmtAt stmtHead markHead codeHead targetHead wholeExpr exprAt exprHead tagHead payloadHead integerHead truthHead variableHead operationHead signed fieldAt isThere bitsAt bitAt bitLength fillAt fillFrom furtherByte fillBits firstSet
 opened = tt
 
 -- One variable of size 2; 16 sequences, each the left side of the one before, leave the 17th level at bit 56.
@@ -49,6 +50,7 @@ pub handlers :
     × (fileOf (readHandler (0x22 ∷ 0x20 ∷ 0x02 ∷ [])) ≡ record {
       found = Handler (record { at = 8; statements = 1; steps = 1 });
       head = record { count = 1; sizes = 2 ∷ 1 ∷ 1 ∷ 1 ∷ []; states = 2 };
+      statements = (1 + 8 * (0 + 4 * (1 + 128 * 13))) ∷ replicate 62 0;
     })
     × (fileOf (readHandler many) .found ≡ Handler (record { at = 8; statements = 63; steps = 31 }))
     × (fileOf (readHandler loops) .found ≡ Handler (record { at = 13; statements = 16; steps = 2 ^ 32 }))
@@ -80,9 +82,3 @@ pub ends :
     × (readHandler (0x22 ∷ 0x23 ∷ 0x80 ∷ []) ≡ refused 18 16)
 unfolding opened
 ends = (refl, refl, refl, refl, refl)
-
--- What is at a place.
-pub placed : (partAt (0x22 ∷ 0x20 ∷ 0x02 ∷ []) 1 8 ≡ Assign 0 13) × (partAt many 1 8 ≡ Pair 2 11)
-    × (afterOf (wholeStmt many 1 11) ≡ 104)
-unfolding opened
-placed = (refl, refl, refl)

@@ -1,5 +1,5 @@
 -- What a handler file that was read says of its head, its statement and its kinds.
-use Prim.Native.Nat.{ℕ, _≤_, _<_}
+use Prim.Native.Nat.{ℕ, _^_, _≤_, _<_, min}
 use mathlib.Core.List.{List}
 use mathlib.Core.Option.{Option, none, some}
 use mathlib.Core.Path.{_≡_, refl}
@@ -9,12 +9,17 @@ use Rattle.bits.specs.Fields.{fillAt}
 use Rattle.bits.specs.declared.Fill.{Fill}
 use Rattle.bits.specs.declared.Fill.the-variants.{Ends, Wrong}
 use Rattle.semantics.specs.Language.{Stmt, nil, assign, seq, par, if, while}
+use Rattle.semantics.specs.States.{product}
+use Rattle.semantics.specs.StepNumber.{steps}
 use Rattle.semantics.specs.Conditions.{targetOf}
 use Rattle.expressions.specs.Header as head
+use Rattle.handler.specs.declared.HandlerSummary.{HandlerSummary}
+use Rattle.handler.specs.declared.HandlerFound.the-variants as found
 use Rattle.handler.specs.Statements.{StmtRead, whole, fault, wholeStmt}
 use Rattle.handler.specs.Kinds.{stmtKindError}
 use Rattle.handler.specs.StatementTable.{statements}
-use Rattle.handler.specs.Reading.{handler, refused, onKinds, onFill, onStmt, onHead, readHandler}
+use Rattle.handler.specs.Reading.{HandlerRead, handler, refused, onKinds, onFill, onStmt, onHead, readHandler}
+use Rattle.handler.specs.Shapes.{fileOf}
 use Rattle.handler.proofs.StmtFolds.{TargetsBelow, stmt-read}
 use Rattle.handler.proofs.Parts.{Stands}
 
@@ -62,6 +67,26 @@ module _ (bytes sizes : List ℕ) (at : ℕ) (S : Stmt) where
   pub known-handler : readHandler bytes ≡ handler sizes at S → KnownHandler bytes sizes at S
   unfolding readHandler
   known-handler e = by-head (head.headAt bytes) refl e
+
+-- What is found in a file says what was read.
+pub found-refused : (r : HandlerRead) (k place : ℕ) → fileOf r .found ≡ found.Fault k place → r ≡ refused k place
+unfolding fileOf
+found-refused (handler sizes at S) k place f = absurd (let z : _≡_ {A = ℕ} 0 1 = cc in omega arith)
+found-refused (refused j i) k place f = cc
+
+pub record FoundHandler (r : HandlerRead) (w : HandlerSummary) : Type 0 where
+  pub sizes : List ℕ
+  pub S : Stmt
+  pub read : r ≡ handler sizes (w .at) S
+  pub counted : w .statements ≡ statements S
+  pub stepping : w .steps ≡ min (steps (product sizes) S) (2 ^ 32)
+
+pub found-handler : (r : HandlerRead) (w : HandlerSummary) → fileOf r .found ≡ found.Handler w → FoundHandler r w
+unfolding fileOf
+found-handler (handler sizes at S) w f =
+    let same : _≡_ {A = HandlerSummary} (record { at = at; statements = statements S; steps = min (steps (product sizes) S) (2 ^ 32) }) w = cc in
+    rw (← same) (record { sizes = sizes; S = S; read = refl; counted = refl; stepping = refl })
+found-handler (refused k place) w f = absurd (let z : _≡_ {A = ℕ} 0 1 = cc in omega arith)
 
 -- Of a statement with no assignment the variable is 0.
 pub target-small : (count : ℕ) (S : Stmt) → count ≤ 4 → TargetsBelow count S → targetOf S < 4

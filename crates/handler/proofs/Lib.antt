@@ -2,6 +2,7 @@
 pub mod StmtFolds
 pub mod StmtShapes
 pub mod StatementTable
+pub mod Filling
 pub mod Parts
 pub mod Handlers
 pub mod Fitting

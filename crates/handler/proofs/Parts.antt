@@ -1,23 +1,20 @@
 -- A statement of the file is read the same from a fresh start as within a larger one, so that a caller who knows a
--- statement knows its parts where `partAt` places them.
+-- statement knows its parts, too.
 use Prim.Native.Nat.{ℕ, zero, suc, _+_, _-_, _≤_, _<_}
 use mathlib.Core.Bool.{Bool, true, false, cond}
 use mathlib.Core.List.{List}
 use mathlib.Core.Path.{_≡_, refl, sym, _∙_}
 use native.Mathlib.Omega.{arith}
-use borrow.Author.Tests.{eqb-true, eqb-false, ne-eqb, lt-leb}
+use borrow.Author.Tests.{ne-eqb, lt-leb}
 use lib.Dec.{eqb}
 use Rattle.bits.specs.Fields.{fieldAt}
 use Rattle.semantics.specs.Language.{Expr, Stmt, nil, assign, seq, par, if, while}
 use Rattle.handler.specs.declared.StmtHead.{StmtHead}
 use Rattle.handler.specs.declared.StmtHead.the-variants.{Nil, Assign, Pair, Test, Fault}
-use Rattle.handler.specs.declared.Part.{Part}
-use Rattle.handler.specs.declared.Part.the-variants as part
 use Rattle.expressions.specs.Expressions.{ExprRead, good, bad, wholeExpr}
 use Rattle.handler.specs.Statements.{markHead, stmtHead, StmtRead, whole, fault, onAssigned, onBody, onTest, onRight, onLeft, onStmtHead, stmtAt, wholeStmt}
 use Rattle.expressions.specs.Kinds.{width}
 use Rattle.handler.specs.Kinds.{stmtWidth}
-use Rattle.handler.specs.Shapes.{testPart, headPart, partAt}
 use Rattle.handler.proofs.StmtFolds.{Marked, marked, whole-read, stmt-read}
 
 -- Where there is room, a head does not depend on how much.
@@ -103,7 +100,7 @@ pub record StandsExpr (bytes : List ℕ) (count at : ℕ) (e : Expr) : Type 0 wh
   pub next : ℕ
   pub read : wholeExpr bytes count at ≡ good e nodes next
 
--- Its parts are where `partOf` places them.
+-- Its parts are where the widths before them say.
 abbrev pub PartsOf : List ℕ → ℕ → ℕ → Stmt → Type 0
 PartsOf bytes count at nil = Unit {0}
 PartsOf bytes count at (assign v e) = StandsExpr bytes count (at + 5) e
@@ -112,21 +109,12 @@ PartsOf bytes count at (par l r) = Stands bytes count (at + 3) l × Stands bytes
 PartsOf bytes count at (if e b) = StandsExpr bytes count (at + 3) e × Stands bytes count (at + 3 + width e) b
 PartsOf bytes count at (while e b) = StandsExpr bytes count (at + 3) e × Stands bytes count (at + 3 + width e) b
 
--- The parts of a statement by their places: a part's is the whole's plus the widths before it.
-abbrev pub partOf : ℕ → Stmt → Part
-partOf at nil = part.Nil
-partOf at (assign v e) = part.Assign v (at + 5)
-partOf at (seq l r) = part.Pair 2 (at + 3)
-partOf at (par l r) = part.Pair 3 (at + 3)
-partOf at (if e b) = part.Test 4 (at + 3) (at + 3 + width e)
-partOf at (while e b) = part.Test 5 (at + 3) (at + 3 + width e)
-
 module _ (bytes : List ℕ) (count at : ℕ) where
-  abbrev Apart : Part → StmtRead → Type 0
-  Apart p (whole S after next) = (p ≡ partOf at S) × PartsOf bytes count at S
-  Apart p (fault k place) = Unit {0}
+  abbrev Apart : StmtRead → Type 0
+  Apart (whole S after next) = PartsOf bytes count at S
+  Apart (fault k place) = Unit {0}
 
-  apart : Apart (headPart bytes count (stmtHead bytes count 16 0 at)) (stmtAt 17 bytes count 0 at)
+  apart : Apart (stmtAt 17 bytes count 0 at)
   unfolding stmtAt Marked
   apart = by (stmtHead bytes count 16 0 at) (marked bytes count 16 0 at _ refl)
     where
@@ -136,71 +124,50 @@ module _ (bytes : List ℕ) (count at : ℕ) where
       standing : (before i : ℕ) (S : Stmt) (n j : ℕ) → below before i ≡ whole S n j → Stands bytes count i S
       standing before i S n j e = record { after = n - before; next = j; read = from-start 16 bytes count before i S n j (omega arith) e }
 
-      pair : (code next : ℕ) → next ≡ at + 3 → 2 ≤ code → code < 4 → (l : Stmt) (behind : ℕ) → behind ≡ next + stmtWidth l → Stands bytes count next l
-          → (r : Stmt) (n j : ℕ) → Stands bytes count behind r → (b : Bool) → eqb code 2 ≡ b
-          → Apart (part.Pair code next) (whole (cond b (seq l r) (par l r)) n j)
-      pair code next placed least most l behind ends first r n j second true t =
-          let two = eqb-true code 2 t in
-          (rw (two, placed), rw (← placed, ← ends) (first, second))
-      pair code next placed least most l behind ends first r n j second false t =
-          let other = eqb-false code 2 t in
-          let three : code ≡ 3 = omega arith in
-          (rw (three, placed), rw (← placed, ← ends) (first, second))
+      pair : (next : ℕ) → next ≡ at + 3 → (l : Stmt) (behind : ℕ) → behind ≡ next + stmtWidth l → Stands bytes count next l → (r : Stmt) → Stands bytes count behind r
+          → (b : Bool) → PartsOf bytes count at (cond b (seq l r) (par l r))
+      pair next placed l behind ends first r second true = rw (← placed, ← ends) (first, second)
+      pair next placed l behind ends first r second false = rw (← placed, ← ends) (first, second)
 
-      tests : (code next : ℕ) → next ≡ at + 3 → 4 ≤ code → code < 6 → (e : Expr) (behind : ℕ) → behind ≡ next + width e → StandsExpr bytes count next e
-          → (s : Stmt) (n j : ℕ) → Stands bytes count behind s → (b : Bool) → eqb code 4 ≡ b
-          → Apart (part.Test code next behind) (whole (cond b (if e s) (while e s)) n j)
-      tests code next placed least most e behind ends first s n j second true t =
-          let four = eqb-true code 4 t in
-          (rw (four, ends, placed), rw (← placed, ← ends) (first, second))
-      tests code next placed least most e behind ends first s n j second false t =
-          let other = eqb-false code 4 t in
-          let five : code ≡ 5 = omega arith in
-          (rw (five, ends, placed), rw (← placed, ← ends) (first, second))
+      tests : (next : ℕ) → next ≡ at + 3 → (e : Expr) (behind : ℕ) → behind ≡ next + width e → StandsExpr bytes count next e → (s : Stmt) → Stands bytes count behind s
+          → (b : Bool) → PartsOf bytes count at (cond b (if e s) (while e s))
+      tests next placed e behind ends first s second true = rw (← placed, ← ends) (first, second)
+      tests next placed e behind ends first s second false = rw (← placed, ← ends) (first, second)
 
-      right : (code next : ℕ) → next ≡ at + 3 → 2 ≤ code → code < 4 → (l : Stmt) (behind : ℕ) → behind ≡ next + stmtWidth l → Stands bytes count next l
-          → (so-far : ℕ) (y : StmtRead) → below so-far behind ≡ y → Apart (part.Pair code next) (onRight code l y)
-      right code next placed least most l behind ends first so-far (fault k place) e = tt
-      right code next placed least most l behind ends first so-far (whole r n j) e =
-          pair code next placed least most l behind ends first r n j (standing so-far behind r n j e) (eqb code 2) refl
+      right : (code next : ℕ) → next ≡ at + 3 → (l : Stmt) (behind : ℕ) → behind ≡ next + stmtWidth l → Stands bytes count next l
+          → (so-far : ℕ) (y : StmtRead) → below so-far behind ≡ y → Apart (onRight code l y)
+      right code next placed l behind ends first so-far (fault k place) e = tt
+      right code next placed l behind ends first so-far (whole r n j) e =
+          pair next placed l behind ends first r (standing so-far behind r n j e) (eqb code 2)
 
-      left : (code next : ℕ) → next ≡ at + 3 → 2 ≤ code → code < 4 → (x : StmtRead) → below 1 next ≡ x
-          → Apart (part.Pair code next) (onLeft code x below)
-      left code next placed least most (fault k place) e = tt
-      left code next placed least most (whole l n behind) e =
-          right code next placed least most l behind (stmt-read 16 bytes count 1 next l n behind e .ends) (standing 1 next l n behind e) n (below n behind) refl
+      left : (code next : ℕ) → next ≡ at + 3 → (x : StmtRead) → below 1 next ≡ x → Apart (onLeft code x below)
+      left code next placed (fault k place) e = tt
+      left code next placed (whole l n behind) e =
+          right code next placed l behind (stmt-read 16 bytes count 1 next l n behind e .ends) (standing 1 next l n behind e) n (below n behind) refl
 
-      body : (code next : ℕ) → next ≡ at + 3 → 4 ≤ code → code < 6 → (e : Expr) (behind : ℕ) → behind ≡ next + width e → StandsExpr bytes count next e
-          → (y : StmtRead) → below 1 behind ≡ y → Apart (part.Test code next behind) (onBody code e y)
-      body code next placed least most e behind ends first (fault k place) p = tt
-      body code next placed least most e behind ends first (whole s n j) p =
-          tests code next placed least most e behind ends first s n j (standing 1 behind s n j p) (eqb code 4) refl
+      body : (code next : ℕ) → next ≡ at + 3 → (e : Expr) (behind : ℕ) → behind ≡ next + width e → StandsExpr bytes count next e
+          → (y : StmtRead) → below 1 behind ≡ y → Apart (onBody code e y)
+      body code next placed e behind ends first (fault k place) p = tt
+      body code next placed e behind ends first (whole s n j) p = tests next placed e behind ends first s (standing 1 behind s n j p) (eqb code 4)
 
-      test : (code next : ℕ) → next ≡ at + 3 → 4 ≤ code → code < 6 → (x : ExprRead) → wholeExpr bytes count next ≡ x
-          → Apart (testPart code next x) (onTest code 1 x below)
-      test code next placed least most (bad k place) p = tt
-      test code next placed least most (good e nodes behind) p =
-          body code next placed least most e behind (whole-read bytes count next e nodes behind p .ends)
+      test : (code next : ℕ) → next ≡ at + 3 → (x : ExprRead) → wholeExpr bytes count next ≡ x → Apart (onTest code 1 x below)
+      test code next placed (bad k place) p = tt
+      test code next placed (good e nodes behind) p =
+          body code next placed e behind (whole-read bytes count next e nodes behind p .ends)
           (record { nodes = nodes; next = behind; read = p }) (below 1 behind) refl
 
-      assigned : (v next : ℕ) → next ≡ at + 5 → (x : ExprRead) → wholeExpr bytes count next ≡ x → Apart (part.Assign v next) (onAssigned v 1 x)
+      assigned : (v next : ℕ) → next ≡ at + 5 → (x : ExprRead) → wholeExpr bytes count next ≡ x → Apart (onAssigned v 1 x)
       assigned v next placed (bad k place) p = tt
-      assigned v next placed (good e nodes behind) p =
-          (rw placed, rw (← placed) (record { nodes = nodes; next = behind; read = p }))
+      assigned v next placed (good e nodes behind) p = rw (← placed) (record { nodes = nodes; next = behind; read = p })
 
-      by : (h : StmtHead) → Marked count 16 0 at h → Apart (headPart bytes count h) (onStmtHead h (wholeExpr bytes count) 0 below)
-      by (Nil next) m = (refl, tt)
+      by : (h : StmtHead) → Marked count 16 0 at h → Apart (onStmtHead h (wholeExpr bytes count) 0 below)
+      by (Nil next) m = tt
       by (Assign v next) m = assigned v next (m .2) (wholeExpr bytes count next) refl
-      by (Pair code next) m = left code next (m .2) (m .3) (m .4) (below 1 next) refl
-      by (Test code next) m = test code next (m .2) (m .3) (m .4) (wholeExpr bytes count next) refl
+      by (Pair code next) m = left code next (m .2) (below 1 next) refl
+      by (Test code next) m = test code next (m .2) (wholeExpr bytes count next) refl
       by (Fault k place) m = tt
 
   -- A statement's parts are in their places.
   pub parts : (S : Stmt) → Stands bytes count at S → PartsOf bytes count at S
   unfolding wholeStmt
-  parts S s = rw (s .read) at apart .1
-
-  -- What is at a known statement.
-  pub part-known : (S : Stmt) → Stands bytes count at S → partAt bytes count at ≡ partOf at S
-  unfolding wholeStmt partAt
-  part-known S s = rw (s .read) at apart .0
+  parts S s = rw (s .read) at apart

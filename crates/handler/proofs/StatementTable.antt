@@ -1,11 +1,11 @@
 -- Laws of the statement table: a word gives its statement back, and a table that holds the words of a statement from number j on
 -- holds those of its parts.
-use Prim.Native.Nat.{ℕ, suc, _+_, _-_, _*_, _/_, _%_, _≤_, _<_}
+use Prim.Native.Nat.{ℕ, zero, suc, _+_, _-_, _*_, _/_, _%_, _≤_, _<_}
 use mathlib.Core.List.{List, _∷_, _++_, append-assoc}
 use mathlib.Core.Path.{_≡_, refl, sym, ap, _∙_}
 use native.Mathlib.Omega.{arith}
 use lib.ListN.{length, getD, drop, replicate, length-append}
-use lib.Seq.{getD-drop, drop-at, drop-drop}
+use lib.Seq.{getD-drop, drop-at, drop-drop, sets, sets-eq}
 use Rattle.semantics.specs.Language.{Stmt, nil, assign, seq, par, if, while}
 use Rattle.semantics.specs.Conditions.{codeOf, targetOf}
 use Rattle.expressions.specs.Kinds.{width}
@@ -120,6 +120,19 @@ module _ (table : List ℕ) (j bit : ℕ) where
       let word : getD table j 0 ≡ wordOf j bit S =
       ap (λ n. getD table n 0) (sym here) ∙ sym (getD-drop j table 0 0) ∙ ap (λ l. getD l 0 0) (h .is) ∙ first-word S (h .rest) in
       rw word (word-back (statementRecord j bit S) (code-small S) target (omega (arith, after-small S)))
+
+drop-replicate : (n m : ℕ) → drop {A = ℕ} n (replicate m 0) ≡ replicate (m - n) 0
+drop-replicate zero m = let same : m - 0 ≡ m = omega arith in rw same
+drop-replicate (suc n) zero = let none : 0 - suc n ≡ 0 = omega arith in rw none
+drop-replicate (suc n) (suc m) = let same : suc m - suc n ≡ m - n = omega arith in rw same (drop-replicate n m)
+
+-- Stores into a table of zeros make the table of a handler.
+pub table-made : (bit : ℕ) (S : Stmt) → statements S ≤ 63 → sets (replicate 63 0) 0 (statementWords 0 bit S) ≡ statementTable bit S
+unfolding statementTable
+table-made bit S few =
+    let words = statementWords 0 bit S in
+    let long : 0 + length words ≡ statements S = omega (arith, length-statementWords 0 bit S) in
+    sets-eq words (replicate 63 0) 0 (omega arith) ∙ rw (long, drop-replicate (statements S) 63)
 
 -- The table of a handler holds its statement.
 pub table-held : (bit : ℕ) (S : Stmt) → Held (statementTable bit S) 0 bit S

@@ -4,7 +4,7 @@ use mathlib.Core.Bool.{Bool, true, false, cond, _||_}
 use mathlib.Core.List.{List}
 use mathlib.Core.Path.{_≡_, refl}
 use native.Mathlib.Omega.{arith}
-use borrow.Author.Tests.{leb-false, ltb-true, ltb-false, eqb-false, eqb-true}
+use borrow.Author.Tests.{leb-false, ltb-true, ltb-false, eqb-false}
 use lib.Dec.{leb, ltb, eqb}
 use Rattle.bits.specs.Fields.{fieldAt}
 use Rattle.bits.specs.declared.Field.{Field}
@@ -14,7 +14,7 @@ use Rattle.semantics.specs.Language.{Expr, Stmt, nil, assign, seq, par, if, whi
 use Rattle.handler.specs.declared.StmtHead.{StmtHead}
 use Rattle.handler.specs.declared.StmtHead.the-variants.{Nil, Assign, Pair, Test, Fault}
 use Rattle.expressions.specs.Expressions.{ExprRead, good, bad, wholeExpr}
-use Rattle.handler.specs.Statements.{targetHead, codeHead, markHead, stmtHead, StmtRead, whole, fault, paired, tested, onAssigned, onBody, onTest, onRight, onLeft, onStmtHead, stmtAt}
+use Rattle.handler.specs.Statements.{targetHead, codeHead, markHead, stmtHead, StmtRead, whole, fault, onAssigned, onBody, onTest, onRight, onLeft, onStmtHead, stmtAt}
 use Rattle.expressions.specs.Kinds.{width}
 use Rattle.handler.specs.Kinds.{stmtWidth}
 use Rattle.handler.specs.StatementTable.{statements}

@@ -1,10 +1,10 @@
 -- Laws of statements' shapes: a step number capped at one past the limit is made of capped parts, and how the shapes of
 -- parts make that of the whole.
-use Prim.Native.Nat.{ℕ, zero, suc, _+_, _-_, _*_, _^_, _≤_, _<_, min}
+use Prim.Native.Nat.{ℕ, zero, suc, _+_, _-_, _*_, _^_, _<_, min}
 use mathlib.Core.Bool.{Bool, true, false, cond}
 use mathlib.Core.List.{List}
 use mathlib.Core.Option.{Option, none, some}
-use mathlib.Core.Path.{_≡_, refl, ap, _∙_}
+use mathlib.Core.Path.{_≡_, refl, ap, ap₂, _∙_}
 use native.Mathlib.Nat.{suc-mul}
 use native.Mathlib.Numerals.{add-one}
 use native.Mathlib.Omega.{arith}
@@ -18,21 +18,19 @@ use Rattle.semantics.specs.declared.Kind.the-variants.{Integer, Truth}
 use Rattle.semantics.specs.Language.{Expr, Stmt, seq, par, if, while}
 use Rattle.semantics.specs.States.{product}
 use Rattle.semantics.specs.StepNumber.{E, steps}
-use Rattle.expressions.specs.declared.KindError.{KindError}
 use Rattle.expressions.specs.declared.ExprSummary.{ExprSummary}
 use Rattle.expressions.specs.declared.ExprShape.the-variants as expr
 use Rattle.handler.specs.declared.StmtSummary.{StmtSummary}
 use Rattle.handler.specs.declared.StmtShape.{StmtShape}
 use Rattle.handler.specs.declared.StmtShape.the-variants as stmt
 use Rattle.handler.specs.declared.StmtHead.the-variants.{Assign, Pair, Test}
-use Rattle.expressions.specs.Header.{headOf}
 use Rattle.expressions.specs.Expressions.{ExprRead, good, bad, wholeExpr}
-use Rattle.handler.specs.Statements.{stmtHead, StmtRead, whole, fault, onAssigned, onBody, onTest, onRight, onLeft, stmtAt, wholeStmt}
+use Rattle.handler.specs.Statements.{stmtHead, StmtRead, whole, fault, tested, onAssigned, onRight, stmtAt, wholeStmt}
 use Rattle.expressions.specs.Kinds.{width, orPlace, kindError}
 use Rattle.handler.specs.Kinds.{stmtWidth, stmtKindError}
 use Rattle.handler.specs.StatementTable.{statements}
 use Rattle.expressions.specs.Shapes.{asKindError, exprSummary, exprShape}
-use Rattle.handler.specs.Shapes.{stmtSummary, stmtShape, assignedOf, pairOf, testedOf, fittingOf, filledOf, judgedOf, fileOf}
+use Rattle.handler.specs.Shapes.{stmtSummary, stmtShape, assignedOf, pairOf, testedOf, fittingOf, filledOf, foundOf, fileOf}
 use Rattle.handler.specs.Reading.{onKinds, onFill, onStmt}
 use Rattle.expressions.proofs.Shapes.{or-earlier, shaped, faulted}
 use Rattle.handler.proofs.StmtFolds.{stmt-step, Marked, marked, whole-read, stmt-read}
@@ -98,12 +96,11 @@ pair-made N at code next so-far behind l (whole r after end) placed ends =
     by true = rw capped
     by false = rw capped
 
--- An if or while whose test was read.
-tested-made : (N at code next nodes behind : ℕ) (e : Expr) (x : StmtRead) → next ≡ at + 3 → behind ≡ next + width e
-    → testedOf N code (exprSummary Truth 0 next e nodes behind) (stmtShape N behind x) ≡ stmtShape N at (onBody code e x)
-unfolding exprShape stmtShape
-tested-made N at code next nodes behind e (fault k place) placed ends = refl
-tested-made N at code next nodes behind e (whole b after end) placed ends =
+-- An if or while whose test and body were read.
+tested-made : (N at code next nodes behind after end : ℕ) (e : Expr) (b : Stmt) → next ≡ at + 3 → behind ≡ next + width e
+    → stmt.Whole (testedOf N code (exprSummary Truth 0 next e nodes behind) (stmtSummary N behind b after end)) ≡ stmtShape N at (whole (tested code e b) after end)
+unfolding stmtShape
+tested-made N at code next nodes behind after end e b placed ends =
     rw (← or-earlier, ends, placed) (by (eqb code 4))
   where
     made : ℕ → StmtShape
@@ -166,23 +163,35 @@ module _ (bytes : List ℕ) (count levels before at N : ℕ) (more : 0 < levels)
       test-fault k place p =
           rw (stmt-step bytes count levels before at _ more head, faulted Truth 0 next (wholeExpr bytes count next) k place p)
 
-      pub test-shape : (e : ExprSummary) → exprShape Truth 0 next (wholeExpr bytes count next) ≡ expr.Whole e
-          → testedOf N code e (stmtShape N (e .next) (below (before + 1) (e .next))) ≡ here
-      unfolding Marked
-      test-shape e p =
-          let test = shaped Truth 0 next (wholeExpr bytes count next) e p in
-          let body = below (before + 1) (e .next) in
-          rw (stmt-step bytes count levels before at _ more head, ← add-one before, test .was)
-          (ap (λ x. testedOf N code x (stmtShape N (e .next) body)) (test .is)
-          ∙ tested-made N at code next (e .nodes) (e .next) (test .tree) body (marked bytes count (levels - 1) before at _ head .2)
-          (whole-read bytes count next (test .tree) (e .nodes) (e .next) (test .was) .ends))
+      module _ (e : ExprSummary) (p : exprShape Truth 0 next (wholeExpr bytes count next) ≡ expr.Whole e) where
+        pub body-fault : (k place : ℕ) → stmtShape N (e .next) (below (before + 1) (e .next)) ≡ stmt.Fault k place → stmt.Fault k place ≡ here
+        unfolding stmtShape
+        body-fault k place q =
+            rw (
+              stmt-step bytes count levels before at _ more head,
+              ← add-one before,
+              shaped Truth 0 next (wholeExpr bytes count next) e p .was,
+              stmt-faulted N (e .next) (below (before + 1) (e .next)) k place q,
+            )
 
--- The file is judged as it is read.
-judged-made : (bytes sizes : List ℕ) (at : ℕ) (x : StmtRead) → wholeStmt bytes (length sizes) at ≡ x
-    → judgedOf bytes (headOf sizes) at (stmtShape (product sizes) at x) ≡ fileOf (onStmt bytes sizes at x)
+        pub test-shape : (b : StmtSummary) → stmtShape N (e .next) (below (before + 1) (e .next)) ≡ stmt.Whole b
+            → stmt.Whole (testedOf N code e b) ≡ here
+        unfolding Marked
+        test-shape b q =
+            let test = shaped Truth 0 next (wholeExpr bytes count next) e p in
+            let body = stmt-shaped N (e .next) (below (before + 1) (e .next)) b q in
+            rw (stmt-step bytes count levels before at _ more head, ← add-one before, test .was, body .was)
+            (ap₂ (λ x y. stmt.Whole (testedOf N code x y)) (test .is) (body .is)
+            ∙ tested-made N at code next (e .nodes) (e .next) (b .statements) (b .next) (test .tree) (body .tree)
+            (marked bytes count (levels - 1) before at _ head .2)
+            (whole-read bytes count next (test .tree) (e .nodes) (e .next) (test .was) .ends))
+
+-- What is found in a file is what is read.
+found-made : (bytes sizes : List ℕ) (at : ℕ) (x : StmtRead) → wholeStmt bytes (length sizes) at ≡ x
+    → foundOf bytes at (stmtShape (product sizes) at x) ≡ fileOf (onStmt bytes sizes at x) .found
 unfolding stmtShape fileOf wholeStmt
-judged-made bytes sizes at (fault k place) read = refl
-judged-made bytes sizes at (whole S after next) read = by (fillAt bytes next)
+found-made bytes sizes at (fault k place) read = refl
+found-made bytes sizes at (whole S after next) read = by (fillAt bytes next)
   where
     w : StmtSummary
     w = stmtSummary (product sizes) at S after next
@@ -190,15 +199,15 @@ judged-made bytes sizes at (whole S after next) read = by (fillAt bytes next)
     counted : after ≡ statements S
     counted = omega (arith, stmt-read 17 bytes (length sizes) 0 at S after next read .counted)
 
-    kinds : (o : Option ℕ) → fittingOf (headOf sizes) at w (asKindError o) ≡ fileOf (onKinds sizes at S o)
+    kinds : (o : Option ℕ) → fittingOf at w (asKindError o) ≡ fileOf (onKinds sizes at S o) .found
     kinds none = rw counted
     kinds (some place) = refl
 
-    by : (f : Fill) → filledOf (headOf sizes) at w f ≡ fileOf (onFill sizes at S f)
+    by : (f : Fill) → filledOf at w f ≡ fileOf (onFill sizes at S f) .found
     by Ends = kinds (stmtKindError at S)
     by (Wrong place) = refl
 
-pub judged : (bytes sizes : List ℕ) (at : ℕ)
-    → judgedOf bytes (headOf sizes) at (stmtShape (product sizes) at (stmtAt 17 bytes (length sizes) 0 at)) ≡ fileOf (onStmt bytes sizes at (wholeStmt bytes (length sizes) at))
+pub found-read : (bytes sizes : List ℕ) (at : ℕ)
+    → foundOf bytes at (stmtShape (product sizes) at (stmtAt 17 bytes (length sizes) 0 at)) ≡ fileOf (onStmt bytes sizes at (wholeStmt bytes (length sizes) at)) .found
 unfolding wholeStmt
-judged bytes sizes at = judged-made bytes sizes at (stmtAt 17 bytes (length sizes) 0 at) refl
+found-read bytes sizes at = found-made bytes sizes at (stmtAt 17 bytes (length sizes) 0 at) refl

@@ -4,6 +4,7 @@ use Prim.Native.Nat.{ℕ, _+_, _-_, _*_, _^_, min}
 use mathlib.Core.Bool.{cond}
 use mathlib.Core.List.{List}
 use lib.Dec.{eqb}
+use lib.ListN.{replicate}
 use Rattle.bits.specs.Fields.{fillAt}
 use Rattle.bits.specs.declared.Fill.{Fill}
 use Rattle.bits.specs.declared.Fill.the-variants.{Ends, Wrong}
@@ -15,22 +16,16 @@ use Rattle.expressions.specs.declared.KindError.the-variants.{Nowhere, At}
 use Rattle.expressions.specs.declared.ExprSummary.{ExprSummary}
 use Rattle.expressions.specs.declared.ExprShape.{ExprShape}
 use Rattle.expressions.specs.declared.ExprShape.the-variants as expr
-use Rattle.expressions.specs.declared.head.Head.{Head}
 use Rattle.handler.specs.declared.StmtSummary.{StmtSummary}
 use Rattle.handler.specs.declared.StmtShape.{StmtShape}
 use Rattle.handler.specs.declared.StmtShape.the-variants as stmt
-use Rattle.handler.specs.declared.HandlerSummary.{HandlerSummary}
 use Rattle.handler.specs.declared.HandlerFile.{HandlerFile}
+use Rattle.handler.specs.declared.HandlerFound.{HandlerFound}
 use Rattle.handler.specs.declared.HandlerFound.the-variants as found
-use Rattle.handler.specs.declared.StmtHead.{StmtHead}
-use Rattle.handler.specs.declared.StmtHead.the-variants as head
-use Rattle.handler.specs.declared.Part.{Part}
-use Rattle.handler.specs.declared.Part.the-variants.{Nil, Assign, Pair, Test, Nothing}
 use Rattle.expressions.specs.Header.{headOf, noHead}
-use Rattle.expressions.specs.Expressions.{ExprRead, good, bad, wholeExpr}
-use Rattle.handler.specs.Statements.{StmtRead, whole, fault, stmtHead}
+use Rattle.handler.specs.Statements.{StmtRead, whole, fault}
 use Rattle.handler.specs.Kinds.{stmtKindError}
-use Rattle.handler.specs.StatementTable.{statements}
+use Rattle.handler.specs.StatementTable.{statements, statementTable}
 use Rattle.expressions.specs.Shapes.{asKindError, earlierOf}
 use Rattle.handler.specs.Reading.{HandlerRead, handler, refused}
 
@@ -62,15 +57,14 @@ pairOf l (stmt.Fault k place) = stmt.Fault k place
 abbrev pub testSteps : ℕ → ℕ → ℕ → ℕ → ℕ
 testSteps N code e b = cond (eqb code 4) (e + 1 + b) (N * (e + 2) + (N - 1) * (b + 1))
 
-abbrev pub testedOf : ℕ → ℕ → ExprSummary → StmtShape → StmtShape
-testedOf N code e (stmt.Whole b) =
-    stmt.Whole (record {
+abbrev pub testedOf : ℕ → ℕ → ExprSummary → StmtSummary → StmtSummary
+testedOf N code e b =
+    record {
       steps = min (testSteps N code (e .e) (b .steps)) (2 ^ 32);
       error = earlierOf (e .error) (b .error);
       statements = b .statements;
       next = b .next;
-    })
-testedOf N code e (stmt.Fault k place) = stmt.Fault k place
+    }
 
 -- Of a handler file.
 unfoldable pub fileOf : HandlerRead → HandlerFile
@@ -78,38 +72,19 @@ fileOf (handler sizes at S) =
     record {
       found = found.Handler (record { at = at; statements = statements S; steps = min (steps (product sizes) S) (2 ^ 32) });
       head = headOf sizes;
+      statements = statementTable at S;
     }
-fileOf (refused k place) = record { found = found.Fault k place; head = noHead }
+fileOf (refused k place) = record { found = found.Fault k place; head = noHead; statements = replicate 63 0 }
 
 -- How the file's answer is made of its statement's: 18, then 16.
-abbrev pub fittingOf : Head → ℕ → StmtSummary → KindError → HandlerFile
-fittingOf h at w (At place) = fileOf (refused 16 place)
-fittingOf h at w Nowhere = record { found = found.Handler (record { at = at; statements = w .statements; steps = w .steps }); head = h }
+abbrev pub fittingOf : ℕ → StmtSummary → KindError → HandlerFound
+fittingOf at w (At place) = found.Fault 16 place
+fittingOf at w Nowhere = found.Handler (record { at = at; statements = w .statements; steps = w .steps })
 
-abbrev pub filledOf : Head → ℕ → StmtSummary → Fill → HandlerFile
-filledOf h at w (Wrong place) = fileOf (refused 18 place)
-filledOf h at w Ends = fittingOf h at w (w .error)
+abbrev pub filledOf : ℕ → StmtSummary → Fill → HandlerFound
+filledOf at w (Wrong place) = found.Fault 18 place
+filledOf at w Ends = fittingOf at w (w .error)
 
-abbrev pub judgedOf : List ℕ → Head → ℕ → StmtShape → HandlerFile
-judgedOf bytes h at (stmt.Whole w) = filledOf h at w (fillAt bytes (w .next))
-judgedOf bytes h at (stmt.Fault k place) = fileOf (refused k place)
-
--- The cursor after a statement that was read; 0 where none was.
-abbrev pub afterOf : StmtRead → ℕ
-afterOf (whole S after next) = next
-afterOf (fault k place) = 0
-
--- What is at a statement's place, by its head: the left side is after the code, the body where the test ends.
-abbrev pub testPart : ℕ → ℕ → ExprRead → Part
-testPart code next (good e nodes behind) = Test code next behind
-testPart code next (bad k place) = Nothing
-
-abbrev pub headPart : List ℕ → ℕ → StmtHead → Part
-headPart bytes count (head.Nil next) = Nil
-headPart bytes count (head.Assign v next) = Assign v next
-headPart bytes count (head.Pair code next) = Pair code next
-headPart bytes count (head.Test code next) = testPart code next (wholeExpr bytes count next)
-headPart bytes count (head.Fault k place) = Nothing
-
-unfoldable pub partAt : List ℕ → ℕ → ℕ → Part
-partAt bytes count at = headPart bytes count (stmtHead bytes count 16 0 at)
+abbrev pub foundOf : List ℕ → ℕ → StmtShape → HandlerFound
+foundOf bytes at (stmt.Whole w) = filledOf at w (fillAt bytes (w .next))
+foundOf bytes at (stmt.Fault k place) = found.Fault k place

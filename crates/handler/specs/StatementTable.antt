@@ -1,12 +1,15 @@
 -- The statements of a handler as a table in file order, a word for each: the statement itself, then those of its parts.
 use Prim.Native.Nat.{ℕ, suc, _+_, _-_, _*_, _/_, _%_}
 use mathlib.Core.List.{List, [], _∷_, _++_}
+use mathlib.Core.Path.{_≡_}
 use lib.ListN.{getD, replicate}
+use lib.Seq.{sets}
 use Rattle.semantics.specs.Language.{Stmt, nil, assign, seq, par, if, while}
 use Rattle.semantics.specs.Conditions.{codeOf, targetOf}
 use Rattle.expressions.specs.Kinds.{width}
 use Rattle.handler.specs.declared.table.Statement.{Statement}
 use Rattle.handler.specs.Kinds.{stmtWidth}
+use Rattle.handler.specs.Statements.{StmtRead, whole, fault}
 
 -- How many statements a statement has, itself among them.
 abbrev pub statements : Stmt → ℕ
@@ -64,6 +67,12 @@ statementWords j bit (par l r) =
     wordOf j bit (par l r) ∷ (statementWords (suc j) (bit + 3) l ++ statementWords (suc j + statements l) (bit + 3 + stmtWidth l) r)
 statementWords j bit (if e b) = wordOf j bit (if e b) ∷ statementWords (suc j) (bit + 3 + width e) b
 statementWords j bit (while e b) = wordOf j bit (while e b) ∷ statementWords (suc j) (bit + 3 + width e) b
+
+-- What reading a statement at a bit makes of a table, where `before` statements are before it: the words of the statement are stored
+-- one after the other. Nothing is said where reading meets a fault.
+abbrev pub Filled : List ℕ → List ℕ → ℕ → ℕ → StmtRead → Type 0
+Filled entry exit before bit (whole S after next) = exit ≡ sets entry before (statementWords before bit S)
+Filled entry exit before bit (fault k place) = Unit {0}
 
 -- The table of a handler whose statement is at a bit: 63 words, 0 past the last statement.
 unfoldable pub statementTable : ℕ → Stmt → List ℕ

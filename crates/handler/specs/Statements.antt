@@ -1,6 +1,6 @@
 -- Document 01, "The two files": a statement is 3 bits, then what its code asks; at most 63 statements, 16 levels of them.
-use Prim.Native.Nat.{ℕ, zero, suc, _+_}
-use mathlib.Core.Bool.{Bool, true, false, cond, _||_}
+use Prim.Native.Nat.{ℕ, zero, suc}
+use mathlib.Core.Bool.{Bool, false, cond, _||_}
 use mathlib.Core.List.{List}
 use lib.Dec.{leb, ltb, eqb}
 use Rattle.bits.specs.Fields.{bitLength, fieldAt}

@@ -56,18 +56,9 @@ pub enum HandlerFound {
     Fault(u32, usize),
 }
 
-// What reading a handler file gives.
+// What reading a handler file gives: its handler, its head, and its statements as a table (`table`), all 0 after a fault.
 pub struct HandlerFile {
     pub found: HandlerFound,
     pub head: Head,
-}
-
-// What is at a statement's first bit, with the first bits of its parts: an assignment's variable and expression; the code of a
-// sequence or parallel and its left side; the code of an if or while, test and body; or no statement.
-pub enum Part {
-    Nil,
-    Assign(u32, usize),
-    Pair(u32, usize),
-    Test(u32, usize, usize),
-    Nothing,
+    pub statements: [u64; 63],
 }

@@ -1,29 +1,20 @@
-// The whole handler file, front to back, and what is at a statement of it.
+// The whole handler file, front to back.
 use crate::HandlerFile;
 use crate::HandlerFound;
 use crate::HandlerSummary;
-use crate::Part;
-use crate::StmtHead;
 use crate::StmtShape;
 use crate::statements::LEVELS;
-use crate::statements::MOST_LEVELS;
-use crate::statements::stmt_head_at;
 use crate::statements::stmt_walk;
 use bits::Fill;
-use expressions::ExprShape;
 use expressions::KindError;
 use expressions::codes::FILL;
 use expressions::codes::KINDS;
-use expressions::expr_shape;
-use expressions::head::Head;
 use expressions::head::HeadEnd;
 use expressions::head::no_head;
 use expressions::head::read_head;
-use semantics::Kind;
 ghost use mathlib.Core.Path.{_≡_};
 ghost use Rattle.handler.specs.Reading.{refused, readHandler};
-ghost use Rattle.handler.specs.Statements.{wholeStmt};
-ghost use Rattle.handler.specs.Shapes.{judgedOf, fileOf, partAt, afterOf};
+ghost use Rattle.handler.specs.Shapes.{foundOf, fileOf};
 
 // A faulty file.
 fn faulty(code: u32, place: usize) -> HandlerFile
@@ -33,32 +24,27 @@ fn faulty(code: u32, place: usize) -> HandlerFile
     HandlerFile {
         found: HandlerFound::Fault(code, place),
         head,
+        statements: [0; 63],
     }
 }
 
-// The file's answer from its statement's: 18 the end of the file, then 16 once no other fault is met.
-fn judged_of(src: &[u8], head: Head, at: usize, read: StmtShape) -> HandlerFile
-    ensures { λ r. ⌜ r ≡ judgedOf (now (src .entry)) head at read ⌝ }
+// What is found, from what reading the statement gives: 18 the end of the file, then 16 once no other fault is met.
+fn found_of(src: &[u8], at: usize, read: StmtShape) -> HandlerFound
+    ensures { λ r. ⌜ r ≡ foundOf (now (src .entry)) at read ⌝ }
 {
     match read {
-        StmtShape::Fault(code, place) => faulty(code, place),
+        StmtShape::Fault(code, place) => HandlerFound::Fault(code, place),
         StmtShape::Whole(stmt) => match bits::read_fill(src, stmt.next) {
-            Fill::Wrong(place) => faulty(FILL, place),
+            Fill::Wrong(place) => HandlerFound::Fault(FILL, place),
             Fill::Ends => {
                 let error = stmt.error;
                 match error {
-                    KindError::At(place) => faulty(KINDS, place),
-                    KindError::Nowhere => {
-                        let handler = HandlerSummary {
-                            at,
-                            statements: stmt.statements,
-                            steps: stmt.steps,
-                        };
-                        HandlerFile {
-                            found: HandlerFound::Handler(handler),
-                            head,
-                        }
-                    }
+                    KindError::At(place) => HandlerFound::Fault(KINDS, place),
+                    KindError::Nowhere => HandlerFound::Handler(HandlerSummary {
+                        at,
+                        statements: stmt.statements,
+                        steps: stmt.steps,
+                    }),
                 }
             }
         },
@@ -75,36 +61,17 @@ pub fn read_handler(src: &[u8]) -> HandlerFile
     match end {
         HeadEnd::Fault(code, place) => faulty(code, place),
         HeadEnd::Statement(at) => {
-            let read = stmt_walk(src, head.count, head.states, LEVELS, 0, at);
-            judged_of(src, head, at, read)
+            let mut statements = [0u64; 63];
+            let read = stmt_walk(src, &mut statements, head.count, head.states, LEVELS, 0, at);
+            let found = found_of(src, at, read);
+            match found {
+                HandlerFound::Fault(code, place) => faulty(code, place),
+                HandlerFound::Handler(_) => HandlerFile {
+                    found,
+                    head,
+                    statements,
+                },
+            }
         }
     }
-}
-
-// What is at a statement's first bit, and where its parts begin: only a test is read, to find the body.
-pub fn part_at(src: &[u8], count: u32, at: usize) -> Part
-    ensures { λ r. ⌜ r ≡ partAt (now (src .entry)) count at ⌝ }
-{
-    match stmt_head_at(src, count, MOST_LEVELS, 0, at) {
-        StmtHead::Nil(_) => Part::Nil,
-        StmtHead::Assign(v, next) => Part::Assign(v, next),
-        StmtHead::Pair(code, next) => Part::Pair(code, next),
-        StmtHead::Test(code, next) => {
-            let ExprShape::Whole(test) = expr_shape(src, count, Kind::Truth, 0, next) else {
-                return Part::Nothing;
-            };
-            Part::Test(code, next, test.next)
-        }
-        StmtHead::Fault(_, _) => Part::Nothing,
-    }
-}
-
-// The cursor after the statement at a cursor; 0 where there is none.
-pub fn stmt_end(src: &[u8], count: u32, at: usize) -> usize
-    ensures { λ r. ⌜ r ≡ afterOf (wholeStmt (now (src .entry)) count at) ⌝ }
-{
-    let StmtShape::Whole(stmt) = stmt_walk(src, count, 1, LEVELS, 0, at) else {
-        return 0;
-    };
-    stmt.next
 }

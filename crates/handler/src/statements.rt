@@ -7,6 +7,7 @@ use crate::StmtHead;
 use crate::StmtShape;
 use crate::StmtSummary;
 use crate::WHILE;
+use crate::table::store;
 use bits::Field;
 use expressions::ExprShape;
 use expressions::ExprSummary;
@@ -19,15 +20,15 @@ use expressions::earlier_of;
 use expressions::expr_shape;
 use semantics::Kind;
 ghost use mathlib.Core.Path.{_≡_};
-ghost use Prim.Native.Nat.{_+_, _^_, _≤_, min};
+ghost use Prim.Native.Nat.{_+_, _*_, _^_, _≤_, min};
+ghost use lib.ListN.{length};
 ghost use Rattle.bits.specs.Fields.{fieldAt};
 ghost use Rattle.handler.specs.Shapes.{stmtShape, assignedOf, pairOf, testSteps, testedOf};
-ghost use Rattle.handler.specs.Statements.{targetHead, codeHead, stmtHead, stmtAt, wholeStmt};
+ghost use Rattle.handler.specs.Statements.{targetHead, codeHead, stmtHead, stmtAt};
+ghost use Rattle.handler.specs.StatementTable.{Filled};
 
 // At most 63 statements, 16 levels of them; they are read to one level more.
 const MOST_STATEMENTS: u32 = 63;
-
-pub(crate) const MOST_LEVELS: u32 = 16;
 
 pub(crate) const LEVELS: u32 = 17;
 
@@ -150,62 +151,71 @@ fn test_steps(n: u32, code: u32, e: u32, body: u64) -> u64
 }
 
 // The shape of an if or while from those of its test and its body.
-fn tested_of(n: u32, code: u32, test: ExprSummary, body: StmtShape) -> StmtShape
+fn tested_of(n: u32, code: u32, test: ExprSummary, body: StmtSummary) -> StmtShape
     requires { ⌜ (1 ≤ n) × (n ≤ 64) ⌝ }
-    ensures { λ r. ⌜ r ≡ testedOf n code test body ⌝ }
+    ensures { λ r. ⌜ r ≡ StmtShape.Whole (testedOf n code test body) ⌝ }
 {
-    let StmtShape::Whole(inner) = body else {
-        return body;
-    };
     let test_error = test.error;
-    let body_error = inner.error;
+    let body_error = body.error;
     let error = earlier_of(test_error, body_error);
     StmtShape::Whole(StmtSummary {
-        steps: test_steps(n, code, test.e, inner.steps),
+        steps: test_steps(n, code, test.e, body.steps),
         error,
-        statements: inner.statements,
-        next: inner.next,
+        statements: body.statements,
+        next: body.next,
     })
 }
 
-// The shape of the statement at a cursor over n states, read to so many levels.
+// The shape of the statement at a cursor over n states, read to so many levels; `before` statements are before it, of at most 315
+// bits each. Its word and those of its parts are stored in the table.
 pub(crate) fn stmt_walk(
     src: &[u8],
+    table: &mut [u64],
     count: u32,
     n: u32,
     levels: u32,
     before: u32,
     at: usize,
 ) -> StmtShape
-    requires { ⌜ (1 ≤ n) × (n ≤ 64) × (before ≤ 63) ⌝ }
+    requires { ⌜ (1 ≤ n) × (n ≤ 64) × (before ≤ 63) × (at ≤ 23 + 315 * before) × (63 ≤ length (now table)) ⌝ }
     ensures { λ r. ⌜ r ≡ stmtShape n at (stmtAt levels (now (src .entry)) count before at) ⌝ }
+    ensures { λ r.
+        ⌜ Filled (now (table .entry)) (now (table .exit)) before at (stmtAt levels (now (src .entry)) count before at) ⌝ }
 {
     if levels == 0 {
         return StmtShape::Fault(TOO_MANY, at);
     }
     match stmt_head_at(src, count, levels - 1, before, at) {
-        StmtHead::Nil(next) => StmtShape::Whole(StmtSummary {
-            steps: 0,
-            error: KindError::Nowhere,
-            statements: before + 1,
-            next,
-        }),
-        StmtHead::Assign(_, next) => assigned_of(
-            before + 1,
-            expr_shape(src, count, Kind::Integer, 0, next),
-        ),
-        StmtHead::Pair(_, next) => {
-            let first = stmt_walk(src, count, n, levels - 1, before + 1, next);
+        StmtHead::Nil(next) => {
+            store(table, before, NIL, 0, before + 1, 0);
+            StmtShape::Whole(StmtSummary {
+                steps: 0,
+                error: KindError::Nowhere,
+                statements: before + 1,
+                next,
+            })
+        }
+        StmtHead::Assign(v, next) => {
+            store(table, before, ASSIGNMENT, v, before + 1, next);
+            assigned_of(before + 1, expr_shape(src, count, Kind::Integer, 0, next))
+        }
+        StmtHead::Pair(code, next) => {
+            let first = stmt_walk(src, table, count, n, levels - 1, before + 1, next);
             let StmtShape::Whole(left) = first else {
                 return first;
             };
-            let second = stmt_walk(src, count, n, levels - 1, left.statements, left.next);
+            store(table, before, code, 0, left.statements, 0);
+            let second = stmt_walk(src, table, count, n, levels - 1, left.statements, left.next);
             pair_of(left, second)
         }
         StmtHead::Test(code, next) => match expr_shape(src, count, Kind::Truth, 0, next) {
             ExprShape::Fault(fault, place) => StmtShape::Fault(fault, place),
             ExprShape::Whole(test) => {
-                let body = stmt_walk(src, count, n, levels - 1, before + 1, test.next);
+                let second = stmt_walk(src, table, count, n, levels - 1, before + 1, test.next);
+                let StmtShape::Whole(body) = second else {
+                    return second;
+                };
+                store(table, before, code, 0, body.statements, next);
                 tested_of(n, code, test, body)
             }
         },

@@ -1,5 +1,5 @@
 -- A bit is 0 or 1, and a mask of 32 bits has none from bit 32 on.
-use Prim.Native.Nat.{ℕ, zero, suc, _/_, _%_, _^_, _≤_, _<_}
+use Prim.Native.Nat.{ℕ, zero, suc, _^_, _<_}
 use mathlib.Core.Bool.{cond}
 use mathlib.Core.Path.{_≡_, refl}
 use native.Mathlib.Nat.{div-eq-of-lt}

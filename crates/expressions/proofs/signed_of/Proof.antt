@@ -1,12 +1,12 @@
 -- A number below 2 ^ 63 is itself as an i64, and n below 256 less 256 is −(256 − n).
-use Prim.Native.Nat.{ℕ, suc, _-_, _<_, _^_}
+use Prim.Native.Nat.{ℕ, suc, _-_, _<_}
 use mathlib.Core.Path.{_≡_}
 use native.Mathlib.Omega.{arith}
 use borrow.Author.Needs.{needs}
 use borrow.Author.Tests.{lt-ltb, le-ltb}
 use lib.IntN.{pos, negsuc, _-ℤ_}
 use mir.Syntax.{w64}
-use mir.Val.{SFits, toZ}
+use mir.Val.{toZ}
 use mir.Facts.{toZ-pos, toZ-ofZ}
 use Rattle.expressions.specs.Expressions.{signed}
 use Rattle.expressions.proofs.signed_of.Statement.{statement}

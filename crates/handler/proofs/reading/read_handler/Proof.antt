@@ -1,27 +1,61 @@
--- The head says which case of `onHead` holds, and N is 1 to 64; the answer is judged as the definition judges.
+-- The head says which case of `onHead` holds, N is 1 to 64, and the statement begins within 23 bits. What is found is what is read,
+-- and the table that the walk fills is that of the handler.
 use Prim.Native.Nat.{ℕ}
 use mathlib.Core.List.{List}
-use mathlib.Core.Path.{_≡_, ap}
+use mathlib.Core.Path.{_≡_, sym, ap, _∙_}
 use native.Mathlib.Omega.{arith}
 use borrow.Author.Needs.{needs}
+use lib.ListN.{replicate}
 use Rattle.expressions.specs.declared.head.Head.{Head}
 use Rattle.expressions.specs.Header.{declared, headAt, headOf}
 use Rattle.expressions.proofs.Heads.{FoundHead, found-head, found-fault, head-read}
-use Rattle.handler.specs.Statements.{stmtAt}
+use Rattle.handler.specs.declared.HandlerFile.{HandlerFile}
+use Rattle.handler.specs.declared.HandlerFound.{HandlerFound}
+use Rattle.handler.specs.declared.HandlerFound.the-variants as found
+use Rattle.handler.specs.declared.HandlerSummary.{HandlerSummary}
+use Rattle.handler.specs.Statements.{stmtAt, wholeStmt}
+use Rattle.handler.specs.StatementTable.{Filled}
 use Rattle.handler.specs.Reading.{readHandler}
-use Rattle.handler.specs.Shapes.{stmtShape, judgedOf, fileOf}
-use Rattle.handler.proofs.StmtShapes.{judged}
+use Rattle.handler.specs.Shapes.{stmtShape, foundOf, fileOf}
+use Rattle.handler.proofs.StatementTable.{table-made}
+use Rattle.handler.proofs.StmtShapes.{found-read}
+use Rattle.handler.proofs.Handlers.{known-handler, found-refused, found-handler}
 use Rattle.handler.proofs.reading.read_handler.Statement.{statement}
 use Rattle.handler.proofs.reading.read_handler.Tie as tie
 
-found : (c : tie.After-known-told2) → let r = c .before .before .before .before in
+same-file : {x y : HandlerFound} {h k : Head} {s t : List ℕ} → x ≡ y → h ≡ k → s ≡ t
+    → _≡_ {A = HandlerFile} (record { found = x; head = h; statements = s }) (record { found = y; head = k; statements = t })
+same-file p q r = rw (p, q, r)
+
+-- Where a head was read, as the code passes it on.
+module _ (bytes sizes : List ℕ) (h : Head) (at : ℕ) (read : headAt bytes ≡ declared sizes at) (is : h ≡ headOf sizes) where
+  found-is : foundOf bytes at (stmtShape (h .states) at (stmtAt 17 bytes (h .count) 0 at)) ≡ fileOf (readHandler bytes) .found
+  unfolding readHandler headOf
+  found-is = rw (is, read) (found-read bytes sizes at)
+
+  file-is : (x : HandlerFound) (w : HandlerSummary) (table : List ℕ) → x ≡ fileOf (readHandler bytes) .found → x ≡ found.Handler w
+      → Filled (replicate 63 0) table 0 at (stmtAt 17 bytes (h .count) 0 at)
+      → _≡_ {A = HandlerFile} (record { found = x; head = h; statements = table }) (fileOf (readHandler bytes))
+  unfolding fileOf headOf wholeStmt
+  file-is x w table e is-handler filled =
+      let g = found-handler (readHandler bytes) w (sym e ∙ is-handler) in
+      let known = known-handler bytes (g .sizes) (w .at) (g .S) (g .read) in
+      let both : declared sizes at ≡ declared (g .sizes) (w .at) = sym read ∙ known .head in
+      let sizes-are : g .sizes ≡ sizes = cc in
+      let at-is : w .at ≡ at = cc in
+      let words = rw (is, ← sizes-are, ← at-is, known .stands .read) at filled in
+      same-file (e ∙ ap (λ r. fileOf r .found) (g .read)) (is ∙ ap headOf (sym sizes-are)) (words ∙ table-made (w .at) (g .S) (known .few))
+      ∙ sym (ap fileOf (g .read))
+
+-- What is known once the head is read.
+head-found : (c : tie.After-known-told2) → let r = c .before .before .before .before in
     FoundHead (headAt (r .before .before .args .src .now)) (r .read-head .result) (c .before .end2 .given .0 .0)
-found c = found-head _ _ _ (c .before .before .before .before .read-head .ensures) (c .before .end2 .given .1)
+head-found c = found-head _ _ _ (c .before .before .before .before .read-head .ensures) (c .before .end2 .given .1)
 
 stmt-walk-requires : tie.Need-stmt-walk-requires
 unfolding headOf
 stmt-walk-requires c κs =
-    let f = found c in
+    let f = head-found (c .before) in
     let states = ap (λ h. h .states) (f .is) in
     let known = head-read _ _ _ (f .read) in
     omega (arith, states, known)
@@ -32,23 +66,27 @@ returns c =
     let r = c .before .before .before .before .before in
     rw (c .faulty .ensures, found-fault (headAt (r .before .before .args .src .now)) _ _ _ (r .read-head .ensures) (c .before .before .end .given .1))
 
--- The head by value is that of the sizes.
-answered : (bytes sizes : List ℕ) (h : Head) (at : ℕ) → headAt bytes ≡ declared sizes at → h ≡ headOf sizes
-    → judgedOf bytes h at (stmtShape (h .states) at (stmtAt 17 bytes (h .count) 0 at)) ≡ fileOf (readHandler bytes)
-unfolding readHandler headOf
-answered bytes sizes h at read is = rw (is, read) (judged bytes sizes at)
-
 returns-2 : tie.Need-returns-2
 returns-2 c =
-    let f = found (c .before .before) in
-    rw (c .judged-of .ensures, c .before .stmt-walk .ensures) (answered _ (f .sizes) _ _ (f .read) (f .is))
+    let f = head-found (c .before .before .before .before .before .before .before .before) in
+    let w = c .before .before .before .before in
+    let e = rw (w .before .before .stmt-walk .ensures .0) at (w .found-of .ensures) in
+    c .faulty2 .ensures ∙ sym (ap fileOf (found-refused _ _ _ (sym (e ∙ found-is _ (f .sizes) _ _ (f .read) (f .is)) ∙ c .before .before .found .given .1)))
+
+returns-3 : tie.Need-returns-3
+returns-3 c =
+    let f = head-found (c .before .before .before .before .before .before) in
+    let w = c .before .before in
+    let e = rw (w .before .before .stmt-walk .ensures .0) at (w .found-of .ensures) in
+    file-is _ (f .sizes) _ _ (f .read) (f .is) _ _ _ (e ∙ found-is _ (f .sizes) _ _ (f .read) (f .is)) (c .enum-told .given .1) (w .before .before .stmt-walk .ensures .1)
 
 pub read-handler-spec : {M : Type 1} → statement M
 read-handler-spec =
     tie.close
     (tie.spec
-    (λ c κs. search needs) (λ c. search needs) (λ c κs. search needs) (λ c. search needs)
+    (λ c κs. search needs) (λ c. search needs) (λ c κs. search needs) (λ c. search needs) (λ c. search needs)
     stmt-walk-requires
-    (λ c κs. search needs)
+    (λ c κs. search needs) (λ c. search needs) (λ c κs. search needs) (λ c. search needs)
     returns
-    returns-2)
+    returns-2
+    returns-3)

@@ -1,5 +1,4 @@
 -- The word read is that of the table, or 0 past its end.
-use native.Mathlib.Omega.{arith}
 use mathlib.Core.Logic.{⊎-elim}
 use borrow.Author.Needs.{needs}
 use lib.ListN.{List·getD-eq-default}

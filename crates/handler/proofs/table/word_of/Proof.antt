@@ -1,0 +1,17 @@
+-- The sum is the definition's; its numbers are of 32 bits, so that it fits.
+use mathlib.Core.Path.{refl}
+use borrow.Author.Needs.{needs}
+use Rattle.handler.specs.StatementTable.{statementWord}
+use Rattle.handler.proofs.table.word_of.Statement.{statement}
+use Rattle.handler.proofs.table.word_of.Tie as tie
+
+returns : tie.Need-returns
+unfolding statementWord
+returns c = refl
+
+pub word-of-spec : {M : Type 1} → statement M
+word-of-spec =
+    tie.close
+    (tie.spec
+    (λ c. search needs) (λ c. search needs) (λ c. search needs) (λ c. search needs) (λ c. search needs) (λ c. search needs)
+    returns)
