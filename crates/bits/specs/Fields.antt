@@ -15,6 +15,10 @@ use Rattle.bits.specs.declared.Fill.the-variants.{Ends, Wrong}
 unfoldable pub bitLength : List ℕ → ℕ
 bitLength bytes = min (8 * length bytes) (2 ^ 64 - 1)
 
+-- Whether `count` bits from `at` on are all within a file.
+unfoldable pub hasBits : List ℕ → ℕ → ℕ → Bool
+hasBits bytes at count = leb (at + count) (8 * length bytes)
+
 -- Bit i of a file, the most significant of a byte first; 0 past the end.
 unfoldable pub bitAt : List ℕ → ℕ → ℕ
 bitAt bytes i = getD bytes (i / 8) 0 / 2 ^ (7 - i % 8) % 2
