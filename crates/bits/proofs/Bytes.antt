@@ -36,16 +36,13 @@ module _ (s : List ℕ) where
   pub bits-last : (at w k : ℕ) → bitsAt s at (w + k) % 2 ^ k ≡ bitsAt s (at + w) k
   bits-last at w k = rw bits-join (low (bitsAt s at w) k (bits-below s (at + w) k))
 
-  -- The 8 bits from a cursor on lie within the byte of the cursor and the next.
-  pub window : (at : ℕ)
-      → (bitsAt s (8 * (at / 8)) 8 * 256 + bitsAt s (8 * (at / 8 + 1)) 8) / 2 ^ (8 - at % 8) % 256 ≡ bitsAt s at 8
-  window at =
-      let first = 8 * (at / 8) in
-      let next : 8 * (at / 8 + 1) ≡ first + 8 = omega arith in
-      let cursor : first + at % 8 ≡ at = omega arith in
-      let behind : 8 - at % 8 ≡ 16 - (at % 8 + 8) = omega arith in
-      rw (next, ← bits-join s first 8 8, behind, bits-first first (at % 8 + 8) 16 (omega arith))
-      (bits-last first (at % 8) 8 ∙ ap (λ here. bitsAt s here 8) cursor)
+  -- The 8 bits from a bit of byte i on lie within that byte and the next.
+  pub window : (i skip : ℕ) → skip ≤ 8
+      → (bitsAt s (8 * i) 8 * 256 + bitsAt s (8 * (i + 1)) 8) / 2 ^ (8 - skip) % 256 ≡ bitsAt s (8 * i + skip) 8
+  window i skip within =
+      let next : 8 * (i + 1) ≡ 8 * i + 8 = omega arith in
+      let after : 8 - skip ≡ 16 - (skip + 8) = omega arith in
+      rw (next, ← bits-join s (8 * i) 8 8, after, bits-first (8 * i) (skip + 8) 16 (omega arith)) (bits-last (8 * i) skip 8)
 
   -- A field of at most 64 bits, of which at most 8 are left.
   pub bits-left : (at done width : ℕ) → done ≤ width → width ≤ done + 8 → width ≤ 64

@@ -53,10 +53,9 @@ bits-join s at w zero = rw (add-zero w) (omega arith)
 bits-join s at w (suc k) =
     rw (add-suc, pow-suc, ← add-assoc at w k) (omega (arith, bits-join s at w k))
 
--- A number of at most 64 bits, where a cursor can stand after them.
-pub number-bits : (s : List ℕ) (at w : ℕ) → w ≤ 64 → at + w < 2 ^ 64 → numberAt s at w ≡ bitsAt s at w
+pub number-bits : (s : List ℕ) (at w : ℕ) → w ≤ 64 → numberAt s at w ≡ bitsAt s at w
 unfolding numberAt
-number-bits s at w most fits = rw (le-leb w 64 most, lt-ltb (at + w) (2 ^ 64) fits)
+number-bits s at w most = rw (le-leb w 64 most)
 
 -- A number depends only on the bits that write it, wherever they stand.
 pub bits-agree : (s t : List ℕ) (a b w : ℕ) → ((k : ℕ) → k < w → bitAt s (a + k) ≡ bitAt t (b + k)) → bitsAt s a w ≡ bitsAt t b w

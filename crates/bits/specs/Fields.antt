@@ -36,9 +36,9 @@ isThere bytes at width = leb 1 width && leb width 64 && leb (at + width) (8 * le
 unfoldable pub fieldAt : List ℕ → ℕ → ℕ → Field
 fieldAt bytes at width = cond (isThere bytes at width) (Value (bitsAt bytes at width) (at + width)) Missing
 
--- The number that `width` bits from a cursor on write, where they are at most 64 and a usize can hold the cursor behind them; else 0.
+-- The number that `width` bits from a cursor on write, where they are at most 64; else 0.
 unfoldable pub numberAt : List ℕ → ℕ → ℕ → ℕ
-numberAt bytes at width = cond (leb width 64 && ltb (at + width) (2 ^ 64)) (bitsAt bytes at width) 0
+numberAt bytes at width = cond (leb width 64) (bitsAt bytes at width) 0
 
 -- The first of `count` bits from `at` on that is not zero.
 unfoldable pub firstSet : List ℕ → ℕ → ℕ → Option ℕ

@@ -66,29 +66,30 @@ fn is_there(src: &[u8], at: usize, width: usize) -> bool
     (at + width - 1) / 8 < src.len()
 }
 
-// The 8 bits from a cursor on, the first of them the most significant; those past the end are 0.
-pub fn byte_at(src: &[u8], at: usize) -> u64
-    ensures { λ r. ⌜ r ≡ bitsAt (now (src .entry)) at 8 ⌝ }
+// The 8 bits from bit `skip` of byte i on, the first of them the most significant; those past the end are 0.
+fn byte_from(src: &[u8], i: usize, skip: usize) -> u64
+    requires { ⌜ (i < 2 ^ 62) × (skip < 8) ⌝ }
+    ensures { λ r. ⌜ r ≡ bitsAt (now (src .entry)) (8 * i + skip) 8 ⌝ }
 {
-    let first = byte(src, at / 8);
-    let second = byte(src, at / 8 + 1);
-    ((first * 256 + second) >> (8 - at % 8)) % 256
+    let first = byte(src, i);
+    let second = byte(src, i + 1);
+    ((first * 256 + second) >> (8 - skip)) % 256
 }
 
 // The number that a field of `width` bits writes: whole bytes of it, then the bits that are left, at most 8.
 fn gather(src: &[u8], at: usize, width: usize) -> u64
-    requires { ⌜ (width ≤ 64) × (at + width < 2 ^ 64) ⌝ }
+    requires { ⌜ width ≤ 64 ⌝ }
     ensures { λ r. ⌜ r ≡ bitsAt (now (src .entry)) at width ⌝ }
 {
     let mut value = 0;
     let mut done = 0;
     while width - done > 8 {
-        let next = byte_at(src, at + done);
+        let next = byte_from(src, at / 8 + done / 8, at % 8);
         value = value * 256 + next;
         done += 8;
     }
     let left = width - done;
-    let last = byte_at(src, at + done) >> (8 - left);
+    let last = byte_from(src, at / 8 + done / 8, at % 8) >> (8 - left);
     (value << left) + last
 }
 
@@ -122,12 +123,12 @@ fn nine_bytes(src: &[u8], at: usize) -> u64
     high + (src[i + 8] as u64 >> (8 - at % 8))
 }
 
-// The number that `width` bits from a cursor on write, those past the end 0; 0 where they are more than 64 or no cursor can stand
-// after them. 64 bits are taken from whole bytes at once where the file has these.
+// The number that `width` bits from a cursor on write, those past the end 0; 0 where they are more than 64. 64 bits are taken from
+// whole bytes at once where the file has these.
 pub fn number_at(src: &[u8], at: usize, width: usize) -> u64
     ensures { λ r. ⌜ r ≡ numberAt (now (src .entry)) at width ⌝ }
 {
-    if width > 64 || width > LAST - at {
+    if width > 64 {
         return 0;
     }
     if width == 64 && at / 8 + 8 < src.len() {

@@ -30,7 +30,7 @@ fn reversed(word: u64) -> u64
 
 // The word that holds n bits of the file from a cursor on, the first of them the lowest.
 fn word_at(src: &[u8], at: usize, n: usize) -> u64
-    requires { ⌜ (at ≤ 70666) × (n ≤ 64) ⌝ }
+    requires { ⌜ n ≤ 64 ⌝ }
     ensures { λ r. ⌜ r ≡ wordAt (now (src .entry)) at n ⌝ }
 {
     let word = reversed(bits::number_at(src, at, 64));

@@ -13,7 +13,7 @@ use Rattle.derivation.proofs.words.word_at.Tie as tie
 whole : (c : tie.After-reversed) →
     let a = c .before .before .before .args in
     c .reversed .result ≡ wordAt (a .src .now) (a .at) 64
-whole c = c .reversed .ensures _ _ (c .before .number-at .ensures ∙ number-bits _ _ 64 (omega arith) (omega arith))
+whole c = c .reversed .ensures _ _ (c .before .number-at .ensures ∙ number-bits _ _ 64 (omega arith))
 
 rem-result : tie.Need-rem-result
 rem-result c =
