@@ -5,7 +5,6 @@ pub mod header;
 pub mod nodes;
 pub mod reading;
 pub mod table;
-mod wide;
 pub mod words;
 
 // What the head of the file finds over N states: how many sets and relations, and the root node's first bit; or a fault.

@@ -2,10 +2,9 @@
 use Prim.Native.Nat.{_+_}
 use native.Mathlib.Omega.{arith}
 use borrow.Author.Needs.{needs}
-use Rattle.bits.proofs.Bytes.{byte-bits}
-use Rattle.derivation.proofs.Windows.{bytes-join}
-use Rattle.derivation.proofs.wide.two_bytes.Statement.{statement}
-use Rattle.derivation.proofs.wide.two_bytes.Tie as tie
+use Rattle.bits.proofs.Bytes.{byte-bits, bytes-join}
+use Rattle.bits.proofs.two_bytes.Statement.{statement}
+use Rattle.bits.proofs.two_bytes.Tie as tie
 
 returns : tie.Need-returns
 returns c =

@@ -2,10 +2,10 @@
 use Prim.Native.Nat.{_+_, _*_, _^_, _<_}
 use native.Mathlib.Omega.{arith}
 use borrow.Author.Needs.{needs}
 use Rattle.bits.proofs.Laws.{bits-below}
-use Rattle.derivation.proofs.Windows.{bytes-join}
-use Rattle.derivation.proofs.wide.eight_bytes.Statement.{statement}
-use Rattle.derivation.proofs.wide.eight_bytes.Tie as tie
+use Rattle.bits.proofs.Bytes.{bytes-join}
+use Rattle.bits.proofs.eight_bytes.Statement.{statement}
+use Rattle.bits.proofs.eight_bytes.Tie as tie
 
 returns : tie.Need-returns
 returns c =
