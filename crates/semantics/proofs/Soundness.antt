@@ -126,15 +126,21 @@ module _ (m : Machine) where
       → (s : ℕ) → c .P s ≡ true → SafeAt c (n + j + 1) (par L T) s
   unfolding c34parallel c65
   parallel-safe c l r w wl wr L T n j e34 e65 e66 left right s p =
-      let (same-Pl, same-Pr, same-Rl, same-Rr) = four _ _ _ _ e34 in
+      let left-rely : ℕ → ℕ → Bool = λ a b. c .R a b || r .G a b in
+      let right-rely : ℕ → ℕ → Bool = λ a b. c .R a b || l .G a b in
+      let N = m .states in
+      let (same-Pl, same-Pr, same-Rl, same-Rr)
+      = four (sameSet N (l .P) (c .P)) (sameSet N (r .P) (c .P)) (sameRelation N (l .R) left-rely) (sameRelation N (r .R) right-rely) e34 in
+      let to-left = into (l .R) left-rely (either (c .R) (r .G) (w .R-in) (wr .G-in)) same-Rl in
+      let to-right = into (r .R) right-rely (either (c .R) (l .G) (w .R-in) (wl .G-in)) same-Rr in
       let both-in = must-none _ e65 in
       safe-par (record {
-        others-left = λ a b h. into (l .R) (λ a b. c .R a b || r .G a b) (either (c .R) (r .G) (w .R-in) (wr .G-in)) same-Rl a b (or-left (c .R a b) _ h);
-        right-left = λ a b h. into (l .R) (λ a b. c .R a b || r .G a b) (either (c .R) (r .G) (w .R-in) (wr .G-in)) same-Rl a b (or-right (c .R a b) _ h);
-        others-right = λ a b h. into (r .R) (λ a b. c .R a b || l .G a b) (either (c .R) (l .G) (w .R-in) (wl .G-in)) same-Rr a b (or-left (c .R a b) _ h);
-        left-right = λ a b h. into (r .R) (λ a b. c .R a b || l .G a b) (either (c .R) (l .G) (w .R-in) (wl .G-in)) same-Rr a b (or-right (c .R a b) _ h);
-        left-kept = lies-in m (l .G) (c .G) (wl .G-in) (and-left (relationLiesIn (m .states) (l .G) (c .G)) _ both-in);
-        right-kept = lies-in m (r .G) (c .G) (wr .G-in) (and-right (relationLiesIn (m .states) (l .G) (c .G)) _ both-in);
+        others-left = λ a b h. to-left a b (or-left (c .R a b) _ h);
+        right-left = λ a b h. to-left a b (or-right (c .R a b) _ h);
+        others-right = λ a b h. to-right a b (or-left (c .R a b) _ h);
+        left-right = λ a b h. to-right a b (or-right (c .R a b) _ h);
+        left-kept = lies-in m (l .G) (c .G) (wl .G-in) (and-left (relationLiesIn N (l .G) (c .G)) _ both-in);
+        right-kept = lies-in m (r .G) (c .G) (wr .G-in) (and-right (relationLiesIn N (l .G) (c .G)) _ both-in);
       })
       (n + j + 1) n j s (omega arith) stay (λ t way q q′. says66 m c w l r wl wr e66 s t p way q q′)
       (left s (into-set (l .P) (c .P) (w .P-in) same-Pl s p)) (right s (into-set (r .P) (c .P) (w .P-in) same-Pr s p))
