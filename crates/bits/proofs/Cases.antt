@@ -1,8 +1,9 @@
 -- Worked examples: document 01's handler file 22 20 02, its fields, its end and what may stand there.
 use Prim.Native.Nat.{ℕ}
 use mathlib.Core.List.{List, [], _∷_}
+use mathlib.Core.Bool.{true, false}
 use mathlib.Core.Path.{_≡_, refl}
-use Rattle.bits.specs.Fields.{bitAt, bitsAt, isThere, fieldAt, firstSet, fillBits, furtherByte, fillFrom, fillAt}
+use Rattle.bits.specs.Fields.{hasBits, bitAt, bitsAt, isThere, fieldAt, firstSet, fillBits, furtherByte, fillFrom, fillAt}
 use Rattle.bits.specs.declared.Field.the-variants.{Value, Missing}
 use Rattle.bits.specs.declared.Fill.the-variants.{Ends, Wrong}
 
@@ -27,6 +28,11 @@ pub widths :
     × (fieldAt (1 ∷ 1 ∷ 1 ∷ 1 ∷ 1 ∷ 1 ∷ handler) 0 65 ≡ Missing) × (fieldAt handler 0xffffffffffffffff 1 ≡ Missing)
 unfolding fieldAt isThere bitsAt bitAt
 widths = (refl, refl, refl, refl)
+
+-- Bits are there up to the last of the file; no bits are there anywhere in it.
+pub bits-there : (hasBits handler 8 16 ≡ true) × (hasBits handler 9 16 ≡ false) × (hasBits handler 24 0 ≡ true) × (hasBits handler 25 0 ≡ false)
+unfolding hasBits
+bits-there = (refl, refl, refl, refl)
 
 -- The last fill bit may not be set, and a further byte is wrong at its first bit.
 pub ends :

@@ -1,6 +1,6 @@
 -- Laws of the packed reader's definitions, for the proofs here and for callers: bits, then fields, then the fill.
 use Prim.Native.Nat.{ℕ, zero, suc, _+_, _*_, _/_, _%_, _^_, _≤_, _<_}
-use mathlib.Core.Bool.{Bool, true, false, cond, _&&_, and-eq-true-iff, true≢false}
+use mathlib.Core.Bool.{Bool, true, false, cond, _&&_, and-eq-true-iff, not-eq-not, true≢false}
 use mathlib.Core.List.{List}
 use mathlib.Core.Logic.{⊎-elim}
 use mathlib.Core.Option.{Option, none, some}
@@ -13,11 +13,16 @@ use lib.Dec.{ltb, eqb}
 use lib.ListN.{length, List·getD-eq-default}
 use lib.Pow.{pow-mono}
 use lib.Arith.{digits-div, digits-mod}
-use Rattle.bits.specs.Fields.{bitAt, bitsAt, isThere, fieldAt, firstSet, fillBits, furtherByte, fillFrom, fillAt}
+use Rattle.bits.specs.Fields.{bitAt, bitsAt, isThere, fieldAt, numberAt, firstSet, fillBits, furtherByte, fillFrom, fillAt}
 use Rattle.bits.specs.declared.Field.{Field}
 use Rattle.bits.specs.declared.Field.the-variants.{Value, Missing}
 use Rattle.bits.specs.declared.Fill.{Fill}
 use Rattle.bits.specs.declared.Fill.the-variants.{Ends, Wrong}
+
+-- Two tests are one where the second passes after the first and not without it.
+pub same-test : (a b : Bool) → (a ≡ true → b ≡ true) → (a ≡ false → b ≡ true → ⊥) → a ≡ b
+same-test true b f g = sym (f refl)
+same-test false b f g = sym (not-eq-not {b = false} .0 (g refl))
 
 pub bit-below : (s : List ℕ) (i : ℕ) → bitAt s i < 2
 unfolding bitAt
@@ -47,6 +52,10 @@ unfolding bitsAt
 bits-join s at w zero = rw (add-zero w) (omega arith)
 bits-join s at w (suc k) =
     rw (add-suc, pow-suc, ← add-assoc at w k) (omega (arith, bits-join s at w k))
+
+pub number-bits : (s : List ℕ) (at w : ℕ) → w ≤ 64 → numberAt s at w ≡ bitsAt s at w
+unfolding numberAt
+number-bits s at w most = rw (le-leb w 64 most)
 
 -- A number depends only on the bits that write it, wherever they stand.
 pub bits-agree : (s t : List ℕ) (a b w : ℕ) → ((k : ℕ) → k < w → bitAt s (a + k) ≡ bitAt t (b + k)) → bitsAt s a w ≡ bitsAt t b w
@@ -112,11 +121,6 @@ parted s at w k v next least more e =
     let first = found s at w least (omega (arith, t)) (omega (arith, t)) (omega (arith, t)) in
     let second = found s (at + w) k more (omega (arith, t)) (omega (arith, t)) (omega (arith, t)) in
     (rw (v-is, digits-div (bitsAt s at w) small) first, rw (v-is, digits-mod (bitsAt s at w) small, end) second)
-
--- Where cursors reach the end of the file, a field of 1 to 64 bits is missing only by running past it.
-pub runs-past : (s : List ℕ) (at w : ℕ) → 1 ≤ w → w ≤ 64 → 8 * length s < 2 ^ 64 → fieldAt s at w ≡ Missing → 8 * length s < at + w
-runs-past s at w least most short e =
-    lt-of-not-le (λ inside. true≢false (sym (is-there s at w least most inside (omega arith)) ∙ missing s at w e))
 
 -- What a search for the first set bit tells: all are zero, or the one found is not.
 abbrev OfFirst : List ℕ → ℕ → ℕ → Option ℕ → Type 0

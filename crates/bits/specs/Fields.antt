@@ -15,6 +15,10 @@ use Rattle.bits.specs.declared.Fill.the-variants.{Ends, Wrong}
 unfoldable pub bitLength : List ℕ → ℕ
 bitLength bytes = min (8 * length bytes) (2 ^ 64 - 1)
 
+-- Whether `count` bits from `at` on are all within a file.
+unfoldable pub hasBits : List ℕ → ℕ → ℕ → Bool
+hasBits bytes at count = leb (at + count) (8 * length bytes)
+
 -- Bit i of a file, the most significant of a byte first; 0 past the end.
 unfoldable pub bitAt : List ℕ → ℕ → ℕ
 bitAt bytes i = getD bytes (i / 8) 0 / 2 ^ (7 - i % 8) % 2
@@ -32,9 +36,9 @@ isThere bytes at width = leb 1 width && leb width 64 && leb (at + width) (8 * le
 unfoldable pub fieldAt : List ℕ → ℕ → ℕ → Field
 fieldAt bytes at width = cond (isThere bytes at width) (Value (bitsAt bytes at width) (at + width)) Missing
 
--- The number that `width` bits from a cursor on write, where they are at most 64 and a usize can hold the cursor behind them; else 0.
+-- The number that `width` bits from a cursor on write, where they are at most 64; else 0.
 unfoldable pub numberAt : List ℕ → ℕ → ℕ → ℕ
-numberAt bytes at width = cond (leb width 64 && ltb (at + width) (2 ^ 64)) (bitsAt bytes at width) 0
+numberAt bytes at width = cond (leb width 64) (bitsAt bytes at width) 0
 
 -- The first of `count` bits from `at` on that is not zero.
 unfoldable pub firstSet : List ℕ → ℕ → ℕ → Option ℕ

@@ -1,8 +1,9 @@
 // The packed reader: bits, fields of 1 to 64 bits and the fill of a file, most significant bit first. It takes any file,
 // cursor and width, and assumes nothing of its host.
 ghost use mathlib.Core.Path.{_≡_};
-ghost use Prim.Native.Nat.{_+_, _*_, _^_, _≤_, _<_};
-ghost use Rattle.bits.specs.Fields.{bitLength, bitAt, bitsAt, isThere, fieldAt, numberAt, furtherByte, fillAt};
+ghost use Prim.Native.Nat.{_+_, _*_, _/_, _^_, _≤_, _<_};
+ghost use lib.ListN.{length};
+ghost use Rattle.bits.specs.Fields.{bitLength, hasBits, bitAt, bitsAt, isThere, fieldAt, numberAt, furtherByte, fillAt};
 
 // The largest cursor.
 const LAST: usize = 18446744073709551615;
@@ -40,6 +41,13 @@ pub fn bit(src: &[u8], i: usize) -> u64
     }
 }
 
+// Whether `count` bits from a cursor on are there. Bytes are counted, because a number of bits may not fit.
+pub fn has_bits(src: &[u8], at: usize, count: usize) -> bool
+    ensures { λ r. ⌜ r ≡ hasBits (now (src .entry)) at count ⌝ }
+{
+    at / 8 + count / 8 + (at % 8 + count % 8 + 7) / 8 <= src.len()
+}
+
 // Byte i of the file; 0 past the end.
 fn byte(src: &[u8], i: usize) -> u64
     ensures { λ r. ⌜ r ≡ bitsAt (now (src .entry)) (8 * i) 8 ⌝ }
@@ -58,39 +66,73 @@ fn is_there(src: &[u8], at: usize, width: usize) -> bool
     (at + width - 1) / 8 < src.len()
 }
 
-// The 8 bits from a cursor on, the first of them the most significant; those past the end are 0.
-pub fn byte_at(src: &[u8], at: usize) -> u64
-    ensures { λ r. ⌜ r ≡ bitsAt (now (src .entry)) at 8 ⌝ }
+// The 8 bits from bit `skip` of byte i on, the first of them the most significant; those past the end are 0.
+fn byte_from(src: &[u8], i: usize, skip: usize) -> u64
+    requires { ⌜ (i < 2 ^ 62) × (skip < 8) ⌝ }
+    ensures { λ r. ⌜ r ≡ bitsAt (now (src .entry)) (8 * i + skip) 8 ⌝ }
 {
-    let first = byte(src, at / 8);
-    let second = byte(src, at / 8 + 1);
-    ((first * 256 + second) >> (8 - at % 8)) % 256
+    let first = byte(src, i);
+    let second = byte(src, i + 1);
+    ((first * 256 + second) >> (8 - skip)) % 256
 }
 
 // The number that a field of `width` bits writes: whole bytes of it, then the bits that are left, at most 8.
 fn gather(src: &[u8], at: usize, width: usize) -> u64
-    requires { ⌜ (width ≤ 64) × (at + width < 2 ^ 64) ⌝ }
+    requires { ⌜ width ≤ 64 ⌝ }
     ensures { λ r. ⌜ r ≡ bitsAt (now (src .entry)) at width ⌝ }
 {
     let mut value = 0;
     let mut done = 0;
     while width - done > 8 {
-        let next = byte_at(src, at + done);
+        let next = byte_from(src, at / 8 + done / 8, at % 8);
         value = value * 256 + next;
         done += 8;
     }
     let left = width - done;
-    let last = byte_at(src, at + done) >> (8 - left);
+    let last = byte_from(src, at / 8 + done / 8, at % 8) >> (8 - left);
     (value << left) + last
 }
 
-// The number that `width` bits from a cursor on write, those past the end 0; 0 where they are more than 64 or no cursor can stand
-// behind them.
+// The 16 bits of byte i and the next.
+fn two_bytes(src: &[u8], i: usize) -> u64
+    requires { ⌜ i + 2 ≤ length (now src) ⌝ }
+    ensures { λ r. ⌜ r ≡ bitsAt (now (src .entry)) (8 * i) 16 ⌝ }
+{
+    src[i] as u64 * 256 + src[i + 1] as u64
+}
+
+// The 64 bits of the 8 bytes from byte i on.
+fn eight_bytes(src: &[u8], i: usize) -> u64
+    requires { ⌜ i + 8 ≤ length (now src) ⌝ }
+    ensures { λ r. ⌜ r ≡ bitsAt (now (src .entry)) (8 * i) 64 ⌝ }
+{
+    let first = two_bytes(src, i);
+    let second = two_bytes(src, i + 2);
+    let third = two_bytes(src, i + 4);
+    let fourth = two_bytes(src, i + 6);
+    ((first * 65536 + second) * 65536 + third) * 65536 + fourth
+}
+
+// The 64 bits from a cursor on, out of the nine bytes that hold them.
+fn nine_bytes(src: &[u8], at: usize) -> u64
+    requires { ⌜ at / 8 + 8 < length (now src) ⌝ }
+    ensures { λ r. ⌜ r ≡ bitsAt (now (src .entry)) at 64 ⌝ }
+{
+    let i = at / 8;
+    let high = eight_bytes(src, i) << (at % 8);
+    high + (src[i + 8] as u64 >> (8 - at % 8))
+}
+
+// The number that `width` bits from a cursor on write, those past the end 0; 0 where they are more than 64. 64 bits are taken from
+// whole bytes at once where the file has these.
 pub fn number_at(src: &[u8], at: usize, width: usize) -> u64
     ensures { λ r. ⌜ r ≡ numberAt (now (src .entry)) at width ⌝ }
 {
-    if width > 64 || width > LAST - at {
+    if width > 64 {
         return 0;
+    }
+    if width == 64 && at / 8 + 8 < src.len() {
+        return nine_bytes(src, at);
     }
     gather(src, at, width)
 }

@@ -31,7 +31,7 @@ unfolding readProof tablesAt setsRead relationsRead isCount tablesThere rowAt wh
     named onName fieldAt isThere bitsAt bitAt bitLength fillAt fillFrom furtherByte fillBits firstSet
 reading = readProof
 
-pub sample-read : readProof sample 2 ≡ proof 1 3 24 (assignment (record { P = 0; R = 0; G = 1; Q = 2 }))
+pub sample-read : readProof sample 2 ≡ proof 1 3 24 (assignment (record { p = 0; r = 0; g = 1; q = 2 }))
 unfolding reading
 sample-read = refl
 

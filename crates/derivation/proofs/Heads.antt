@@ -11,7 +11,7 @@ use Rattle.bits.specs.Fields.{bitLength, fieldAt}
 use Rattle.bits.specs.declared.Field.{Field}
 use Rattle.bits.specs.declared.Field.the-variants.{Value, Missing}
 use Rattle.bits.proofs.Laws.{There, there, parted}
-use Rattle.semantics.specs.Derivations.{Names}
+use Rattle.semantics.specs.declared.Names.{Names}
 use Rattle.derivation.specs.declared.NodeHead.{NodeHead}
 use Rattle.derivation.specs.declared.NodeHead.the-variants.{Node, Fault}
 use Rattle.derivation.specs.Nodes.{onName, named, loopHead, namesHead, ruleHead, nodeHead}
@@ -62,7 +62,7 @@ four-names bytes sets relations rule at v next e p-there r-there g-there q-there
 
 -- The four tables that every node names.
 abbrev pub names : ℕ → ℕ → ℕ → ℕ → Names
-names P R G Q = record { P = P; R = R; G = G; Q = Q }
+names P R G Q = record { p = P; r = R; g = G; q = Q }
 
 -- A node that is read without fault.
 abbrev pub Sound : NodeHead → Type 0

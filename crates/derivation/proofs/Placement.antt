@@ -8,7 +8,8 @@ use native.Mathlib.Nat.{zero-add}
 use native.Mathlib.Omega.{arith}
 use borrow.Author.Tests.{lt-ltb, le-ltb, ltb-true, ltb-false}
 use lib.Dec.{ltb, eqb}
-use Rattle.semantics.specs.Derivations.{Names, Derivation, nodes}
+use Rattle.semantics.specs.declared.Names.{Names}
+use Rattle.semantics.specs.Derivations.{Derivation, nodes}
 use Rattle.derivation.specs.declared.NodeHead.{NodeHead}
 use Rattle.derivation.specs.declared.NodeHead.the-variants.{Node, Fault}
 use Rattle.derivation.specs.Nodes.{NodeRead, whole, fault, alone, overTwo, overOne, onChild, onLeft, onNodeHead, nodeHead, nodeAt, wholeNode}

@@ -7,11 +7,12 @@ use lib.Dec.{leb, ltb, eqb}
 use Rattle.bits.specs.Fields.{bitLength, fieldAt}
 use Rattle.bits.specs.declared.Field.{Field}
 use Rattle.bits.specs.declared.Field.the-variants.{Value, Missing}
-use Rattle.semantics.specs.Derivations.{Names, Derivation, skip, assignment, sequence, parallel, conditional, iteration, weaken}
+use Rattle.semantics.specs.declared.Names.{Names}
+use Rattle.semantics.specs.Derivations.{Derivation, skip, assignment, sequence, parallel, conditional, iteration, weaken}
 use Rattle.derivation.specs.declared.NodeHead.{NodeHead}
 use Rattle.derivation.specs.declared.NodeHead.the-variants.{Node, Fault}
-use Rattle.derivation.specs.declared.Names.{Names as NamesRead}
-use Rattle.derivation.specs.declared.Names.the-variants as Read
+use Rattle.derivation.specs.declared.TwoNames.{TwoNames}
+use Rattle.derivation.specs.declared.TwoNames.the-variants as Two
 use Rattle.derivation.specs.declared.NodeEnd.{NodeEnd}
 use Rattle.derivation.specs.declared.NodeEnd.the-variants as End
 
@@ -24,9 +25,9 @@ unfoldable pub named : List ℕ → ℕ → ℕ → (ℕ → NodeHead) → NodeH
 named bytes limit at f = onName bytes limit at (fieldAt bytes at 4) f
 
 -- What two tables read one after the other give to what is read behind them.
-unfoldable pub onPair : NamesRead → (ℕ → ℕ → ℕ → NodeHead) → NodeHead
-onPair (Read.Pair i j next) f = f i j next
-onPair (Read.Fault k place) f = Fault k place
+unfoldable pub onPair : TwoNames → (ℕ → ℕ → ℕ → NodeHead) → NodeHead
+onPair (Two.Pair i j next) f = f i j next
+onPair (Two.Fault k place) f = Fault k place
 
 module _ (bytes : List ℕ) (sets relations : ℕ) where
   -- K and W of a while, which are 0 at any other rule.
@@ -75,7 +76,7 @@ onLeft f (whole l before next) right = onChild (f l) (right before next)
 abbrev pub onNodeHead : NodeHead → ℕ → (ℕ → ℕ → NodeRead) → NodeRead
 onNodeHead (Fault k place) before node = fault k place
 onNodeHead (Node rule P R G Q K W next) before node =
-    let h : Names = record { P = P; R = R; G = G; Q = Q } in
+    let h : Names = record { p = P; r = R; g = G; q = Q } in
     cond (ltb rule 2) (whole (alone rule h) (suc before) next)
     (cond (ltb rule 4) (onLeft (overTwo rule h) (node (suc before) next) node)
     (onChild (overOne rule h K W) (node (suc before) next)))

@@ -24,7 +24,7 @@ pub(crate) fn row_at(n: usize, sets: usize, relation: usize, state: usize) -> us
     10 + n * (sets + n * relation + state)
 }
 
-// Whether every set and row is there in full. The last bit is tested by its byte: 8 * len need not fit.
+// Whether every set and row is there in full.
 fn are_there(src: &[u8], n: u32, sets: u32, relations: u32) -> bool
     requires { ⌜ (sets ≤ 16) × (relations ≤ 16) ⌝ }
     ensures { λ r. ⌜ r ≡ tablesThere (now (src .entry)) n sets relations ⌝ }
@@ -33,7 +33,7 @@ fn are_there(src: &[u8], n: u32, sets: u32, relations: u32) -> bool
         return false;
     }
     let end = row_at(n as usize, sets as usize, relations as usize, 0);
-    (end - 1) / 8 < src.len()
+    bits::has_bits(src, 0, end)
 }
 
 // The number of relations, and then the tables of a file with so many sets.

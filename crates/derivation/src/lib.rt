@@ -1,8 +1,10 @@
 // The proof file, read from its bits: the tables go into the caller's work words, and a node is the number of its first bit.
+use semantics::Names;
+
 pub mod header;
 pub mod nodes;
 pub mod reading;
-mod wide;
+pub mod table;
 pub mod words;
 
 // What the head of the file finds over N states: how many sets and relations, and the root node's first bit; or a fault.
@@ -19,7 +21,7 @@ pub enum NodeHead {
 }
 
 // Two tables that a node names one after the other, with the cursor behind them; or a fault.
-enum Names {
+enum TwoNames {
     Pair(u32, u32, usize),
     Fault(u32, usize),
 }
@@ -34,4 +36,15 @@ pub enum NodeEnd {
 pub enum ProofFile {
     Proof(u32, u32, usize),
     Fault(u32, usize),
+}
+
+// A node as the table keeps it: its rule, the tables that it names (K and W are 0 but at a while), the number of the node
+// after its first child (after itself where it has none), and the bit at which it begins.
+pub struct Node {
+    pub rule: u32,
+    pub names: Names,
+    pub k: u32,
+    pub w: u32,
+    pub after: u32,
+    pub bit: usize,
 }

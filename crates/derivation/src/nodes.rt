@@ -1,7 +1,7 @@
 // The nodes of the proof file, by their first bits: what stands at one, and where the derivation at it ends.
-use super::Names;
 use super::NodeEnd;
 use super::NodeHead;
+use super::TwoNames;
 use bits::Field;
 ghost use mathlib.Core.Path.{_≡_};
 ghost use mathlib.Core.Bool.{_&&_};
@@ -10,23 +10,23 @@ ghost use lib.Dec.{ltb};
 ghost use Rattle.derivation.specs.Nodes.{named, onPair, loopHead, namesHead, nodeHead, nodeAt, wholeNode, endOf};
 
 // The two tables named at a cursor, each below its limit. The promise is over whatever is read behind them.
-fn names_at(src: &[u8], first: u32, second: u32, at: usize) -> Names
+fn names_at(src: &[u8], first: u32, second: u32, at: usize) -> TwoNames
     ensures { λ r. ⌜ ((f : ℕ → ℕ → ℕ → NodeHead) →
         named (now (src .entry)) first at (λ i. named (now (src .entry)) second (at + 4) (λ j. f i j (at + 8))) ≡ onPair r f) ⌝ }
 {
     let Field::Value(i, next) = bits::read(src, at, 4) else {
-        return Names::Fault(20, bits::bit_length(src));
+        return TwoNames::Fault(20, bits::bit_length(src));
     };
     if i >= first as u64 {
-        return Names::Fault(23, at);
+        return TwoNames::Fault(23, at);
     }
     let Field::Value(j, end) = bits::read(src, next, 4) else {
-        return Names::Fault(20, bits::bit_length(src));
+        return TwoNames::Fault(20, bits::bit_length(src));
     };
     if j >= second as u64 {
-        return Names::Fault(23, next);
+        return TwoNames::Fault(23, next);
     }
-    Names::Pair(i as u32, j as u32, end)
+    TwoNames::Pair(i as u32, j as u32, end)
 }
 
 // K and W of a while, which are 0 at any other rule.
@@ -47,8 +47,8 @@ fn loop_head(
         return NodeHead::Node(rule, p, r, g, q, 0, 0, at);
     }
     match names_at(src, sets, relations, at) {
-        Names::Fault(fault, place) => NodeHead::Fault(fault, place),
-        Names::Pair(k, w, next) => NodeHead::Node(rule, p, r, g, q, k, w, next),
+        TwoNames::Fault(fault, place) => NodeHead::Fault(fault, place),
+        TwoNames::Pair(k, w, next) => NodeHead::Node(rule, p, r, g, q, k, w, next),
     }
 }
 
@@ -57,10 +57,10 @@ fn names_in_turn(src: &[u8], sets: u32, relations: u32, rule: u32, at: usize) ->
     ensures { λ r. ⌜ r ≡ namesHead (now (src .entry)) sets relations rule at ⌝ }
 {
     match names_at(src, sets, relations, at) {
-        Names::Fault(fault, place) => NodeHead::Fault(fault, place),
-        Names::Pair(p, r, middle) => match names_at(src, relations, relations, middle) {
-            Names::Fault(fault, place) => NodeHead::Fault(fault, place),
-            Names::Pair(g, q, next) => loop_head(src, sets, relations, rule, p, r, g, q, next),
+        TwoNames::Fault(fault, place) => NodeHead::Fault(fault, place),
+        TwoNames::Pair(p, r, middle) => match names_at(src, relations, relations, middle) {
+            TwoNames::Fault(fault, place) => NodeHead::Fault(fault, place),
+            TwoNames::Pair(g, q, next) => loop_head(src, sets, relations, rule, p, r, g, q, next),
         },
     }
 }

@@ -1,6 +1,5 @@
 // The work words: a word for each set and for each row of a relation, as document 01 lays them out.
 use super::header::row_at;
-use super::wide::bits_from;
 ghost use mathlib.Core.List.{List};
 ghost use mathlib.Core.Path.{_≡_};
 ghost use Prim.Native.Nat.{ℕ, _+_, _*_, _/_, _%_, _^_, _≤_, _<_, min};
@@ -31,10 +30,10 @@ fn reversed(word: u64) -> u64
 
 // The word that holds n bits of the file from a cursor on, the first of them the lowest.
 fn word_at(src: &[u8], at: usize, n: usize) -> u64
-    requires { ⌜ (at ≤ 70666) × (n ≤ 64) ⌝ }
+    requires { ⌜ n ≤ 64 ⌝ }
     ensures { λ r. ⌜ r ≡ wordAt (now (src .entry)) at n ⌝ }
 {
-    let word = reversed(bits_from(src, at));
+    let word = reversed(bits::number_at(src, at, 64));
     if n < 64 { word % (1 << n) } else { word }
 }
 

@@ -6,7 +6,7 @@ ghost use Prim.Native.Nat.{_≤_};
 ghost use lib.ListN.{length};
 ghost use Rattle.handover.specs.Reading.{amount};
 use libc::STDOUT_FILENO;
-use rules::Verdict;
+use checker::Verdict;
 
 // What reading a file gives: how many bytes, or that it failed and was named on standard error.
 enum Reading {
@@ -84,5 +84,5 @@ fn main() {
         return;
     };
     let mut work = [0u64; 1040];
-    print(rules::check(&handler[..n], &proof[..m], &mut work));
+    print(checker::check(&handler[..n], &proof[..m], &mut work));
 }

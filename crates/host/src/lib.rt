@@ -1,7 +1,7 @@
 // The C interface for hosts: the check of two files, with the verdict as one number.
 ghost use mathlib.Core.Path.{_≡_};
 ghost use lib.ListN.{length};
-ghost use Rattle.rules.specs.Verdicts.{answer, workAfter, Upheld};
+ghost use Rattle.checker.specs.Verdicts.{answer, workAfter, AcceptedIsSound};
 ghost use Rattle.report.specs.Code.{codeOf};
 
 // The check of two files over the host's work words. The number that comes back is `codeOf` the verdict: below 2 ^ 32 it is
@@ -10,7 +10,7 @@ ghost use Rattle.report.specs.Code.{codeOf};
 pub extern "C" fn handover_check(handler: &[u8], proof: &[u8], work: &mut [u64]) -> u64
     ensures verdict { λ r. ⌜ r ≡ codeOf (answer (now (handler .entry)) (now (proof .entry)) (length (now (work .entry))) .verdict) ⌝ }
     ensures words { λ _. ⌜ now (work .exit) ≡ workAfter (now (handler .entry)) (now (proof .entry)) (now (work .entry)) ⌝ }
-    ensures promise { λ _. ⌜ Upheld (now (handler .entry)) (now (proof .entry)) (answer (now (handler .entry)) (now (proof .entry)) (length (now (work .entry))) .verdict) ⌝ }
+    ensures promise { λ _. ⌜ AcceptedIsSound (now (handler .entry)) (now (proof .entry)) (answer (now (handler .entry)) (now (proof .entry)) (length (now (work .entry))) .verdict) ⌝ }
 {
-    report::code_of(rules::check(handler, proof, work))
+    report::code_of(checker::check(handler, proof, work))
 }

@@ -1,8 +1,8 @@
 -- Worked examples: the five lines of document 01's cases, and the least and the greatest step number.
 use mathlib.Core.Path.{_≡_, refl}
-use Rattle.rules.specs.Verdicts.{refusedAt}
-use Rattle.rules.specs.declared.Place.the-variants.{Bit, Node}
-use Rattle.rules.specs.declared.Verdict.the-variants.{Accepted}
+use Rattle.checker.specs.Verdicts.{refusedAt}
+use Rattle.checker.specs.declared.Place.the-variants.{Bit, Node}
+use Rattle.checker.specs.declared.Verdict.the-variants.{Accepted}
 use Rattle.report.specs.Line.{ascii, digits, decimal, placeText, wordsOf, lineOf}
 
 pub lines :

@@ -5,11 +5,11 @@ use mathlib.Core.Bool.{false}
 use native.Mathlib.Omega.{arith}
 use lib.Dec.{ltb}
 use borrow.Author.Tests.{lt-ltb, le-ltb}
-use Rattle.rules.specs.Verdicts.{refusedAt}
-use Rattle.rules.specs.declared.Place.{Place}
-use Rattle.rules.specs.declared.Place.the-variants.{Bit, Node}
-use Rattle.rules.specs.declared.Verdict.{Verdict}
-use Rattle.rules.specs.declared.Verdict.the-variants.{Accepted, Refused}
+use Rattle.checker.specs.Verdicts.{refusedAt}
+use Rattle.checker.specs.declared.Place.{Place}
+use Rattle.checker.specs.declared.Place.the-variants.{Bit, Node}
+use Rattle.checker.specs.declared.Verdict.{Verdict}
+use Rattle.checker.specs.declared.Verdict.the-variants.{Accepted, Refused}
 use Rattle.report.specs.Code.{kindOf, indexOf, codeOf, Lossless, decoded}
 
 -- The parts of a refusal's code.

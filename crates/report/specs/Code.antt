@@ -2,10 +2,10 @@
 use Prim.Native.Nat.{ℕ, _+_, _*_, _/_, _%_, _^_, _<_}
 use mathlib.Core.Bool.{cond}
 use lib.Dec.{ltb, eqb}
-use Rattle.rules.specs.declared.Place.{Place}
-use Rattle.rules.specs.declared.Place.the-variants.{Bit, Node}
-use Rattle.rules.specs.declared.Verdict.{Verdict}
-use Rattle.rules.specs.declared.Verdict.the-variants.{Accepted, Refused}
+use Rattle.checker.specs.declared.Place.{Place}
+use Rattle.checker.specs.declared.Place.the-variants.{Bit, Node}
+use Rattle.checker.specs.declared.Verdict.{Verdict}
+use Rattle.checker.specs.declared.Verdict.the-variants.{Accepted, Refused}
 
 -- The kind of a place: 1 for a node, 0 for a bit.
 unfoldable pub kindOf : Place → ℕ

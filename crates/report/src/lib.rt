@@ -6,8 +6,8 @@ ghost use lib.ListN.{length};
 ghost use Rattle.report.specs.Code.{codeOf};
 ghost use Rattle.report.specs.Line.{decimal, placeText, wordsOf, lineInto, lineLength};
 ghost use Rattle.report.specs.Put.{Put};
-use rules::Place;
-use rules::Verdict;
+use checker::Place;
+use checker::Verdict;
 
 const HALF: u64 = 2147483648;
 

@@ -1,11 +1,8 @@
--- The walk over the nodes of a derivation, and the theorem of the bytes.
-pub mod Demand
-pub mod Faults
-pub mod Loaded
-pub mod Standing
-pub mod Meeting
-pub mod Walking
-pub mod Stages
-pub mod Judging
-pub mod Sites
-pub mod Owed
+-- The laws that the proofs of the rules share.
+pub mod Searches
+pub mod Words
+pub mod Places
+pub mod Rows
+pub mod Stores
+pub mod Movement
+pub mod Asking

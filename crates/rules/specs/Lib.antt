@@ -1,3 +1,4 @@
--- The verdict on two files, and what the walk over the nodes finds.
-pub mod Verdicts
-pub mod Walks
+-- What the contracts of the rules cite: the tables in the work words, and conditions asked in order.
+pub mod Words
+pub mod Places
+pub mod Asking

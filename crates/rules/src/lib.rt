@@ -1,177 +1,106 @@
-// The conditions of each rule on the tables in the work words, the walk over the nodes, and the check of two files.
-use derivation::ProofFile;
-use derivation::reading::load;
-use derivation::words::clear;
-use handler::HandlerFile;
-use handler::reading::read_handler;
-use walk::walk;
+// The conditions of each rule, on the tables in the work words: each an equation with its definition. A rule asks its conditions from
+// 30 upwards and keeps the first that failed; all are looked at, because an accepted pair needs them all.
+use assignment::assignment_fault;
+use conditional::if_fault;
+use derivation::Node;
+use expressions::head::Head;
+use expressions::head::states_in;
+use handler::table::Statement;
+use iteration::while_fault;
+use parallel::parallel_fault;
+use semantics::Names;
+use sequence::sequence_fault;
+use skip::skip_fault;
+use stability::stable_under_rely;
+use weaken::weaken_fault;
 ghost use mathlib.Core.Path.{_≡_};
-ghost use Prim.Native.Nat.{_≤_};
-ghost use lib.ListN.{length};
-ghost use Rattle.handler.specs.Statements.{wholeStmt};
-ghost use Rattle.handler.specs.Shapes.{behindOf};
-ghost use Rattle.handler.specs.Reading.{readHandler};
-ghost use Rattle.derivation.specs.Nodes.{nodeAt};
-ghost use Rattle.derivation.specs.Tables.{written};
-ghost use Rattle.rules.specs.declared.Place.the-variants.{Bit, Node};
-ghost use Rattle.rules.specs.Verdicts.{refusedAt, tablesOf, onHandler, answer, workAfter, Upheld};
-ghost use Rattle.rules.specs.Walks.{stmtIn, walkOn, decided, Walkable, Handled};
+ghost use Rattle.rules.specs.Words.{wordSpec};
+ghost use Rattle.semantics.specs.Checking.{common as commonObligations};
+ghost use Rattle.rules.specs.declared.NodeVerdict.the-variants.{Holds};
+ghost use Rattle.rules.specs.Asking.{asked, askedAll};
+ghost use Rattle.rules.specs.Obligations.{obligationsIn};
 
-pub mod walk;
+pub mod assignment;
+pub mod conditional;
+pub mod iteration;
+pub mod moving;
+pub mod parallel;
+pub mod sequence;
+pub mod skip;
+pub mod stability;
+pub mod tables;
+pub mod weaken;
 
-// How many variables and states the handler file has, and how many sets and relations the proof file.
-pub struct Counts {
-    pub variables: u32,
-    pub states: u32,
-    pub sets: u32,
-    pub relations: u32,
+// The codes of the rules, which but for weaken are those of the statements that they fit.
+const SKIP: u32 = 0;
+const ASSIGNMENT: u32 = 1;
+const SEQUENCE: u32 = 2;
+const PARALLEL: u32 = 3;
+const IF: u32 = 4;
+const WHILE: u32 = 5;
+
+// What the conditions asked so far say: all hold, or the number of the first that failed.
+pub enum NodeVerdict {
+    Holds,
+    Breaks(u32),
 }
 
-// What walking a derivation over a statement finds: the number of the next node, its first bit and the first bit behind the
-// statement; or the first fault's number and node.
-pub enum Walked {
-    Through(u32, usize, usize),
-    Broken(u32, u32),
-}
-
-// Where a fault is: a bit of its file or a node of the derivation.
-pub enum Place {
-    Bit(usize),
-    Node(u32),
-}
-
-// A fault: document 01's number, and its place.
-pub struct Fault {
-    pub number: u32,
-    pub place: Place,
-}
-
-// What the check of two files says: the step number, or the first fault.
-pub enum Verdict {
-    Accepted(u32),
-    Refused(Fault),
-}
-
-// A refusal at a bit of a file.
-fn at_bit(number: u32, place: usize) -> Verdict
-    ensures { λ r. ⌜ r ≡ refusedAt number (Bit place) ⌝ }
+// One more condition, by its number and whether it holds.
+pub fn ask(found: NodeVerdict, number: u32, held: bool) -> NodeVerdict
+    ensures { λ r. ⌜ r ≡ asked found number held ⌝ }
 {
-    Verdict::Refused(Fault {
-        number,
-        place: Place::Bit(place),
-    })
-}
-
-// A refusal at a node of the derivation.
-fn at_node(number: u32, node: u32) -> Verdict
-    ensures { λ r. ⌜ r ≡ refusedAt number (Node node) ⌝ }
-{
-    Verdict::Refused(Fault {
-        number,
-        place: Place::Node(node),
-    })
-}
-
-// The verdict by what the walk found and the step number, which is over the limit from 2 ^ 32 on.
-fn decide(way: Walked, steps: u64) -> Verdict
-    ensures { λ r. ⌜ r ≡ decided way steps ⌝ }
-{
-    match way {
-        Walked::Broken(number, node) => at_node(number, node),
-        Walked::Through(_, _, _) => {
-            if steps > 4294967295 {
-                return at_node(80, 0);
+    match found {
+        NodeVerdict::Breaks(first) => NodeVerdict::Breaks(first),
+        NodeVerdict::Holds => {
+            if held {
+                NodeVerdict::Holds
+            } else {
+                NodeVerdict::Breaks(number)
             }
-            Verdict::Accepted(steps as u32)
         }
     }
 }
 
-// The nodes of a proof file whose tables are in the work words, over the handler file's statement.
-fn judge(
+// 30 to 33, which are asked at every node.
+pub fn common(n: u32, work: &[u64], own: Names, fits: bool) -> NodeVerdict
+    ensures { λ r. ⌜ r ≡ askedAll Holds (commonObligations n fits (wordSpec n (now (work .entry)) own)) ⌝ }
+{
+    let held = stable_under_rely(n, work, own);
+    let found = ask(NodeVerdict::Holds, 30, fits);
+    let found = ask(found, 31, held.pre);
+    let found = ask(found, 32, held.post_before);
+    ask(found, 33, held.post_after)
+}
+
+// What the conditions of a node say over a statement, by the node's rule. The children are those that the rule asks for; a weaken
+// fits every statement.
+pub fn node_fault(
     handler: &[u8],
-    proof: &[u8],
+    head: Head,
     work: &[u64],
-    c: Counts,
-    root: usize,
-    stmt: usize,
-    steps: u64,
-) -> Verdict
-    requires { ⌜ Walkable (now handler) (now proof) (now work) c 25 0 root stmt ⌝ }
+    node: Node,
+    statement: Statement,
+    first: Node,
+    second: Node,
+) -> NodeVerdict
     ensures { λ r.
-        ⌜ r ≡ decided (walkOn (tablesOf (now (handler .entry)) (now (proof .entry)) (c .variables) (c .states) (c .sets))
-        (nodeAt 25 (now (proof .entry)) (c .sets) (c .relations) 0 root)
-        (stmtIn (wholeStmt (now (handler .entry)) (c .variables) stmt)) (behindOf (wholeStmt (now (handler .entry)) (c .variables) stmt))
-        0) steps ⌝ }
+        ⌜ r ≡ askedAll Holds (obligationsIn (now (handler .entry)) head (now (work .entry)) node statement first second) ⌝ }
 {
-    decide(walk(handler, proof, work, c, 25, 0, root, stmt), steps)
-}
-
-// The proof file over a handler file that was read: its tables stay in the work words only if the pair is accepted.
-fn check_proof(
-    handler: &[u8],
-    proof: &[u8],
-    work: &mut [u64],
-    variables: u32,
-    states: u32,
-    stmt: usize,
-    steps: u64,
-) -> Verdict
-    requires { ⌜ Handled (now handler) variables states stmt steps ⌝ }
-    requires { ⌜ 1040 ≤ length (now work) ⌝ }
-    ensures verdict { λ r. ⌜ r ≡ onHandler (now (handler .entry)) (now (proof .entry)) (readHandler (now (handler .entry))) .verdict ⌝ }
-    ensures words { λ _.
-        ⌜ now (work .exit) ≡ written (onHandler (now (handler .entry)) (now (proof .entry)) (readHandler (now (handler .entry))) .words) (now (work .entry)) ⌝ }
-{
-    match load(proof, states, work) {
-        ProofFile::Fault(number, place) => at_bit(number, place),
-        ProofFile::Proof(sets, relations, root) => {
-            let c = Counts {
-                variables,
-                states,
-                sets,
-                relations,
-            };
-            match judge(handler, proof, &work[..], c, root, stmt, steps) {
-                Verdict::Accepted(k) => Verdict::Accepted(k),
-                Verdict::Refused(fault) => {
-                    clear(work);
-                    Verdict::Refused(fault)
-                }
-            }
+    let n = states_in(head);
+    let own = node.names;
+    let left = first.names;
+    let right = second.names;
+    let code = statement.code;
+    let expr = statement.expr;
+    match node.rule {
+        SKIP => skip_fault(n, work, own, code == SKIP),
+        ASSIGNMENT => {
+            assignment_fault(handler, head, work, own, code == ASSIGNMENT, statement.target, expr)
         }
-    }
-}
-
-// The check of two files. It takes every pair of files and every work buffer; on acceptance the tables are in the first 1,040
-// work words, and what the pair promises of every list of events is `Upheld`.
-pub fn check(handler: &[u8], proof: &[u8], work: &mut [u64]) -> Verdict
-    ensures verdict { λ r. ⌜ r ≡ answer (now (handler .entry)) (now (proof .entry)) (length (now (work .entry))) .verdict ⌝ }
-    ensures words { λ _. ⌜ now (work .exit) ≡ workAfter (now (handler .entry)) (now (proof .entry)) (now (work .entry)) ⌝ }
-    ensures promise { λ r. ⌜ Upheld (now (handler .entry)) (now (proof .entry)) r ⌝ }
-{
-    if work.len() < 1040 {
-        return at_bit(1, 0);
-    }
-    if handler.len() > 16384 {
-        return at_bit(2, 0);
-    }
-    if proof.len() > 16384 {
-        return at_bit(2, 0);
-    }
-    match read_handler(handler) {
-        HandlerFile::Fault(number, place) => {
-            clear(work);
-            at_bit(number, place)
-        }
-        HandlerFile::Handler(variables, states, stmt, steps) => check_proof(
-            handler,
-            proof,
-            work,
-            variables,
-            states,
-            stmt,
-            steps,
-        ),
+        SEQUENCE => sequence_fault(n, work, own, left, right, code == SEQUENCE),
+        PARALLEL => parallel_fault(n, work, own, left, right, code == PARALLEL),
+        IF => if_fault(handler, head, work, own, left, code == IF, expr),
+        WHILE => while_fault(handler, head, work, own, node.k, node.w, left, code == WHILE, expr),
+        _ => weaken_fault(n, work, own, left),
     }
 }

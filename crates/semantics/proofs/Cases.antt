@@ -7,12 +7,13 @@ use mathlib.Core.Option.{Option, some}
 use lib.Dec.{eqb, ltb}
 use lib.IntN.{pos}
 use Rattle.states.specs.Search.{all, any, must, given, named, orElse, each}
+use Rattle.semantics.specs.declared.Names.{Names}
 use Rattle.semantics.specs.Language.{Expr, lit, var, op, int, Stmt, nil, assign, seq, while}
 use Rattle.semantics.specs.States.{machineOf}
 use Rattle.semantics.specs.Steps.{at}
 use Rattle.semantics.specs.Runs.{own, other, run}
 use Rattle.semantics.specs.StepNumber.{steps}
-use Rattle.semantics.specs.Derivations.{Names, Derivation, skip, iteration, Tables}
+use Rattle.semantics.specs.Derivations.{Derivation, skip, iteration, Tables}
 use Rattle.semantics.specs.Conditions.{inSet, sameSet, sameRelation, isTrue, isFalse, moves, c31, c32, c33, c34while, c50, c51, c52, c53, c54, c55, c56, c35}
 use Rattle.semantics.specs.Checking.{Broken, firstFault}
 
@@ -49,7 +50,7 @@ both-ways =
     record { machine = machineOf (2 ∷ []); sets = λ i s. true; relations = λ i s u. cond (eqb i 0) (not (eqb s u)) (eqb i 1) }
 
 abbrev pub under : ℕ → Names
-under q = record { P = 0; R = 0; G = 2; Q = q }
+under q = record { p = 0; r = 0; g = 2; q = q }
 
 -- It breaks 50, and nothing before 50.
 pub read-twice : firstFault both-ways (iteration (under 1) 0 2 (skip (under 2))) (while either nil) 0 ≡ some (record { number = 50; node = 0 })

@@ -10,12 +10,13 @@ use borrow.Author.Tests.{ltb-true, lt-ltb, leb-true, eqb-true, eq-eqb, not-true,
 use native.Mathlib.Nat.{le-antisymm}
 use Rattle.states.specs.Search.{all, Search, must, given, named, orElse, each}
 use Rattle.states.specs.Relations.{Reached, here, more, reach}
-use Rattle.states.proofs.Search.{and-left, and-right, and-both, or-left, or-right, or-cases, all-at, any-at, not-true-false, true-or-false, beq-true, must-none, given-none, orElse-none, each-none}
+use Rattle.states.proofs.Search.{and-left, and-right, and-both, or-left, or-right, or-cases, implies-at, all-at, any-at, not-true-false, true-or-false, beq-true, must-none, given-none, orElse-none, each-none}
 use Rattle.states.proofs.Reach.{Between, reach-exact}
+use Rattle.semantics.specs.declared.Names.{Names}
 use Rattle.semantics.specs.Language.{Val, int, truth, Expr, eqZ}
 use Rattle.semantics.specs.States.{Machine, value, isTruth, storeOf}
-use Rattle.semantics.specs.Derivations.{Names, Tables, Spec, setOf, relationOf, specOf}
-use Rattle.semantics.specs.Conditions.{occurrences, inSet, sameSet, sameRelation, liesIn, isTrue, isFalse, afterStore, inRange, toAfter, moves, c31, c32, c33, c35, c40, c41, c42, c43, c34if, c46, c34while, c50, c51, c52, c53, c54, c55, c56, c34sequence, c60, c61, c34parallel, c65, c66, c70, c71, c72, c73}
+use Rattle.semantics.specs.Derivations.{Tables, Spec, setOf, relationOf, specOf}
+use Rattle.semantics.specs.Conditions.{occurrences, inSet, sameSet, sameRelation, setLiesIn, relationLiesIn, isTrue, isFalse, afterStore, inRange, toAfter, moves, unmoved, c31, c32, c33, c35, c40, c41, c42, c43, c34if, c45, c46, c34while, c50, c51, c52, c53, c54, c55, c56, c34sequence, c60, c61, c34parallel, c65, c66, c70, c71, c72, c73}
 use Rattle.semantics.proofs.Safe.{Star, stay, then}
 use Rattle.semantics.proofs.Composition.{Change}
 use Rattle.semantics.proofs.Descent.{Descending}
@@ -37,7 +38,7 @@ relation-in t i s u h =
     (ltb-true s _ (and-left (ltb s _) _ both), ltb-true u _ (and-right (ltb s (t .machine .states)) _ both))
 
 pub within : (t : Tables) (h : Names) → Within (t .machine .states) (specOf t h)
-within t h = record { P-in = set-in t (h .P); R-in = relation-in t (h .R); G-in = relation-in t (h .G); Q-in = relation-in t (h .Q) }
+within t h = record { P-in = set-in t (h .p); R-in = relation-in t (h .r); G-in = relation-in t (h .g); Q-in = relation-in t (h .q) }
 
 -- A value that a test finds.
 pub is-truth : (b : Bool) (o : Option Val) → isTruth b o ≡ true → o ≡ some (truth b)
@@ -64,27 +65,33 @@ unnamed s (some found) h = absurd (Option·none-ne-some _ (sym h))
 
 module _ (m : Machine) where
   -- A search over a set of states that finds no breach finds none at any member.
-  pub at-member : (p : ℕ → Bool) (f : ℕ → Search) → ((s : ℕ) → p s ≡ true → s < m .states) → inSet m p f ≡ none
+  pub at-member : (p : ℕ → Bool) (f : ℕ → Search) → ((s : ℕ) → p s ≡ true → s < m .states) → inSet (m .states) p f ≡ none
       → (s : ℕ) → p s ≡ true → f s ≡ none
   unfolding inSet
   at-member p f below e s h = given-none (p s) (f s) (each-none (m .states) _ e s (below s h)) h
 
-  pub same-set : (p q : ℕ → Bool) → sameSet m p q ≡ true → (s : ℕ) → s < m .states → p s ≡ q s
+  pub same-set : (p q : ℕ → Bool) → sameSet (m .states) p q ≡ true → (s : ℕ) → s < m .states → p s ≡ q s
   unfolding sameSet
   same-set p q h s l = beq-true _ _ (all-at (m .states) _ h s l)
 
-  pub same-relation : (r q : ℕ → ℕ → Bool) → sameRelation m r q ≡ true → (s t : ℕ) → s < m .states → t < m .states → r s t ≡ q s t
+  pub same-relation : (r q : ℕ → ℕ → Bool) → sameRelation (m .states) r q ≡ true → (s t : ℕ) → s < m .states → t < m .states → r s t ≡ q s t
   unfolding sameRelation
   same-relation r q h s t l k = same-set (r s) (q s) (all-at (m .states) _ h s l) t k
 
-  pub lies-in : (r q : ℕ → ℕ → Bool) → Between (m .states) r → liesIn m r q ≡ none → (s t : ℕ) → r s t ≡ true → q s t ≡ true
-  unfolding liesIn
-  lies-in r q bounds e s t h =
-      must-none (q s t) (at-member (r s) _ (λ u x. bounds s u x .1) (each-none (m .states) _ e s (bounds s t h .0)) t h)
+  pub set-lies-in : (p q : ℕ → Bool) → ((s : ℕ) → p s ≡ true → s < m .states) → setLiesIn (m .states) p q ≡ true
+      → (s : ℕ) → p s ≡ true → q s ≡ true
+  unfolding setLiesIn
+  set-lies-in p q below h s x = implies-at (p s) (q s) (all-at (m .states) _ h s (below s x)) x
+
+  pub lies-in : (r q : ℕ → ℕ → Bool) → Between (m .states) r → relationLiesIn (m .states) r q ≡ true
+      → (s t : ℕ) → r s t ≡ true → q s t ≡ true
+  unfolding relationLiesIn
+  lies-in r q inside h s t x =
+      set-lies-in (r s) (q s) (λ u y. inside s u y .1) (all-at (m .states) _ h s (inside s t x .0)) t x
 
   -- The state that a store leaves, from the searches of 40, 42 and 43 at one start.
-  stored-at : (c : Spec) (s : ℕ) (o : Option ℕ) → inRange m o ≡ true → toAfter m o (λ s′. must (c .Q s s′)) ≡ none
-      → toAfter m o (λ s′. must (eqb s′ s || c .G s s′)) ≡ none
+  stored-at : (c : Spec) (s : ℕ) (o : Option ℕ) → inRange o ≡ true → toAfter o (λ s′. must (c .Q s s′)) ≡ none
+      → toAfter o (λ s′. must (eqb s′ s || c .G s s′)) ≡ none
       → (s′ : ℕ) × (o ≡ some s′) × (c .Q s s′ ≡ true) × ((s′ ≡ s) ⊎ (c .G s s′ ≡ true))
   unfolding inRange toAfter
   stored-at c s none r q g = absurd (false≢true r)
@@ -92,28 +99,28 @@ module _ (m : Machine) where
       (s′, refl, must-none _ (unnamed s′ _ q), ⊎-map (eqb-true s′ s) (λ x. x) (or-cases (eqb s′ s) _ (must-none _ (unnamed s′ _ g))))
 
   module _ (c : Spec) (w : Within (m .states) c) where
-    pub says31 : c31 m c ≡ none → (s t : ℕ) → c .P s ≡ true → c .R s t ≡ true → c .P t ≡ true
+    pub says31 : c31 (m .states) c ≡ none → (s t : ℕ) → c .P s ≡ true → c .R s t ≡ true → c .P t ≡ true
     unfolding c31
     says31 e s t p r = must-none _ (at-member (c .R s) _ (λ u x. w .R-in s u x .1) (at-member (c .P) _ (w .P-in) e s p) t r)
 
-    pub says32 : c32 m c ≡ none → (s t u : ℕ) → c .P s ≡ true → c .R s t ≡ true → c .Q t u ≡ true → c .Q s u ≡ true
+    pub says32 : c32 (m .states) c ≡ none → (s t u : ℕ) → c .P s ≡ true → c .R s t ≡ true → c .Q t u ≡ true → c .Q s u ≡ true
     unfolding c32
     says32 e s t u p r q =
         must-none _ (at-member (c .Q t) _ (λ x h. w .Q-in t x h .1)
         (at-member (c .R s) _ (λ x h. w .R-in s x h .1) (at-member (c .P) _ (w .P-in) e s p) t r) u q)
 
-    pub says33 : c33 m c ≡ none → (s t u : ℕ) → c .P s ≡ true → c .Q s t ≡ true → c .R t u ≡ true → c .Q s u ≡ true
+    pub says33 : c33 (m .states) c ≡ none → (s t u : ℕ) → c .P s ≡ true → c .Q s t ≡ true → c .R t u ≡ true → c .Q s u ≡ true
     unfolding c33
     says33 e s t u p q r =
         must-none _ (at-member (c .R t) _ (λ x h. w .R-in t x h .1)
         (at-member (c .Q s) _ (λ x h. w .Q-in s x h .1) (at-member (c .P) _ (w .P-in) e s p) t q) u r)
 
-    pub says35 : c35 m c ≡ none → (s : ℕ) → c .P s ≡ true → c .Q s s ≡ true
+    pub says35 : c35 (m .states) c ≡ none → (s : ℕ) → c .P s ≡ true → c .Q s s ≡ true
     unfolding c35
     says35 e s p = must-none _ (at-member (c .P) _ (w .P-in) e s p)
 
     -- 31, and what "moves" leaves alone.
-    pub stable : c31 m c ≡ none → Stable m (λ s. c .P s ≡ true) (λ s t. c .R s t ≡ true) (moves m c)
+    pub stable : c31 (m .states) c ≡ none → Stable m (λ s. c .P s ≡ true) (λ s t. c .R s t ≡ true) (moves m c)
     unfolding moves
     stable e = record {
       closed = says31 e;
@@ -137,7 +144,7 @@ module _ (m : Machine) where
         (at-member (c .P) _ (w .P-in) e42 s p) (at-member (c .P) _ (w .P-in) e43 s p)
 
     pub says41 : (e : Expr) → c41 m c e ≡ none → occurrences (moves m c) e ≡ 0
-    unfolding c41
+    unfolding c41 unmoved
     says41 e h = eqb-true _ 0 (must-none _ h)
 
     -- A test's value at a state of P, as membership of the states where it is true or false.
@@ -149,7 +156,11 @@ module _ (m : Machine) where
     unfolding isFalse
     false-at e s p is = and-both _ _ (lt-ltb s _ (w .P-in s p)) (truth-is false _ is)
 
-    pub says46 : (e : Expr) → c46 m c (isFalse m e) ≡ none → (s : ℕ) → c .P s ≡ true → value m e s ≡ some (truth false) → c .Q s s ≡ true
+    pub says45 : (e : Expr) → c45 m c e ≡ none → occurrences (moves m c) e ≡ 0
+    unfolding c45 unmoved
+    says45 e h = eqb-true _ 0 (must-none _ h)
+
+    pub says46 : (e : Expr) → c46 (m .states) c (isFalse m e) ≡ none → (s : ℕ) → c .P s ≡ true → value m e s ≡ some (truth false) → c .Q s s ≡ true
     unfolding c46
     says46 e h s p is = must-none _ (given-none _ _ (at-member (c .P) _ (w .P-in) h s p) (false-at e s p is))
 
@@ -158,7 +169,7 @@ module _ (m : Machine) where
     unfolding c50
     says50 e h = leb-true _ 1 (must-none _ h)
 
-    pub says51 : (W : ℕ → ℕ → Bool) → Between (m .states) W → c51 m c W ≡ none → Descending (m .states) (λ s t. W s t ≡ true)
+    pub says51 : (W : ℕ → ℕ → Bool) → Between (m .states) W → c51 (m .states) W ≡ none → Descending (m .states) (λ s t. W s t ≡ true)
     unfolding c51
     says51 W W-in h =
         let (apart, joined) = orElse-none _ _ h in
@@ -169,29 +180,29 @@ module _ (m : Machine) where
           bounded = λ s t a. W-in s t a .1;
         }
 
-    pub says52 : (e : Expr) (K : ℕ → Bool) → c52 m c (isTrue m e) K ≡ none → (s : ℕ) → c .P s ≡ true → value m e s ≡ some (truth true) → K s ≡ true
+    pub says52 : (e : Expr) (K : ℕ → Bool) → c52 (m .states) c (isTrue m e) K ≡ none → (s : ℕ) → c .P s ≡ true → value m e s ≡ some (truth true) → K s ≡ true
     unfolding c52
     says52 e K h s p is = must-none _ (given-none _ _ (at-member (c .P) _ (w .P-in) h s p) (true-at e s p is))
 
-    pub says53 : (K : ℕ → Bool) → c53 m c K ≡ none → (s t : ℕ) → c .P s ≡ true → K s ≡ true → c .R s t ≡ true → K t ≡ true
+    pub says53 : (K : ℕ → Bool) → c53 (m .states) c K ≡ none → (s t : ℕ) → c .P s ≡ true → K s ≡ true → c .R s t ≡ true → K t ≡ true
     unfolding c53
     says53 K h s t p k r =
         must-none _ (at-member (c .R s) _ (λ x i. w .R-in s x i .1) (given-none _ _ (at-member (c .P) _ (w .P-in) h s p) k) t r)
 
-    pub says54 : (e : Expr) → c54 m c (isFalse m e) ≡ none → (s t : ℕ) → c .P s ≡ true → value m e s ≡ some (truth false) → c .R s t ≡ true
+    pub says54 : (e : Expr) → c54 (m .states) c (isFalse m e) ≡ none → (s t : ℕ) → c .P s ≡ true → value m e s ≡ some (truth false) → c .R s t ≡ true
         → value m e t ≡ some (truth false)
     unfolding c54 isFalse
     says54 e h s t p is r =
         is-truth false _ (and-right (ltb t (m .states)) _ (must-none _ (at-member (c .R s) _ (λ x i. w .R-in s x i .1)
         (given-none _ _ (at-member (c .P) _ (w .P-in) h s p) (false-at e s p is)) t r)))
 
-    pub says55 : (W : ℕ → ℕ → Bool) → c55 m c W ≡ none → (s t : ℕ) → c .P s ≡ true → c .R s t ≡ true → (s ≡ t) ⊎ (W s t ≡ true)
+    pub says55 : (W : ℕ → ℕ → Bool) → c55 (m .states) c W ≡ none → (s t : ℕ) → c .P s ≡ true → c .R s t ≡ true → (s ≡ t) ⊎ (W s t ≡ true)
     unfolding c55
     says55 W h s t p r =
         ⊎-map (eqb-true s t) (λ x. x) (or-cases (eqb s t) _
         (must-none _ (at-member (c .R s) _ (λ x i. w .R-in s x i .1) (at-member (c .P) _ (w .P-in) h s p) t r)))
 
-    pub says56 : (e : Expr) (W : ℕ → ℕ → Bool) → c56 m c (isFalse m e) W ≡ none → (s t : ℕ) → c .P s ≡ true → (t ≡ s) ⊎ (W s t ≡ true) → c .P t ≡ true
+    pub says56 : (e : Expr) (W : ℕ → ℕ → Bool) → c56 (m .states) c (isFalse m e) W ≡ none → (s t : ℕ) → c .P s ≡ true → (t ≡ s) ⊎ (W s t ≡ true) → c .P t ≡ true
         → value m e t ≡ some (truth false) → c .Q s t ≡ true
     unfolding c56
     says56 e W h s t p near p-t is =
@@ -201,11 +212,11 @@ module _ (m : Machine) where
 
     -- Sequence and parallel, with the children's tables.
     module _ (l r : Spec) (wl : Within (m .states) l) (wr : Within (m .states) r) where
-      pub says60 : c60 m c l r ≡ none → (s t : ℕ) → c .P s ≡ true → l .Q s t ≡ true → r .P t ≡ true
+      pub says60 : c60 (m .states) c l r ≡ none → (s t : ℕ) → c .P s ≡ true → l .Q s t ≡ true → r .P t ≡ true
       unfolding c60
       says60 h s t p q = must-none _ (at-member (l .Q s) _ (λ x i. wl .Q-in s x i .1) (at-member (c .P) _ (w .P-in) h s p) t q)
 
-      pub says61 : c61 m c l r ≡ none → (s t u : ℕ) → c .P s ≡ true → l .Q s t ≡ true → r .Q t u ≡ true → c .Q s u ≡ true
+      pub says61 : c61 (m .states) c l r ≡ none → (s t u : ℕ) → c .P s ≡ true → l .Q s t ≡ true → r .Q t u ≡ true → c .Q s u ≡ true
       unfolding c61
       says61 h s t u p q q′ =
           must-none _ (at-member (r .Q t) _ (λ x i. wr .Q-in t x i .1)
@@ -228,7 +239,7 @@ module _ (m : Machine) where
       reached s before (then {s = a} {t = b} (inr (inl x)) rest) = reached s (more before (or-left _ (r .G a b) (or-right (c .R a b) _ x))) rest
       reached s before (then {s = a} {t = b} (inr (inr x)) rest) = reached s (more before (or-right (c .R a b || l .G a b) _ x)) rest
 
-      pub says66 : c66 m c l r ≡ none → (s t : ℕ) → c .P s ≡ true
+      pub says66 : c66 (m .states) c l r ≡ none → (s t : ℕ) → c .P s ≡ true
           → Star (Change (λ a b. c .R a b ≡ true) (λ a b. l .G a b ≡ true) (λ a b. r .G a b ≡ true)) s t
           → l .Q s t ≡ true → r .Q s t ≡ true → c .Q s t ≡ true
       unfolding c66 anyone

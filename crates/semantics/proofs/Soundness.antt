@@ -8,21 +8,21 @@ use native.Mathlib.Omega.{arith}
 use native.Mathlib.Nat.{le-refl}
 use lib.Dec.{eqb}
 use Rattle.states.specs.Search.{must}
-use Rattle.states.proofs.Search.{and-left, and-right, and-both, or-left, or-right, must-none, orElse-none}
+use Rattle.states.proofs.Search.{and-left, and-right, and-both, or-left, or-right, must-none}
 use Rattle.states.proofs.Reach.{Between}
 use Rattle.semantics.specs.declared.Kind.the-variants.{Truth}
 use Rattle.semantics.specs.Language.{Expr, Stmt, seq, par, if, while, fits, kindsFit}
 use Rattle.semantics.specs.States.{Machine}
 use Rattle.semantics.specs.StepNumber.{E, steps}
 use Rattle.semantics.specs.Derivations.{Derivation, skip, assignment, sequence, parallel, conditional, iteration, weaken, namesOf, nodes, Tables, Spec, setOf, relationOf, specOf}
-use Rattle.semantics.specs.Conditions.{codeOf, targetOf, exprOf, firstOf, secondOf, sameSet, sameRelation, isTrue, isFalse, moves, c31, c32, c33, c41, c46, c34if, c34while, c50, c51, c52, c53, c54, c55, c56, c34sequence, c60, c61, c34parallel, c65, c66, c70, c71, c72, c73}
-use Rattle.semantics.specs.Checking.{owed, firstFault}
+use Rattle.semantics.specs.Conditions.{codeOf, targetOf, exprOf, firstOf, secondOf, occurrences, sameSet, sameRelation, relationLiesIn, isTrue, isFalse, moves, c31, c32, c33, c45, c46, c34if, c34while, c50, c51, c52, c53, c54, c55, c56, c34sequence, c60, c61, c34parallel, c65, c66, c70, c71, c72, c73}
+use Rattle.semantics.specs.Checking.{obligations, firstFault}
 use Rattle.semantics.specs.Promise.{Promise}
 use Rattle.semantics.proofs.Safe.{stay, star-keeps, Safe, safe-weaken}
 use Rattle.semantics.proofs.Composition.{safe-nil, safe-seq, safe-par}
 use Rattle.semantics.proofs.Rules.{Undisturbed, rule-assign, rule-if, rule-while}
 use Rattle.semantics.proofs.Values.{fits-truth}
-use Rattle.semantics.proofs.Conditions.{Within, within, relation-in, true-at, at-member, same-set, same-relation, lies-in, says32, says33, says35, stable, stores, says41, says46, says50, says51, says52, says53, says54, says55, says56, says60, says61, says66}
+use Rattle.semantics.proofs.Conditions.{Within, within, relation-in, true-at, same-set, same-relation, set-lies-in, lies-in, says32, says33, says35, stable, stores, says41, says45, says46, says50, says51, says52, says53, says54, says55, says56, says60, says61, says66}
 use Rattle.semantics.proofs.Runs.{promise}
 use Rattle.semantics.proofs.Clear.{clear, no-number, neither, made, says30, four, five, either}
 
@@ -32,20 +32,20 @@ module _ (m : Machine) where
   SafeAt c n S s = Safe m (λ a b. c .R a b ≡ true) (λ a b. c .G a b ≡ true) (λ u. c .Q s u ≡ true) n S s
 
   -- Tables with the same members, from the one to the other.
-  into : (r q : ℕ → ℕ → Bool) → Between (m .states) q → sameRelation m r q ≡ true → (s t : ℕ) → q s t ≡ true → r s t ≡ true
+  into : (r q : ℕ → ℕ → Bool) → Between (m .states) q → sameRelation (m .states) r q ≡ true → (s t : ℕ) → q s t ≡ true → r s t ≡ true
   into r q bounds same s t h = same-relation m r q same s t (bounds s t h .0) (bounds s t h .1) ∙ h
 
-  out-of : (r q : ℕ → ℕ → Bool) → Between (m .states) r → sameRelation m r q ≡ true → (s t : ℕ) → r s t ≡ true → q s t ≡ true
+  out-of : (r q : ℕ → ℕ → Bool) → Between (m .states) r → sameRelation (m .states) r q ≡ true → (s t : ℕ) → r s t ≡ true → q s t ≡ true
   out-of r q bounds same s t h = sym (same-relation m r q same s t (bounds s t h .0) (bounds s t h .1)) ∙ h
 
-  into-set : (p q : ℕ → Bool) → ((s : ℕ) → q s ≡ true → s < m .states) → sameSet m p q ≡ true → (s : ℕ) → q s ≡ true → p s ≡ true
+  into-set : (p q : ℕ → Bool) → ((s : ℕ) → q s ≡ true → s < m .states) → sameSet (m .states) p q ≡ true → (s : ℕ) → q s ≡ true → p s ≡ true
   into-set p q below same s h = same-set m p q same s (below s h) ∙ h
 
   -- What every node of an assignment or an if owes before anything else.
-  undisturbed : (c : Spec) → Within (m .states) c → (e : Expr) → c31 m c ≡ none → c32 m c ≡ none → c33 m c ≡ none → c41 m c e ≡ none
+  undisturbed : (c : Spec) → Within (m .states) c → (e : Expr) → c31 (m .states) c ≡ none → c32 (m .states) c ≡ none → c33 (m .states) c ≡ none → occurrences (moves m c) e ≡ 0
       → Undisturbed m (λ s. c .P s ≡ true) (λ a b. c .R a b ≡ true) (λ a b. c .Q a b ≡ true) (moves m c) e
-  undisturbed c w e e31 e32 e33 e41 =
-      record { stable = stable m c w e31; before = says32 m c w e32; after = says33 m c w e33; unmoved = says41 m c w e e41 }
+  undisturbed c w e e31 e32 e33 still =
+      record { stable = stable m c w e31; before = says32 m c w e32; after = says33 m c w e33; unmoved = still }
 
   -- 34 of an if and of a while: the body's tables are the node's own R and G, with another P and Q.
   record Body (c d : Spec) (P′ : ℕ → Bool) (Q′ : ℕ → ℕ → Bool) : Type 0 where
@@ -56,7 +56,7 @@ module _ (m : Machine) where
 
   as-body : (c d : Spec) → Within (m .states) c → Within (m .states) d → (P′ : ℕ → Bool) (Q′ : ℕ → ℕ → Bool)
       → ((s : ℕ) → P′ s ≡ true → s < m .states)
-      → must (sameSet m (d .P) P′ && sameRelation m (d .R) (c .R) && sameRelation m (d .G) (c .G) && sameRelation m (d .Q) Q′) ≡ none
+      → must (sameSet (m .states) (d .P) P′ && sameRelation (m .states) (d .R) (c .R) && sameRelation (m .states) (d .G) (c .G) && sameRelation (m .states) (d .Q) Q′) ≡ none
       → Body c d P′ Q′
   as-body c d w wd P′ Q′ below e34 =
       let (same-P, same-R, same-G, same-Q) = four _ _ _ _ e34 in
@@ -68,13 +68,14 @@ module _ (m : Machine) where
       }
 
   if-safe : (c d : Spec) → Within (m .states) c → Within (m .states) d → (e : Expr) (b : Stmt) (n : ℕ) → fits Truth e ≡ true
-      → c31 m c ≡ none → c32 m c ≡ none → c33 m c ≡ none → c34if m c (isTrue m e) d ≡ none → c41 m c e ≡ none → c46 m c (isFalse m e) ≡ none
+      → c31 (m .states) c ≡ none → c32 (m .states) c ≡ none → c33 (m .states) c ≡ none
+      → c34if (m .states) c (isTrue m e) d ≡ none → c45 m c e ≡ none → c46 (m .states) c (isFalse m e) ≡ none
       → ((s : ℕ) → d .P s ≡ true → SafeAt d n b s) → (s : ℕ) → c .P s ≡ true → SafeAt c (E e + 1 + n) (if e b) s
   unfolding c34if isTrue
   if-safe c d w wd e b n kinds e31 e32 e33 e34 e45 e46 body =
       let inner = as-body c d w wd (λ s. c .P s && isTrue m e s) (c .Q) (λ s h. w .P-in s (and-left (c .P s) _ h)) e34 in
       rule-if (record {
-        undisturbed = undisturbed c w e e31 e32 e33 e45;
+        undisturbed = undisturbed c w e e31 e32 e33 (says45 m c w e e45);
         decided = λ s p. fits-truth m e s kinds;
         body = λ s p is. safe-weaken (inner .rely) (inner .guarantee) (inner .post s) (le-refl n)
             (body s (inner .enters s (and-both (c .P s) _ p (true-at m c w e s p is))));
@@ -83,8 +84,8 @@ module _ (m : Machine) where
 
   while-safe : (c d : Spec) → Within (m .states) c → Within (m .states) d → (e : Expr) (b : Stmt) (n : ℕ) → fits Truth e ≡ true
       → (K : ℕ → Bool) (W : ℕ → ℕ → Bool) (W-in : Between (m .states) W)
-      → c31 m c ≡ none → c34while m c K W d ≡ none → c50 m c e ≡ none → c51 m c W ≡ none → c52 m c (isTrue m e) K ≡ none
-      → c53 m c K ≡ none → c54 m c (isFalse m e) ≡ none → c55 m c W ≡ none → c56 m c (isFalse m e) W ≡ none
+      → c31 (m .states) c ≡ none → c34while (m .states) c K W d ≡ none → c50 m c e ≡ none → c51 (m .states) W ≡ none → c52 (m .states) c (isTrue m e) K ≡ none
+      → c53 (m .states) c K ≡ none → c54 (m .states) c (isFalse m e) ≡ none → c55 (m .states) c W ≡ none → c56 (m .states) c (isFalse m e) W ≡ none
       → ((s : ℕ) → d .P s ≡ true → SafeAt d n b s)
       → (s : ℕ) → c .P s ≡ true → SafeAt c (m .states * (E e + 2) + (m .states - 1) * (n + 1)) (while e b) s
   unfolding c34while
@@ -107,7 +108,7 @@ module _ (m : Machine) where
       })
 
   sequence-safe : (c l r : Spec) → Within (m .states) c → Within (m .states) l → Within (m .states) r → (L T : Stmt) (n j : ℕ)
-      → c34sequence m c l r ≡ none → c60 m c l r ≡ none → c61 m c l r ≡ none
+      → c34sequence (m .states) c l r ≡ none → c60 (m .states) c l r ≡ none → c61 (m .states) c l r ≡ none
       → ((s : ℕ) → l .P s ≡ true → SafeAt l n L s) → ((s : ℕ) → r .P s ≡ true → SafeAt r j T s)
       → (s : ℕ) → c .P s ≡ true → SafeAt c (n + j + 1) (seq L T) s
   unfolding c34sequence
@@ -120,31 +121,38 @@ module _ (m : Machine) where
       (λ u q′. says61 m c w l r wl wr e61 s t u p q q′) (le-refl j) (right t (says60 m c w l r wl wr e60 s t p q)))
 
   parallel-safe : (c l r : Spec) → Within (m .states) c → Within (m .states) l → Within (m .states) r → (L T : Stmt) (n j : ℕ)
-      → c34parallel m c l r ≡ none → c65 m c l r ≡ none → c66 m c l r ≡ none
+      → c34parallel (m .states) c l r ≡ none → c65 (m .states) c l r ≡ none → c66 (m .states) c l r ≡ none
       → ((s : ℕ) → l .P s ≡ true → SafeAt l n L s) → ((s : ℕ) → r .P s ≡ true → SafeAt r j T s)
       → (s : ℕ) → c .P s ≡ true → SafeAt c (n + j + 1) (par L T) s
   unfolding c34parallel c65
   parallel-safe c l r w wl wr L T n j e34 e65 e66 left right s p =
-      let (same-Pl, same-Pr, same-Rl, same-Rr) = four _ _ _ _ e34 in
-      let (left-in, right-in) = orElse-none _ _ e65 in
+      let left-rely : ℕ → ℕ → Bool = λ a b. c .R a b || r .G a b in
+      let right-rely : ℕ → ℕ → Bool = λ a b. c .R a b || l .G a b in
+      let N = m .states in
+      let (same-Pl, same-Pr, same-Rl, same-Rr)
+      = four (sameSet N (l .P) (c .P)) (sameSet N (r .P) (c .P)) (sameRelation N (l .R) left-rely) (sameRelation N (r .R) right-rely) e34 in
+      let to-left = into (l .R) left-rely (either (c .R) (r .G) (w .R-in) (wr .G-in)) same-Rl in
+      let to-right = into (r .R) right-rely (either (c .R) (l .G) (w .R-in) (wl .G-in)) same-Rr in
+      let both-in = must-none _ e65 in
       safe-par (record {
-        others-left = λ a b h. into (l .R) (λ a b. c .R a b || r .G a b) (either (c .R) (r .G) (w .R-in) (wr .G-in)) same-Rl a b (or-left (c .R a b) _ h);
-        right-left = λ a b h. into (l .R) (λ a b. c .R a b || r .G a b) (either (c .R) (r .G) (w .R-in) (wr .G-in)) same-Rl a b (or-right (c .R a b) _ h);
-        others-right = λ a b h. into (r .R) (λ a b. c .R a b || l .G a b) (either (c .R) (l .G) (w .R-in) (wl .G-in)) same-Rr a b (or-left (c .R a b) _ h);
-        left-right = λ a b h. into (r .R) (λ a b. c .R a b || l .G a b) (either (c .R) (l .G) (w .R-in) (wl .G-in)) same-Rr a b (or-right (c .R a b) _ h);
-        left-kept = lies-in m (l .G) (c .G) (wl .G-in) left-in;
-        right-kept = lies-in m (r .G) (c .G) (wr .G-in) right-in;
+        others-left = λ a b h. to-left a b (or-left (c .R a b) _ h);
+        right-left = λ a b h. to-left a b (or-right (c .R a b) _ h);
+        others-right = λ a b h. to-right a b (or-left (c .R a b) _ h);
+        left-right = λ a b h. to-right a b (or-right (c .R a b) _ h);
+        left-kept = lies-in m (l .G) (c .G) (wl .G-in) (and-left (relationLiesIn N (l .G) (c .G)) _ both-in);
+        right-kept = lies-in m (r .G) (c .G) (wr .G-in) (and-right (relationLiesIn N (l .G) (c .G)) _ both-in);
       })
       (n + j + 1) n j s (omega arith) stay (λ t way q q′. says66 m c w l r wl wr e66 s t p way q q′)
       (left s (into-set (l .P) (c .P) (w .P-in) same-Pl s p)) (right s (into-set (r .P) (c .P) (w .P-in) same-Pr s p))
 
   weaken-safe : (c d : Spec) → Within (m .states) c → Within (m .states) d → (S : Stmt) (n : ℕ)
-      → c70 m c d ≡ none → c71 m c d ≡ none → c72 m c d ≡ none → c73 m c d ≡ none
+      → c70 (m .states) c d ≡ none → c71 (m .states) c d ≡ none → c72 (m .states) c d ≡ none → c73 (m .states) c d ≡ none
       → ((s : ℕ) → d .P s ≡ true → SafeAt d n S s) → (s : ℕ) → c .P s ≡ true → SafeAt c n S s
   unfolding c70 c71 c72 c73
   weaken-safe c d w wd S n e70 e71 e72 e73 child s p =
-      safe-weaken (lies-in m (c .R) (d .R) (w .R-in) e71) (lies-in m (d .G) (c .G) (wd .G-in) e72) (lies-in m (d .Q) (c .Q) (wd .Q-in) e73 s)
-      (le-refl n) (child s (must-none _ (at-member m (c .P) _ (w .P-in) e70 s p)))
+      safe-weaken (lies-in m (c .R) (d .R) (w .R-in) (must-none _ e71)) (lies-in m (d .G) (c .G) (wd .G-in) (must-none _ e72))
+      (lies-in m (d .Q) (c .Q) (wd .Q-in) (must-none _ e73) s)
+      (le-refl n) (child s (set-lies-in m (c .P) (d .P) (w .P-in) (must-none _ e70) s p))
 
 module _ (t : Tables) where
   abbrev Sound : Derivation → Stmt → Type 0
@@ -161,21 +169,21 @@ module _ (t : Tables) where
   -- By induction on the derivation.
   sound : (d : Derivation) (S : Stmt) (n : ℕ) → firstFault t d S n ≡ none → kindsFit S ≡ true → Sound d S
   sound (skip h) S n e kinds =
-      let (e30, (e31, (e32, (e33, (e35, _))))) = clear (owed t (skip h) S) (no-number n _ e) in
+      let (e30, (e31, (e32, (e33, (e35, _))))) = clear (obligations t (skip h) S) (no-number n _ e) in
       let c = specOf t h in
       as-made (skip h) S 0 e30 kinds (λ _ s p. safe-nil (λ u r.
       star-keeps (λ a b q x. says33 (t .machine) c (within t h) e33 s a b p q x) r (says35 (t .machine) c (within t h) e35 s p)))
   sound (assignment h) S n e kinds =
-      let (e30, (e31, (e32, (e33, (e40, (e41, (e42, (e43, _)))))))) = clear (owed t (assignment h) S) (no-number n _ e) in
+      let (e30, (e31, (e32, (e33, (e40, (e41, (e42, (e43, _)))))))) = clear (obligations t (assignment h) S) (no-number n _ e) in
       let c = specOf t h in
       as-made (assignment h) S 1 e30 kinds (λ _. rule-assign (record {
-        undisturbed = undisturbed (t .machine) c (within t h) (exprOf S) e31 e32 e33 e41;
+        undisturbed = undisturbed (t .machine) c (within t h) (exprOf S) e31 e32 e33 (says41 (t .machine) c (within t h) (exprOf S) e41);
         stores = stores (t .machine) c (within t h) (targetOf S) (exprOf S) e40 e42 e43;
       }))
   sound (sequence h l r) S n e kinds =
       let (own, below) = neither _ _ e in
       let (on-left, on-right) = neither _ _ below in
-      let (e30, (e31, (e32, (e33, (e34, (e60, (e61, _))))))) = clear (owed t (sequence h l r) S) (no-number n _ own) in
+      let (e30, (e31, (e32, (e33, (e34, (e60, (e61, _))))))) = clear (obligations t (sequence h l r) S) (no-number n _ own) in
       as-made (sequence h l r) S 2 e30 kinds (λ k. sequence-safe (t .machine) (specOf t h) (specOf t (namesOf l)) (specOf t (namesOf r))
       (within t h) (within t (namesOf l)) (within t (namesOf r)) (firstOf S) (secondOf S) _ _ e34 e60 e61
       (sound l (firstOf S) (suc n) on-left (and-left (kindsFit (firstOf S)) _ k))
@@ -183,27 +191,27 @@ module _ (t : Tables) where
   sound (parallel h l r) S n e kinds =
       let (own, below) = neither _ _ e in
       let (on-left, on-right) = neither _ _ below in
-      let (e30, (e31, (e32, (e33, (e34, (e65, (e66, _))))))) = clear (owed t (parallel h l r) S) (no-number n _ own) in
+      let (e30, (e31, (e32, (e33, (e34, (e65, (e66, _))))))) = clear (obligations t (parallel h l r) S) (no-number n _ own) in
       as-made (parallel h l r) S 3 e30 kinds (λ k. parallel-safe (t .machine) (specOf t h) (specOf t (namesOf l)) (specOf t (namesOf r))
       (within t h) (within t (namesOf l)) (within t (namesOf r)) (firstOf S) (secondOf S) _ _ e34 e65 e66
       (sound l (firstOf S) (suc n) on-left (and-left (kindsFit (firstOf S)) _ k))
       (sound r (secondOf S) (suc n + nodes l) on-right (and-right (kindsFit (firstOf S)) _ k)))
   sound (conditional h d) S n e kinds =
       let (own, below) = neither _ _ e in
-      let (e30, (e31, (e32, (e33, (e34, (e45, (e46, _))))))) = clear (owed t (conditional h d) S) (no-number n _ own) in
+      let (e30, (e31, (e32, (e33, (e34, (e45, (e46, _))))))) = clear (obligations t (conditional h d) S) (no-number n _ own) in
       as-made (conditional h d) S 4 e30 kinds (λ k. if-safe (t .machine) (specOf t h) (specOf t (namesOf d)) (within t h) (within t (namesOf d))
       (exprOf S) (firstOf S) _ (and-left (fits Truth (exprOf S)) _ k) e31 e32 e33 e34 e45 e46
       (sound d (firstOf S) (suc n) below (and-right (fits Truth (exprOf S)) _ k)))
   sound (iteration h K W d) S n e kinds =
       let (own, below) = neither _ _ e in
-      let (e30, (e31, (e32, (e33, (e34, (e50, (e51, (e52, (e53, (e54, (e55, (e56, _)))))))))))) = clear (owed t (iteration h K W d) S) (no-number n _ own) in
+      let (e30, (e31, (e32, (e33, (e34, (e50, (e51, (e52, (e53, (e54, (e55, (e56, _)))))))))))) = clear (obligations t (iteration h K W d) S) (no-number n _ own) in
       as-made (iteration h K W d) S 5 e30 kinds (λ k. while-safe (t .machine) (specOf t h) (specOf t (namesOf d)) (within t h) (within t (namesOf d))
       (exprOf S) (firstOf S) _ (and-left (fits Truth (exprOf S)) _ k) (setOf t K) (relationOf t W) (relation-in t W)
       e31 e34 e50 e51 e52 e53 e54 e55 e56
       (sound d (firstOf S) (suc n) below (and-right (fits Truth (exprOf S)) _ k)))
   sound (weaken h d) S n e kinds =
       let (own, below) = neither _ _ e in
-      let (e30, (e31, (e32, (e33, (e70, (e71, (e72, (e73, _)))))))) = clear (owed t (weaken h d) S) (no-number n _ own) in
+      let (e30, (e31, (e32, (e33, (e70, (e71, (e72, (e73, _)))))))) = clear (obligations t (weaken h d) S) (no-number n _ own) in
       weaken-safe (t .machine) (specOf t h) (specOf t (namesOf d)) (within t h) (within t (namesOf d)) S _ e70 e71 e72 e73 (sound d S (suc n) below kinds)
 
 -- Demand 3: a derivation in which no condition is broken, of a statement whose kinds fit, keeps its root's promise with the

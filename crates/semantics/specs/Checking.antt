@@ -1,4 +1,4 @@
--- Document 01, "Conditions on a node" and "Order": the conditions that each node owes, by number, and the first fault of a
+-- Document 01, "Conditions on a node" and "Order": the conditions that each node must meet, by number, and the first fault of a
 -- derivation of a statement, nodes by number, conditions by number.
 use Prim.Native.Nat.{ℕ, suc, _+_}
 use mathlib.Core.Bool.{Bool, true}
@@ -8,8 +8,8 @@ use lib.Dec.{eqb}
 use Rattle.states.specs.Search.{Search, must}
 use Rattle.semantics.specs.Language.{Expr, Stmt}
 use Rattle.semantics.specs.States.{Machine}
-use Rattle.semantics.specs.Derivations.{Names, Derivation, skip, assignment, sequence, parallel, conditional, iteration, weaken, namesOf, nodes, Tables, Spec, setOf, relationOf, specOf}
-use Rattle.semantics.specs.Conditions.{codeOf, targetOf, exprOf, firstOf, secondOf, isTrue, isFalse, c31, c32, c33, c35, c40, c41, c42, c43, c34if, c46, c34while, c50, c51, c52, c53, c54, c55, c56, c34sequence, c60, c61, c34parallel, c65, c66, c70, c71, c72, c73}
+use Rattle.semantics.specs.Derivations.{Derivation, skip, assignment, sequence, parallel, conditional, iteration, weaken, namesOf, nodes, Tables, Spec, setOf, relationOf, specOf}
+use Rattle.semantics.specs.Conditions.{codeOf, targetOf, exprOf, firstOf, secondOf, isTrue, isFalse, c31, c32, c33, c35, c40, c41, c42, c43, c34if, c45, c46, c34while, c50, c51, c52, c53, c54, c55, c56, c34sequence, c60, c61, c34parallel, c65, c66, c70, c71, c72, c73}
 
 -- A condition by its number, and what looking for a breach of it finds.
 pub record Condition : Type 0 where
@@ -41,57 +41,97 @@ abbrev pub atNode : ℕ → Option ℕ → Option Broken
 atNode node none = none
 atNode node (some k) = some (record { number = k; node = node })
 
--- 30 to 33, which every node owes. 30: the rule is that of the statement at hand.
-abbrev pub common : Machine → Bool → Spec → List Condition
-common m fits c = numbered 30 (must fits) ∷ numbered 31 (c31 m c) ∷ numbered 32 (c32 m c) ∷ numbered 33 (c33 m c) ∷ []
+-- What a node of each rule must meet, in the order of the numbers, of its own tables c and its children's.
+-- 30: the rule is that of the statement at hand. 30 to 33 are asked at every node.
+abbrev pub common : ℕ → Bool → Spec → List Condition
+common n fits c =
+    numbered 30 (must fits)
+    ∷ numbered 31 (c31 n c)
+    ∷ numbered 32 (c32 n c)
+    ∷ numbered 33 (c33 n c)
+    ∷ []
 
--- What a node of each rule owes, in the order of the numbers, of its own tables c and its children's.
-abbrev pub skipOwes : Machine → Bool → Spec → List Condition
-skipOwes m fits c = common m fits c ++ numbered 35 (c35 m c) ∷ []
+abbrev pub skipObligations : ℕ → Bool → Spec → List Condition
+skipObligations n fits c =
+    common n fits c
+    ++ numbered 35 (c35 n c)
+    ∷ []
 
-abbrev pub assignmentOwes : Machine → Bool → Spec → ℕ → Expr → List Condition
-assignmentOwes m fits c v e =
-    common m fits c ++ numbered 40 (c40 m c v e) ∷ numbered 41 (c41 m c e) ∷ numbered 42 (c42 m c v e) ∷ numbered 43 (c43 m c v e) ∷ []
+abbrev pub assignmentObligations : Machine → Bool → Spec → ℕ → Expr → List Condition
+assignmentObligations m fits c v e =
+    common (m .states) fits c
+    ++ numbered 40 (c40 m c v e)
+    ∷ numbered 41 (c41 m c e)
+    ∷ numbered 42 (c42 m c v e)
+    ∷ numbered 43 (c43 m c v e)
+    ∷ []
 
-abbrev pub sequenceOwes : Machine → Bool → Spec → Spec → Spec → List Condition
-sequenceOwes m fits c l r = common m fits c ++ numbered 34 (c34sequence m c l r) ∷ numbered 60 (c60 m c l r) ∷ numbered 61 (c61 m c l r) ∷ []
+abbrev pub sequenceObligations : ℕ → Bool → Spec → Spec → Spec → List Condition
+sequenceObligations n fits c l r =
+    common n fits c
+    ++ numbered 34 (c34sequence n c l r)
+    ∷ numbered 60 (c60 n c l r)
+    ∷ numbered 61 (c61 n c l r)
+    ∷ []
 
-abbrev pub parallelOwes : Machine → Bool → Spec → Spec → Spec → List Condition
-parallelOwes m fits c l r = common m fits c ++ numbered 34 (c34parallel m c l r) ∷ numbered 65 (c65 m c l r) ∷ numbered 66 (c66 m c l r) ∷ []
+abbrev pub parallelObligations : ℕ → Bool → Spec → Spec → Spec → List Condition
+parallelObligations n fits c l r =
+    common n fits c
+    ++ numbered 34 (c34parallel n c l r)
+    ∷ numbered 65 (c65 n c l r)
+    ∷ numbered 66 (c66 n c l r)
+    ∷ []
 
-abbrev pub ifOwes : Machine → Bool → Spec → Expr → Spec → List Condition
-ifOwes m fits c e d = common m fits c ++ numbered 34 (c34if m c (isTrue m e) d) ∷ numbered 45 (c41 m c e) ∷ numbered 46 (c46 m c (isFalse m e)) ∷ []
+abbrev pub ifObligations : Machine → Bool → Spec → Expr → Spec → List Condition
+ifObligations m fits c e d =
+    common (m .states) fits c
+    ++ numbered 34 (c34if (m .states) c (isTrue m e) d)
+    ∷ numbered 45 (c45 m c e)
+    ∷ numbered 46 (c46 (m .states) c (isFalse m e))
+    ∷ []
 
-abbrev pub whileOwes : Machine → Bool → Spec → Expr → (ℕ → Bool) → (ℕ → ℕ → Bool) → Spec → List Condition
-whileOwes m fits c e K W d =
-    common m fits c ++ numbered 34 (c34while m c K W d) ∷ numbered 50 (c50 m c e) ∷ numbered 51 (c51 m c W)
-    ∷ numbered 52 (c52 m c (isTrue m e) K) ∷ numbered 53 (c53 m c K) ∷ numbered 54 (c54 m c (isFalse m e)) ∷ numbered 55 (c55 m c W)
-    ∷ numbered 56 (c56 m c (isFalse m e) W) ∷ []
+abbrev pub whileObligations : Machine → Bool → Spec → Expr → (ℕ → Bool) → (ℕ → ℕ → Bool) → Spec → List Condition
+whileObligations m fits c e K W d =
+    common (m .states) fits c
+    ++ numbered 34 (c34while (m .states) c K W d)
+    ∷ numbered 50 (c50 m c e)
+    ∷ numbered 51 (c51 (m .states) W)
+    ∷ numbered 52 (c52 (m .states) c (isTrue m e) K)
+    ∷ numbered 53 (c53 (m .states) c K)
+    ∷ numbered 54 (c54 (m .states) c (isFalse m e))
+    ∷ numbered 55 (c55 (m .states) c W)
+    ∷ numbered 56 (c56 (m .states) c (isFalse m e) W)
+    ∷ []
 
-abbrev pub weakenOwes : Machine → Spec → Spec → List Condition
-weakenOwes m c d =
-    common m true c ++ numbered 70 (c70 m c d) ∷ numbered 71 (c71 m c d) ∷ numbered 72 (c72 m c d) ∷ numbered 73 (c73 m c d) ∷ []
+abbrev pub weakenObligations : ℕ → Spec → Spec → List Condition
+weakenObligations n c d =
+    common n true c
+    ++ numbered 70 (c70 n c d)
+    ∷ numbered 71 (c71 n c d)
+    ∷ numbered 72 (c72 n c d)
+    ∷ numbered 73 (c73 n c d)
+    ∷ []
 
 module _ (t : Tables) where
   abbrev specOn : Derivation → Spec
   specOn d = specOf t (namesOf d)
 
   -- A node's conditions over the statement at hand; weaken fits every statement.
-  abbrev pub owed : Derivation → Stmt → List Condition
-  owed (skip h) S = skipOwes (t .machine) (eqb (codeOf S) 0) (specOf t h)
-  owed (assignment h) S = assignmentOwes (t .machine) (eqb (codeOf S) 1) (specOf t h) (targetOf S) (exprOf S)
-  owed (sequence h l r) S = sequenceOwes (t .machine) (eqb (codeOf S) 2) (specOf t h) (specOn l) (specOn r)
-  owed (parallel h l r) S = parallelOwes (t .machine) (eqb (codeOf S) 3) (specOf t h) (specOn l) (specOn r)
-  owed (conditional h d) S = ifOwes (t .machine) (eqb (codeOf S) 4) (specOf t h) (exprOf S) (specOn d)
-  owed (iteration h k w d) S = whileOwes (t .machine) (eqb (codeOf S) 5) (specOf t h) (exprOf S) (setOf t k) (relationOf t w) (specOn d)
-  owed (weaken h d) S = weakenOwes (t .machine) (specOf t h) (specOn d)
+  abbrev pub obligations : Derivation → Stmt → List Condition
+  obligations (skip h) S = skipObligations (t .machine .states) (eqb (codeOf S) 0) (specOf t h)
+  obligations (assignment h) S = assignmentObligations (t .machine) (eqb (codeOf S) 1) (specOf t h) (targetOf S) (exprOf S)
+  obligations (sequence h l r) S = sequenceObligations (t .machine .states) (eqb (codeOf S) 2) (specOf t h) (specOn l) (specOn r)
+  obligations (parallel h l r) S = parallelObligations (t .machine .states) (eqb (codeOf S) 3) (specOf t h) (specOn l) (specOn r)
+  obligations (conditional h d) S = ifObligations (t .machine) (eqb (codeOf S) 4) (specOf t h) (exprOf S) (specOn d)
+  obligations (iteration h k w d) S = whileObligations (t .machine) (eqb (codeOf S) 5) (specOf t h) (exprOf S) (setOf t k) (relationOf t w) (specOn d)
+  obligations (weaken h d) S = weakenObligations (t .machine .states) (specOf t h) (specOn d)
 
   -- The first fault of a derivation of a statement whose root has a number: the node's own, then its children's.
   abbrev pub firstFault : Derivation → Stmt → ℕ → Option Broken
-  firstFault (skip h) S n = atNode n (firstBroken (owed (skip h) S))
-  firstFault (assignment h) S n = atNode n (firstBroken (owed (assignment h) S))
-  firstFault (sequence h l r) S n = orBroken (atNode n (firstBroken (owed (sequence h l r) S))) (orBroken (firstFault l (firstOf S) (suc n)) (firstFault r (secondOf S) (suc n + nodes l)))
-  firstFault (parallel h l r) S n = orBroken (atNode n (firstBroken (owed (parallel h l r) S))) (orBroken (firstFault l (firstOf S) (suc n)) (firstFault r (secondOf S) (suc n + nodes l)))
-  firstFault (conditional h d) S n = orBroken (atNode n (firstBroken (owed (conditional h d) S))) (firstFault d (firstOf S) (suc n))
-  firstFault (iteration h k w d) S n = orBroken (atNode n (firstBroken (owed (iteration h k w d) S))) (firstFault d (firstOf S) (suc n))
-  firstFault (weaken h d) S n = orBroken (atNode n (firstBroken (owed (weaken h d) S))) (firstFault d S (suc n))
+  firstFault (skip h) S n = atNode n (firstBroken (obligations (skip h) S))
+  firstFault (assignment h) S n = atNode n (firstBroken (obligations (assignment h) S))
+  firstFault (sequence h l r) S n = orBroken (atNode n (firstBroken (obligations (sequence h l r) S))) (orBroken (firstFault l (firstOf S) (suc n)) (firstFault r (secondOf S) (suc n + nodes l)))
+  firstFault (parallel h l r) S n = orBroken (atNode n (firstBroken (obligations (parallel h l r) S))) (orBroken (firstFault l (firstOf S) (suc n)) (firstFault r (secondOf S) (suc n + nodes l)))
+  firstFault (conditional h d) S n = orBroken (atNode n (firstBroken (obligations (conditional h d) S))) (firstFault d (firstOf S) (suc n))
+  firstFault (iteration h k w d) S n = orBroken (atNode n (firstBroken (obligations (iteration h k w d) S))) (firstFault d (firstOf S) (suc n))
+  firstFault (weaken h d) S n = orBroken (atNode n (firstBroken (obligations (weaken h d) S))) (firstFault d S (suc n))

@@ -3,7 +3,7 @@ use Prim.Native.Nat.{ℕ, _+_}
 use mathlib.Core.Bool.{Bool, true, false, cond, not, _&&_, _||_, Bool·beq}
 use mathlib.Core.Option.{Option, none, some}
 use lib.Dec.{leb, ltb, eqb}
-use Rattle.states.specs.Search.{all, any, Search, must, given, named, orElse, each}
+use Rattle.states.specs.Search.{implies, all, any, Search, must, given, named, orElse, each}
 use Rattle.states.specs.Relations.{reach}
 use Rattle.semantics.specs.Language.{Expr, lit, var, op, int, Stmt, nil, assign, seq, par, if, while, eqZ}
 use Rattle.semantics.specs.States.{Machine, value, isTruth, storeOf}
@@ -59,22 +59,25 @@ occurrences p (lit c) = 0
 occurrences p (var v) = cond (p v) 1 0
 occurrences p (op o l r) = occurrences p l + occurrences p r
 
+-- The states of a set, or those at which a row of a relation ends, in ascending order.
+unfoldable pub inSet : ℕ → (ℕ → Bool) → (ℕ → Search) → Search
+inSet n p f = each n (λ s. given (p s) (f s))
+
+-- "Same" compares members.
+unfoldable pub sameSet : ℕ → (ℕ → Bool) → (ℕ → Bool) → Bool
+sameSet n p q = all n (λ s. Bool·beq (p s) (q s))
+
+unfoldable pub sameRelation : ℕ → (ℕ → ℕ → Bool) → (ℕ → ℕ → Bool) → Bool
+sameRelation n r q = all n (λ s. sameSet n (r s) (q s))
+
+-- "Lies in": every member of the one is a member of the other.
+unfoldable pub setLiesIn : ℕ → (ℕ → Bool) → (ℕ → Bool) → Bool
+setLiesIn n p q = all n (λ s. implies (p s) (q s))
+
+unfoldable pub relationLiesIn : ℕ → (ℕ → ℕ → Bool) → (ℕ → ℕ → Bool) → Bool
+relationLiesIn n r q = all n (λ s. setLiesIn n (r s) (q s))
+
 module _ (m : Machine) where
-  -- The states of a set, or those at which a row of a relation ends, in ascending order.
-  unfoldable pub inSet : (ℕ → Bool) → (ℕ → Search) → Search
-  inSet p f = each (m .states) (λ s. given (p s) (f s))
-
-  -- "Same" compares members.
-  unfoldable pub sameSet : (ℕ → Bool) → (ℕ → Bool) → Bool
-  sameSet p q = all (m .states) (λ s. Bool·beq (p s) (q s))
-
-  unfoldable pub sameRelation : (ℕ → ℕ → Bool) → (ℕ → ℕ → Bool) → Bool
-  sameRelation r q = all (m .states) (λ s. sameSet (r s) (q s))
-
-  -- Every member of the one is a member of the other.
-  unfoldable pub liesIn : (ℕ → ℕ → Bool) → (ℕ → ℕ → Bool) → Search
-  liesIn r q = each (m .states) (λ s. inSet (r s) (λ t. must (q s t)))
-
   -- The states at which a test is true, and those at which it is false.
   unfoldable pub isTrue : Expr → ℕ → Bool
   isTrue e s = ltb s (m .states) && isTruth true (value m e s)
@@ -82,150 +85,161 @@ module _ (m : Machine) where
   unfoldable pub isFalse : Expr → ℕ → Bool
   isFalse e s = ltb s (m .states) && isTruth false (value m e s)
 
-  -- s', the state after an assignment's store, named where there is one.
+  -- s′, the state after an assignment's store, if there is one.
   unfoldable pub afterStore : ℕ → Expr → ℕ → Option ℕ
   afterStore v e s = storeOf m s v (value m e s)
-
-  unfoldable pub inRange : Option ℕ → Bool
-  inRange none = false
-  inRange (some s′) = true
-
-  unfoldable pub toAfter : Option ℕ → (ℕ → Search) → Search
-  toAfter none f = none
-  toAfter (some s′) f = named s′ (f s′)
 
   -- A rely moves a variable if some pair (s,t) of R with s in P differs in it.
   unfoldable pub moves : Spec → ℕ → Bool
   moves c v = any (m .states) (λ s. c .P s && any (m .states) (λ t. c .R s t && not (eqZ (m .get s v) (m .get t v))))
 
-  module _ (c : Spec) where
-    -- 31: s in P, (s,t) in R: t in P.
-    unfoldable pub c31 : Search
-    c31 = inSet (c .P) (λ s. inSet (c .R s) (λ t. must (c .P t)))
+unfoldable pub inRange : Option ℕ → Bool
+inRange none = false
+inRange (some s′) = true
 
-    -- 32: s in P, (s,t) in R, (t,u) in Q: (s,u) in Q.
-    unfoldable pub c32 : Search
-    c32 = inSet (c .P) (λ s. inSet (c .R s) (λ t. inSet (c .Q t) (λ u. must (c .Q s u))))
+unfoldable pub toAfter : Option ℕ → (ℕ → Search) → Search
+toAfter none f = none
+toAfter (some s′) f = named s′ (f s′)
 
-    -- 33: s in P, (s,t) in Q, (t,u) in R: (s,u) in Q.
-    unfoldable pub c33 : Search
-    c33 = inSet (c .P) (λ s. inSet (c .Q s) (λ t. inSet (c .R t) (λ u. must (c .Q s u))))
+-- Every node, over n states and its own tables c.
+module _ (n : ℕ) (c : Spec) where
+  -- 31: s in P, (s,t) in R: t in P.
+  unfoldable pub c31 : Search
+  c31 = inSet n (c .P) (λ s. inSet n (c .R s) (λ t. must (c .P t)))
 
-    -- Skip 35: s in P: (s,s) in Q.
-    unfoldable pub c35 : Search
-    c35 = inSet (c .P) (λ s. must (c .Q s s))
+  -- 32: s in P, (s,t) in R, (t,u) in Q: (s,u) in Q.
+  unfoldable pub c32 : Search
+  c32 = inSet n (c .P) (λ s. inSet n (c .R s) (λ t. inSet n (c .Q t) (λ u. must (c .Q s u))))
 
-    -- Assignment, for s in P, s′ being s after the store.
-    module _ (v : ℕ) (e : Expr) where
-      -- 40: the value at every s in P is in range.
-      unfoldable pub c40 : Search
-      c40 = inSet (c .P) (λ s. must (inRange (afterStore v e s)))
+  -- 33: s in P, (s,t) in Q, (t,u) in R: (s,u) in Q.
+  unfoldable pub c33 : Search
+  c33 = inSet n (c .P) (λ s. inSet n (c .Q s) (λ t. inSet n (c .R t) (λ u. must (c .Q s u))))
 
-      -- 42: (s,s′) in Q.
-      unfoldable pub c42 : Search
-      c42 = inSet (c .P) (λ s. toAfter (afterStore v e s) (λ s′. must (c .Q s s′)))
+  -- The children's tables.
+  -- 34, if: P and the test true, T being the states at which it is; same R, G, Q.
+  unfoldable pub c34if : (ℕ → Bool) → Spec → Search
+  c34if T d =
+      must (sameSet n (d .P) (λ s. c .P s && T s) && sameRelation n (d .R) (c .R) && sameRelation n (d .G) (c .G)
+      && sameRelation n (d .Q) (c .Q))
 
-      -- 43: s′ = s or (s,s′) in G.
-      unfoldable pub c43 : Search
-      c43 = inSet (c .P) (λ s. toAfter (afterStore v e s) (λ s′. must (eqb s′ s || c .G s s′)))
+  -- 34, while: P met with K; same R, G; Q the pairs of W that end in P.
+  unfoldable pub c34while : (ℕ → Bool) → (ℕ → ℕ → Bool) → Spec → Search
+  c34while K W d =
+      must (sameSet n (d .P) (λ s. c .P s && K s) && sameRelation n (d .R) (c .R) && sameRelation n (d .G) (c .G)
+      && sameRelation n (d .Q) (λ s t. W s t && c .P t))
 
-    -- 41 and 45: R moves no variable of the expression or the test.
-    unfoldable pub c41 : Expr → Search
-    c41 e = must (eqb (occurrences (moves c) e) 0)
+  -- 34, sequence: left has the same P, R, G, right the same R, G.
+  unfoldable pub c34sequence : Spec → Spec → Search
+  c34sequence l r =
+      must (sameSet n (l .P) (c .P) && sameRelation n (l .R) (c .R) && sameRelation n (l .G) (c .G)
+      && sameRelation n (r .R) (c .R) && sameRelation n (r .G) (c .G))
 
-    -- If, with the states T at which its test is true and F at which it is false, over its body's tables.
-    -- 34: P and the test true; same R, G, Q.
-    unfoldable pub c34if : (ℕ → Bool) → Spec → Search
-    c34if T d =
-        must (sameSet (d .P) (λ s. c .P s && T s) && sameRelation (d .R) (c .R) && sameRelation (d .G) (c .G) && sameRelation (d .Q) (c .Q))
+  -- 34, parallel: both P; left's R is R joined with right's G, right's R is R joined with left's G.
+  unfoldable pub c34parallel : Spec → Spec → Search
+  c34parallel l r =
+      must (sameSet n (l .P) (c .P) && sameSet n (r .P) (c .P) && sameRelation n (l .R) (λ s t. c .R s t || r .G s t)
+      && sameRelation n (r .R) (λ s t. c .R s t || l .G s t))
 
-    -- 46: s in P, test false: (s,s) in Q.
-    unfoldable pub c46 : (ℕ → Bool) → Search
-    c46 F = inSet (c .P) (λ s. given (F s) (must (c .Q s s)))
+  -- Skip 35: s in P: (s,s) in Q.
+  unfoldable pub c35 : Search
+  c35 = inSet n (c .P) (λ s. must (c .Q s s))
 
-    -- While, with its K and W, and T and F as for an if, over its body's tables.
-    -- 34: P met with K; same R, G; Q the pairs of W that end in P.
-    unfoldable pub c34while : (ℕ → Bool) → (ℕ → ℕ → Bool) → Spec → Search
-    c34while K W d =
-        must (sameSet (d .P) (λ s. c .P s && K s) && sameRelation (d .R) (c .R) && sameRelation (d .G) (c .G)
-        && sameRelation (d .Q) (λ s t. W s t && c .P t))
+module _ (m : Machine) (c : Spec) where
+  -- R moves no variable of an expression.
+  unfoldable pub unmoved : Expr → Bool
+  unmoved e = eqb (occurrences (moves m c) e) 0
 
-    -- 50: at most one variable occurrence in the test is of a variable that R moves.
-    unfoldable pub c50 : Expr → Search
-    c50 e = must (leb (occurrences (moves c) e) 1)
+  -- Assignment, for s in P, s′ being s after the store.
+  -- 40: the value at every s in P is in range.
+  unfoldable pub c40 : ℕ → Expr → Search
+  c40 v e = inSet (m .states) (c .P) (λ s. must (inRange (afterStore m v e s)))
 
-    -- 51: W is transitive and has no (s,s).
-    unfoldable pub c51 : (ℕ → ℕ → Bool) → Search
-    c51 W =
-        orElse (each (m .states) (λ s. must (not (W s s))))
-        (each (m .states) (λ s. inSet (W s) (λ t. inSet (W t) (λ u. must (W s u)))))
+  -- 41: R moves no variable of the expression.
+  unfoldable pub c41 : Expr → Search
+  c41 e = must (unmoved e)
 
-    -- 52: s in P, test true: s in K.
-    unfoldable pub c52 : (ℕ → Bool) → (ℕ → Bool) → Search
-    c52 T K = inSet (c .P) (λ s. given (T s) (must (K s)))
+  -- 42: (s,s′) in Q.
+  unfoldable pub c42 : ℕ → Expr → Search
+  c42 v e = inSet (m .states) (c .P) (λ s. toAfter (afterStore m v e s) (λ s′. must (c .Q s s′)))
 
-    -- 53: s in P and K, (s,t) in R: t in K.
-    unfoldable pub c53 : (ℕ → Bool) → Search
-    c53 K = inSet (c .P) (λ s. given (K s) (inSet (c .R s) (λ t. must (K t))))
+  -- 43: s′ = s or (s,s′) in G.
+  unfoldable pub c43 : ℕ → Expr → Search
+  c43 v e = inSet (m .states) (c .P) (λ s. toAfter (afterStore m v e s) (λ s′. must (eqb s′ s || c .G s s′)))
 
-    -- 54: s in P, test false, (s,t) in R: test false at t.
-    unfoldable pub c54 : (ℕ → Bool) → Search
-    c54 F = inSet (c .P) (λ s. given (F s) (inSet (c .R s) (λ t. must (F t))))
+  -- If 45: R moves no variable of the test.
+  unfoldable pub c45 : Expr → Search
+  c45 e = must (unmoved e)
 
-    -- 55: s in P, (s,t) in R: s = t or (s,t) in W.
-    unfoldable pub c55 : (ℕ → ℕ → Bool) → Search
-    c55 W = inSet (c .P) (λ s. inSet (c .R s) (λ t. must (eqb s t || W s t)))
+-- If 46, F being the states at which the test is false: s in P, test false: (s,s) in Q.
+unfoldable pub c46 : ℕ → Spec → (ℕ → Bool) → Search
+c46 n c F = inSet n (c .P) (λ s. given (F s) (must (c .Q s s)))
 
-    -- 56: s in P, t = s or (s,t) in W, t in P, test false at t: (s,t) in Q.
-    unfoldable pub c56 : (ℕ → Bool) → (ℕ → ℕ → Bool) → Search
-    c56 F W = inSet (c .P) (λ s. inSet (λ t. (eqb t s || W s t) && c .P t && F t) (λ t. must (c .Q s t)))
+-- While 50: at most one variable occurrence in the test is of a variable that R moves.
+unfoldable pub c50 : Machine → Spec → Expr → Search
+c50 m c e = must (leb (occurrences (moves m c) e) 1)
 
-    -- Sequence and parallel, over the tables of the left child and of the right.
-    module _ (l r : Spec) where
-      -- 34: left has the same P, R, G, right the same R, G.
-      unfoldable pub c34sequence : Search
-      c34sequence =
-          must (sameSet (l .P) (c .P) && sameRelation (l .R) (c .R) && sameRelation (l .G) (c .G)
-          && sameRelation (r .R) (c .R) && sameRelation (r .G) (c .G))
+-- While 51: W is transitive and has no (s,s).
+unfoldable pub c51 : ℕ → (ℕ → ℕ → Bool) → Search
+c51 n W =
+    orElse (each n (λ s. must (not (W s s))))
+    (each n (λ s. inSet n (W s) (λ t. inSet n (W t) (λ u. must (W s u)))))
 
-      -- 60: s in P, (s,t) in left Q: t in right P.
-      unfoldable pub c60 : Search
-      c60 = inSet (c .P) (λ s. inSet (l .Q s) (λ t. must (r .P t)))
+module _ (n : ℕ) (c : Spec) where
+  -- While, with its K and W, T and F being the states at which its test is true and false.
+  -- 52: s in P, test true: s in K.
+  unfoldable pub c52 : (ℕ → Bool) → (ℕ → Bool) → Search
+  c52 T K = inSet n (c .P) (λ s. given (T s) (must (K s)))
 
-      -- 61: s in P, (s,t) in left Q, (t,u) in right Q: (s,u) in Q.
-      unfoldable pub c61 : Search
-      c61 = inSet (c .P) (λ s. inSet (l .Q s) (λ t. inSet (r .Q t) (λ u. must (c .Q s u))))
+  -- 53: s in P and K, (s,t) in R: t in K.
+  unfoldable pub c53 : (ℕ → Bool) → Search
+  c53 K = inSet n (c .P) (λ s. given (K s) (inSet n (c .R s) (λ t. must (K t))))
 
-      -- 34: both P; left's R is R joined with right's G, right's R is R joined with left's G.
-      unfoldable pub c34parallel : Search
-      c34parallel =
-          must (sameSet (l .P) (c .P) && sameSet (r .P) (c .P) && sameRelation (l .R) (λ s t. c .R s t || r .G s t)
-          && sameRelation (r .R) (λ s t. c .R s t || l .G s t))
+  -- 54: s in P, test false, (s,t) in R: test false at t.
+  unfoldable pub c54 : (ℕ → Bool) → Search
+  c54 F = inSet n (c .P) (λ s. given (F s) (inSet n (c .R s) (λ t. must (F t))))
 
-      -- 65: both children's G lie in G.
-      unfoldable pub c65 : Search
-      c65 = orElse (liesIn (l .G) (c .G)) (liesIn (r .G) (c .G))
+  -- 55: s in P, (s,t) in R: s = t or (s,t) in W.
+  unfoldable pub c55 : (ℕ → ℕ → Bool) → Search
+  c55 W = inSet n (c .P) (λ s. inSet n (c .R s) (λ t. must (eqb s t || W s t)))
 
-      -- 66: s in P, (s,t) in both children's Q, t reached from s by zero or more pairs of R or either child's G: (s,t) in Q.
-      unfoldable pub c66 : Search
-      c66 =
-          inSet (c .P) (λ s. inSet (λ t. l .Q s t && r .Q s t && reach (m .states) (λ a b. c .R a b || l .G a b || r .G a b) s t)
-          (λ t. must (c .Q s t)))
+  -- 56: s in P, t = s or (s,t) in W, t in P, test false at t: (s,t) in Q.
+  unfoldable pub c56 : (ℕ → Bool) → (ℕ → ℕ → Bool) → Search
+  c56 F W = inSet n (c .P) (λ s. inSet n (λ t. (eqb t s || W s t) && c .P t && F t) (λ t. must (c .Q s t)))
 
-    -- Weaken, over the child's tables.
-    module _ (d : Spec) where
-      -- 70: P lies in the child's P.
-      unfoldable pub c70 : Search
-      c70 = inSet (c .P) (λ s. must (d .P s))
+  -- Sequence and parallel, over the tables of the left child and of the right.
+  module _ (l r : Spec) where
+    -- 60: s in P, (s,t) in left Q: t in right P.
+    unfoldable pub c60 : Search
+    c60 = inSet n (c .P) (λ s. inSet n (l .Q s) (λ t. must (r .P t)))
 
-      -- 71: R in the child's R.
-      unfoldable pub c71 : Search
-      c71 = liesIn (c .R) (d .R)
+    -- 61: s in P, (s,t) in left Q, (t,u) in right Q: (s,u) in Q.
+    unfoldable pub c61 : Search
+    c61 = inSet n (c .P) (λ s. inSet n (l .Q s) (λ t. inSet n (r .Q t) (λ u. must (c .Q s u))))
 
-      -- 72: the child's G in G.
-      unfoldable pub c72 : Search
-      c72 = liesIn (d .G) (c .G)
+    -- 65: both children's G lie in G.
+    unfoldable pub c65 : Search
+    c65 = must (relationLiesIn n (l .G) (c .G) && relationLiesIn n (r .G) (c .G))
 
-      -- 73: the child's Q in Q.
-      unfoldable pub c73 : Search
-      c73 = liesIn (d .Q) (c .Q)
+    -- 66: s in P, (s,t) in both children's Q, t reached from s by zero or more pairs of R or either child's G: (s,t) in Q.
+    unfoldable pub c66 : Search
+    c66 =
+        inSet n (c .P) (λ s. inSet n (λ t. l .Q s t && r .Q s t && reach n (λ a b. c .R a b || l .G a b || r .G a b) s t)
+        (λ t. must (c .Q s t)))
+
+  -- Weaken, over the child's tables.
+  module _ (d : Spec) where
+    -- 70: P lies in the child's P.
+    unfoldable pub c70 : Search
+    c70 = must (setLiesIn n (c .P) (d .P))
+
+    -- 71: R in the child's R.
+    unfoldable pub c71 : Search
+    c71 = must (relationLiesIn n (c .R) (d .R))
+
+    -- 72: the child's G in G.
+    unfoldable pub c72 : Search
+    c72 = must (relationLiesIn n (d .G) (c .G))
+
+    -- 73: the child's Q in Q.
+    unfoldable pub c73 : Search
+    c73 = must (relationLiesIn n (d .Q) (c .Q))

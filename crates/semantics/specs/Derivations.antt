@@ -2,14 +2,8 @@
 use Prim.Native.Nat.{ℕ, suc, _+_}
 use mathlib.Core.Bool.{Bool, _&&_}
 use lib.Dec.{ltb}
+use Rattle.semantics.specs.declared.Names.{Names}
 use Rattle.semantics.specs.States.{Machine}
-
--- The tables that every node names: P a set, R, G and Q relations, each by its number.
-pub record Names : Type 0 where
-  pub P : ℕ
-  pub R : ℕ
-  pub G : ℕ
-  pub Q : ℕ
 
 -- A node for each rule application; a while names a set K and a relation W besides.
 pub data Derivation : Type 0 where
@@ -59,4 +53,4 @@ abbrev pub relationOf : Tables → ℕ → ℕ → ℕ → Bool
 relationOf t i s u = ltb s (t .machine .states) && ltb u (t .machine .states) && t .relations i s u
 
 abbrev pub specOf : Tables → Names → Spec
-specOf t h = record { P = setOf t (h .P); R = relationOf t (h .R); G = relationOf t (h .G); Q = relationOf t (h .Q) }
+specOf t h = record { P = setOf t (h .p); R = relationOf t (h .r); G = relationOf t (h .g); Q = relationOf t (h .q) }

@@ -3,6 +3,14 @@
 ghost use mathlib.Core.Path.{_≡_};
 ghost use Rattle.semantics.specs.Language.{rowOf};
 
+// The tables that a node names, by number: P a set, R, G and Q relations.
+pub struct Names {
+    pub p: u32,
+    pub r: u32,
+    pub g: u32,
+    pub q: u32,
+}
+
 // The kinds of values.
 pub enum Kind {
     Integer,

@@ -2,6 +2,7 @@
 pub mod Search
 pub mod Least
 pub mod Words
+pub mod Entries
 pub mod Rows
 pub mod Reach
 pub mod Members

@@ -1,15 +1,14 @@
 -- N rounds reach the whole closure and nothing else: a round that adds nothing is final, and each other round adds one of the N states.
 use Prim.Native.Nat.{ℕ, zero, suc, _+_, _<_, _≤_, zero-le}
-use native.Mathlib.Nat.{le-antisymm}
 use native.Mathlib.Numerals.{add-one}
 use native.Mathlib.Omega.{arith}
-use mathlib.Core.Path.{_≡_, refl, sym, ap, ap₂, _∙_}
+use mathlib.Core.Path.{_≡_, refl, ap, ap₂}
 use mathlib.Core.Logic.{_⊎_, ⊎-elim, inl, inr, _↔_}
-use mathlib.Core.Bool.{Bool, true, false, cond, not, _&&_, _||_, true≢false}
+use mathlib.Core.Bool.{Bool, true, false, cond, _&&_, _||_}
 use lib.Dec.{eqb}
 use Rattle.states.specs.Search.{implies, all, any}
 use Rattle.states.specs.Relations.{Reached, here, more, within, reach}
-use Rattle.states.proofs.Search.{and-left, and-right, and-both, or-left, or-right, or-cases, implies-at, implies-false, bool-ext, true-or-false, below-cases, all-at, all-false, any-intro, any-true, any-cong}
+use Rattle.states.proofs.Search.{and-left, and-right, and-both, or-left, or-right, or-cases, implies-at, implies-false, true-or-false, below-cases, all-at, all-false, any-intro, any-true, any-cong}
 
 -- The relation is between the states below n.
 abbrev pub Between : ℕ → (ℕ → ℕ → Bool) → Type 0
@@ -66,17 +65,6 @@ unfolding count
 count-all zero = zero-le
 count-all (suc n) = omega (arith, count-all n)
 
--- k rounds reach p, each going on from the states that the round before added: a pair that starts in p ends in it or starts in
--- the frontier f.
-pub record Spread (n : ℕ) (r : ℕ → ℕ → Bool) (from : ℕ → Bool) (k : ℕ) (p f : ℕ → Bool) : Type 0 where
-  pub same : (t : ℕ) → p t ≡ rounds n r from k t
-  pub inner : (s : ℕ) → f s ≡ true → p s ≡ true
-  pub next : (s t : ℕ) → p s ≡ true → r s t ≡ true → (p t ≡ true) ⊎ (f s ≡ true)
-
-pub spread-none : (n : ℕ) (r : ℕ → ℕ → Bool) (from : ℕ → Bool) → Spread n r from 0 from from
-unfolding rounds
-spread-none n r from = record { same = λ t. refl; inner = λ s e. e; next = λ s t e st. inr e }
-
 module _ (n : ℕ) (r : ℕ → ℕ → Bool) (between : Between n r) where
   pub round-pair : (p : ℕ → Bool) (s t : ℕ) → p s ≡ true → r s t ≡ true → round n r p t ≡ true
   unfolding round
@@ -131,61 +119,15 @@ module _ (n : ℕ) (r : ℕ → ℕ → Bool) (between : Between n r) where
       one : k ≤ count n (rounds n r from k) → Added n r (rounds n r from k) → k < count n (rounds n r from (suc k))
       one h w = omega (arith, count-more n (rounds n r from k) (rounds n r from (suc k)) (λ s. or-left _ _) (w .0) (w .1) (w .2) (w .3))
 
-  pub rounds-final : (from : ℕ → Bool) → Final n r (rounds n r from n)
-  rounds-final from = ⊎-elim (λ f. f) (λ h. ⊎-elim (λ f. f) (λ w. absurd (full h w)) (final-or-adds (rounds n r from n))) (final-or-many from n)
+  -- N rounds and more.
+  rounds-final : (from : ℕ → Bool) (k : ℕ) → n ≤ k → Final n r (rounds n r from k)
+  rounds-final from k enough = ⊎-elim (λ f. f) (λ h. ⊎-elim (λ f. f) (λ w. absurd (full h w)) (final-or-adds (rounds n r from k))) (final-or-many from k)
     where
-      full : n ≤ count n (rounds n r from n) → Added n r (rounds n r from n) → ⊥
-      full h w = omega (arith, count-more n (rounds n r from n) (λ s. true) (λ s e. refl) (w .0) (w .1) (w .2) refl, count-all n)
+      full : k ≤ count n (rounds n r from k) → Added n r (rounds n r from k) → ⊥
+      full h w = omega (arith, count-more n (rounds n r from k) (λ s. true) (λ s e. refl) (w .0) (w .1) (w .2) refl, count-all n)
 
-  -- As many rounds as it takes.
-  pub exact-at : (from : ℕ → Bool) (k : ℕ) → Final n r (rounds n r from k) → (t : ℕ) → (rounds n r from k t ≡ true) ↔ Reached from r t
-  exact-at from k final t = (rounds-sound from k t, final-all from (rounds n r from k) (rounds-start from k) final t)
-
-  pub rounds-exact : (from : ℕ → Bool) (t : ℕ) → (rounds n r from n t ≡ true) ↔ Reached from r t
-  rounds-exact from = exact-at from n (rounds-final from)
-
-  module _ (from p f : ℕ → Bool) (k : ℕ) (old : Spread n r from k p f) where
-    pub spread-final : ((s : ℕ) → f s ≡ false) → (t : ℕ) → (p t ≡ true) ↔ Reached from r t
-    spread-final none t = rw (old .same t) (exact-at from k final t)
-      where
-        closed : (s u : ℕ) → p s ≡ true → r s u ≡ true → p u ≡ true
-        closed s u ps su = ⊎-elim (λ e. e) (λ e. absurd (true≢false (sym e ∙ none s))) (old .next s u ps su)
-
-        final : Final n r (rounds n r from k)
-        final u h = ⊎-elim (λ e. e) (λ w. sym (old .same u) ∙ closed (w .0) u (old .same (w .0) ∙ w .1) (w .2)) (round-cases (rounds n r from k) u h)
-
-    pub spread-done : k ≤ n → n ≤ k → (t : ℕ) → (p t ≡ true) ↔ Reached from r t
-    spread-done up down t =
-        let exact : p t ≡ rounds n r from n t = old .same t ∙ ap (λ i. rounds n r from i t) (le-antisymm up down) in
-        rw exact (rounds-exact from t)
-
-    -- A round from the frontier, whose ends that are not reached yet are the next frontier.
-    pub spread-more : (p′ f′ : ℕ → Bool) → ((t : ℕ) → f′ t ≡ (any n (λ u. f u && r u t) && not (p t))) → ((t : ℕ) → p′ t ≡ (p t || f′ t))
-        → Spread n r from (k + 1) p′ f′
-    spread-more p′ f′ new all = record {
-      same = λ t. bool-ext _ _ (there t) (back t) ∙ rounds-next n r from k p (old .same) t;
-      inner = λ s e. all s ∙ or-right (p s) _ e;
-      next = λ s t e st. ⊎-elim (λ ps. inl (added s t ps st)) inr (or-cases (p s) _ (sym (all s) ∙ e));
-    }
-      where
-        end : (s t : ℕ) → f s ≡ true → r s t ≡ true → (p t ≡ true) ⊎ (p t ≡ false) → p′ t ≡ true
-        end s t fs st (inl e) = all t ∙ or-left _ _ e
-        end s t fs st (inr e) = all t ∙ or-right (p t) _ (new t ∙ rw e (and-both _ _ (any-intro n _ s (between s t st .0) (and-both _ _ fs st)) refl))
-
-        added : (s t : ℕ) → p s ≡ true → r s t ≡ true → p′ t ≡ true
-        added s t ps st = ⊎-elim (λ e. all t ∙ or-left _ _ e) (λ e. end s t e st (true-or-false (p t))) (old .next s t ps st)
-
-        there : (t : ℕ) → p′ t ≡ true → (p t || any n (λ u. p u && r u t)) ≡ true
-        there t e = ⊎-elim (or-left _ _) (λ h. or-right (p t) _ (pair t (any-true n _ (and-left _ (not (p t)) (sym (new t) ∙ h))))) (or-cases (p t) _ (sym (all t) ∙ e))
-          where
-            pair : (t : ℕ) → (u : ℕ) × (u < n) × ((f u && r u t) ≡ true) → any n (λ u. p u && r u t) ≡ true
-            pair t w = any-intro n _ (w .0) (w .1) (and-both _ _ (old .inner (w .0) (and-left _ (r (w .0) t) (w .2))) (and-right (f (w .0)) _ (w .2)))
-
-        back : (t : ℕ) → (p t || any n (λ u. p u && r u t)) ≡ true → p′ t ≡ true
-        back t e = ⊎-elim (λ h. all t ∙ or-left _ _ h) (λ h. pair t (any-true n _ h)) (or-cases (p t) _ e)
-          where
-            pair : (t : ℕ) → (u : ℕ) × (u < n) × ((p u && r u t) ≡ true) → p′ t ≡ true
-            pair t w = added (w .0) t (and-left _ (r (w .0) t) (w .2)) (and-right (p (w .0)) _ (w .2))
+  pub rounds-exact : (from : ℕ → Bool) (k : ℕ) → n ≤ k → (t : ℕ) → (rounds n r from k t ≡ true) ↔ Reached from r t
+  rounds-exact from k enough t = (rounds-sound from k t, final-all from (rounds n r from k) (rounds-start from k) (rounds-final from k enough) t)
 
   within-rounds : (k s t : ℕ) → within n k r s t ≡ rounds n r (eqb s) k t
   unfolding within rounds round
@@ -195,4 +137,4 @@ module _ (n : ℕ) (r : ℕ → ℕ → Bool) (between : Between n r) where
   -- Condition 66's reach, from any state.
   pub reach-exact : (s t : ℕ) → (reach n r s t ≡ true) ↔ Reached (eqb s) r t
   unfolding reach
-  reach-exact s t = let same : reach n r s t ≡ rounds n r (eqb s) n t = within-rounds n s t in rw same (rounds-exact (eqb s) t)
+  reach-exact s t = let same : reach n r s t ≡ rounds n r (eqb s) n t = within-rounds n s t in rw same (rounds-exact (eqb s) n (omega arith) t)

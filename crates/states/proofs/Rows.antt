@@ -1,22 +1,21 @@
 -- Relations as rows of words: a pair lies between states below n, and a row holds at most 64 states.
-use Prim.Native.Nat.{ℕ, _+_, _<_, _≤_}
-use native.Mathlib.Nat.{not-suc-le-zero}
-use native.Mathlib.Numerals.{add-one}
+use Prim.Native.Nat.{ℕ, _<_, _≤_}
 use native.Mathlib.Decide.{decLt}
 use native.Mathlib.Omega.{arith}
-use mathlib.Core.Path.{_≡_, refl, sym, ap, _∙_}
-use mathlib.Core.Bool.{Bool, true, false, _&&_, true≢false}
+use mathlib.Core.Path.{_≡_, refl, sym, _∙_}
+use mathlib.Core.Logic.{⊎-elim}
+use mathlib.Core.Bool.{Bool, true, false, _&&_, _||_, true≢false}
 use mathlib.Core.List.{List, [], _∷_}
-use lib.ListN.{getD, length, set, length-set, List·getD-eq-default}
-use lib.Seq.{getD-set-same, getD-set-other}
+use lib.ListN.{getD, length, List·getD-eq-default}
 use lib.Dec.{ltb, eqb}
-use borrow.Author.Tests.{ltb-true, lt-ltb, le-ltb, eqb-true, eq-eqb}
+use borrow.Author.Tests.{ltb-true, lt-ltb, eqb-true, eq-eqb}
 use Rattle.states.specs.Search.{all, any}
 use Rattle.states.specs.Sets.{mem}
 use Rattle.states.specs.Relations.{rel}
-use Rattle.states.proofs.Search.{and-left, and-right, and-both, bool-ext, not-true-false, below-cases, all-at, all-intro, any-intro, any-true}
+use Rattle.states.proofs.Search.{and-left, and-right, and-both, or-cases, bool-ext, not-true-false, all-at, all-intro, any-intro, any-true}
 use Rattle.states.proofs.Words.{bit, mem-bit, mem-nought}
 use Rattle.states.proofs.Reach.{Between}
+use Rattle.states.proofs.Entries.{Entries}
 
 pub rel-between : (n : ℕ) (rows : List ℕ) → Between n (rel n rows)
 unfolding rel
@@ -87,36 +86,31 @@ row-starts n rows k enough t = bool-ext _ _ (λ h. there (any-true k _ h)) back
         any-intro k _ t (enough t (ltb-true t 64 (and-left (ltb t 64) _ h)) (rel-between n rows t (w .0) (w .2) .0) (row-long n rows t (w .0) (w .2)))
         (and-both _ _ h (eq-eqb t t refl))
 
--- Of the 64 rows, those below k hold the pairs of f: what a loop that fills the rows keeps.
-pub record Filled (f : ℕ → ℕ → Bool) (k : ℕ) (rows : List ℕ) : Type 0 where
-  pub most : k ≤ 64
-  pub long : length rows ≡ 64
-  pub hold : (s : ℕ) → s < k → (t : ℕ) → mem (getD rows s 0 ∷ []) t ≡ f s t
+-- The pairs of two relations lie between states below n.
+abbrev pub either : ℕ → List ℕ → List ℕ → ℕ → ℕ → Bool
+either n a b s t = rel n a s t || rel n b s t
 
-pub filled-none : (f : ℕ → ℕ → Bool) (rows : List ℕ) → length rows ≡ 64 → Filled f 0 rows
-filled-none f rows e = record { most = omega arith; long = e; hold = λ s l. absurd (not-suc-le-zero l) }
+pub either-between : (n : ℕ) (a b : List ℕ) → Between n (either n a b)
+either-between n a b s t h = ⊎-elim (rel-between n a s t) (rel-between n b s t) (or-cases (rel n a s t) (rel n b s t) h)
 
-pub filled-more : (f : ℕ → ℕ → Bool) (k : ℕ) (rows : List ℕ) (word : ℕ) → k < 64 → ((t : ℕ) → mem (word ∷ []) t ≡ f k t)
-    → Filled f k rows → Filled f (k + 1) (set rows k word)
-filled-more f k rows word l new old = record { most = omega arith; long = length-set rows k word ∙ old .long; hold = hold }
+-- What row s of the pairs f holds.
+abbrev pub Row : (ℕ → ℕ → Bool) → ℕ → ℕ → Type 0
+Row f s word = (t : ℕ) → mem (word ∷ []) t ≡ f s t
+
+-- Each bit of 64 rows, once the rows of all states that start a pair are filled.
+pub rows-filled : (n : ℕ) (f : ℕ → ℕ → Bool) (k : ℕ) (rows : List ℕ) → Between n f → ((s : ℕ) → s < 64 → s < n → s < k) → Entries 0 (Row f) k rows
+    → (s t : ℕ) → mem (getD rows s 0 ∷ []) t ≡ (ltb s 64 && f s t)
+rows-filled n f k rows between all filled s t = at (decLt s k)
   where
-    hold : (s : ℕ) → s < k + 1 → (t : ℕ) → mem (getD (set rows k word) s 0 ∷ []) t ≡ f s t
-    hold s h =
-        below-cases (λ i. (t : ℕ) → mem (getD (set rows k word) i 0 ∷ []) t ≡ f i t) k s (rw add-one at h)
-        (λ t. ap (λ w. mem (w ∷ []) t) (getD-set-same rows k word 0 (omega arith)) ∙ new t)
-        (λ low t. ap (λ w. mem (w ∷ []) t) (getD-set-other rows k s word 0 (omega arith)) ∙ old .hold s low t)
-
--- All that start a pair filled, of a relation between states below n.
-pub filled-rel : (n : ℕ) (f : ℕ → ℕ → Bool) (k : ℕ) (rows : List ℕ) → Between n f → ((s : ℕ) → s < 64 → s < n → s < k) → Filled f k rows
-    → (s t : ℕ) → rel n rows s t ≡ (ltb s 64 && f s t)
-filled-rel n f k rows between all filled s t = at (decLt s 64)
-  where
-    at : Dec (s < 64) → rel n rows s t ≡ (ltb s 64 && f s t)
-    at (yes l) =
-        let row : s < n → mem (getD rows s 0 ∷ []) t ≡ f s t = λ low. filled .hold s (all s l low) t in
-        rw (lt-ltb s 64 l)
-        (bool-ext _ _ (λ h. sym (row (rel-between n rows s t h .0)) ∙ rel-mem n rows s t h)
-        (λ h. let low = between s t h .0 in rel-intro n rows s t low (between s t h .1) (row low ∙ h)))
+    at : Dec (s < k) → mem (getD rows s 0 ∷ []) t ≡ (ltb s 64 && f s t)
+    at (yes l) = rw (lt-ltb s 64 (omega (arith, filled .most))) (filled .hold s l t)
     at (no l) =
-        let past : getD rows s 0 ≡ 0 = List·getD-eq-default rows 0 (omega (arith, filled .long)) in
-        rw (le-ltb s 64 (omega arith)) (not-true-false _ (λ h. true≢false (sym (rel-mem n rows s t h) ∙ rw past (mem-nought t))))
+        rw (filled .rest s (omega arith), mem-nought t)
+        (sym (not-true-false _ (λ h. l (all s (ltb-true s 64 (and-left (ltb s 64) _ h)) (between s t (and-right (ltb s 64) _ h) .0)))))
+
+-- The pairs of a union's rows.
+pub union-rel : (n : ℕ) (a b rows : List ℕ) → ((s t : ℕ) → mem (getD rows s 0 ∷ []) t ≡ (ltb s 64 && either n a b s t))
+    → (s t : ℕ) → rel n rows s t ≡ (ltb s 64 && either n a b s t)
+union-rel n a b rows held s t =
+    bool-ext _ _ (λ h. sym (held s t) ∙ rel-mem n rows s t h)
+    (λ h. let between = either-between n a b s t (and-right (ltb s 64) _ h) in rel-intro n rows s t (between .0) (between .1) (held s t ∙ h))

@@ -22,10 +22,6 @@ and-right false b e = absurd (false≢true e)
 pub and-both : (a b : Bool) → a ≡ true → b ≡ true → (a && b) ≡ true
 and-both a b ha hb = rw (ha, hb)
 
-pub and-false-cases : (a b : Bool) → (a && b) ≡ false → (a ≡ false) ⊎ (b ≡ false)
-and-false-cases true b e = inr e
-and-false-cases false b e = inl refl
-
 pub or-left : (a b : Bool) → a ≡ true → (a || b) ≡ true
 or-left a b h = rw h
 
@@ -106,12 +102,6 @@ all-next n p = rw add-one
 -- The end of such a loop.
 pub all-done : (s n : ℕ) (p : ℕ → Bool) → s ≤ n → n ≤ s → all s p ≡ all n p
 all-done s n p up down = ap (λ k. all k p) (le-antisymm up down)
-
-pub all-more : (n : ℕ) (p : ℕ → Bool) → all n p ≡ true → p n ≡ true → all (n + 1) p ≡ true
-all-more n p h last = all-next n p ∙ and-both _ _ h last
-
-pub all-fails : (n : ℕ) (p : ℕ → Bool) (s : ℕ) → s < n → p s ≡ false → all n p ≡ false
-all-fails n p s l h = not-true-false _ (λ e. true≢false (sym (all-at n p e s l) ∙ h))
 
 pub all-cong : (n : ℕ) (p q : ℕ → Bool) → ((s : ℕ) → s < n → p s ≡ q s) → all n p ≡ all n q
 unfolding all
@@ -231,9 +221,6 @@ orElse-none x y e =
 
 pub each-none : (n : ℕ) (f : ℕ → Search) → each n f ≡ none → (s : ℕ) → s < n → f s ≡ none
 each-none n f e s l = holds-none _ (all-at n _ (sym (holds-each n f) ∙ none-holds _ e) s l)
-
-pub each-clear : (n : ℕ) (f : ℕ → Search) → ((s : ℕ) → s < n → f s ≡ none) → each n f ≡ none
-each-clear n f h = holds-none _ (holds-each n f ∙ all-intro n _ (λ s l. none-holds _ (h s l)))
 
 pub each-cong : (n : ℕ) (f g : ℕ → Search) → ((s : ℕ) → s < n → f s ≡ g s) → each n f ≡ each n g
 unfolding each

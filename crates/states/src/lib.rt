@@ -1,6 +1,6 @@
 // Sets of at most 64 states by value. No function asks anything of its caller, and each set is told by its members.
 ghost use mathlib.Core.Path.{_≡_};
-ghost use mathlib.Core.Bool.{true, false, not, _&&_, _||_, Bool·beq};
+ghost use mathlib.Core.Bool.{false, not, _&&_, _||_, Bool·beq};
 ghost use Prim.Native.Nat.{ℕ};
 ghost use lib.Dec.{ltb, eqb};
 ghost use Rattle.states.specs.Search.{implies, all, any};

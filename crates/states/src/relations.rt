@@ -4,11 +4,12 @@ use crate::StateSet;
 ghost use mathlib.Core.Path.{_≡_};
 ghost use mathlib.Core.Logic.{_↔_};
 ghost use mathlib.Core.Bool.{true, _&&_, _||_, Bool·beq};
+ghost use mathlib.Core.List.{[], _∷_};
 ghost use Prim.Native.Nat.{ℕ, _<_, _≤_};
 ghost use lib.ListN.{getD, length};
 ghost use lib.Dec.{ltb, eqb};
 ghost use Rattle.states.specs.Search.{implies, all, any};
-ghost use Rattle.states.specs.Sets.{has};
+ghost use Rattle.states.specs.Sets.{mem, has};
 ghost use Rattle.states.specs.Relations.{rel, Reached};
 
 fn word(rows: &[u64], i: usize) -> u64
@@ -90,21 +91,10 @@ pub fn starting(n: u32, rows: &[u64]) -> StateSet
     found
 }
 
-// The pairs of a followed by a pair of b. The result has 64 rows, so it starts in no state past them.
-pub fn compose(n: u32, a: &[u64], b: &[u64]) -> [u64; 64]
-    ensures { λ r. ⌜ ((s t : ℕ) → rel n r s t ≡ (ltb s 64 && any n (λ u. rel n (now (a .entry)) s u && rel n (now (b .entry)) u t))) ⌝ }
-{
-    let mut rows = [0u64; 64];
-    for s in 0..rows_held(n) {
-        let ends = image(n, row(n, a, s), b);
-        rows[s as usize] = ends.bits;
-    }
-    rows
-}
-
-// The pairs of a and the pairs of b, in 64 rows as those of compose.
+// The pairs of a and the pairs of b that start in the first 64 states, in a row for each of these.
 pub fn union_of(n: u32, a: &[u64], b: &[u64]) -> [u64; 64]
-    ensures { λ r. ⌜ ((s t : ℕ) → rel n r s t ≡ (ltb s 64 && (rel n (now (a .entry)) s t || rel n (now (b .entry)) s t))) ⌝ }
+    ensures { λ r.
+        ⌜ ((s t : ℕ) → mem (getD r s 0 ∷ []) t ≡ (ltb s 64 && (rel n (now (a .entry)) s t || rel n (now (b .entry)) s t))) ⌝ }
 {
     let mut rows = [0u64; 64];
     for s in 0..rows_held(n) {
@@ -153,19 +143,14 @@ pub fn same_members(n: u32, a: &[u64], b: &[u64]) -> bool
     held
 }
 
-// The states reached from the set by zero or more pairs. Each round adds the ends of the pairs that start in the frontier, the
-// states that the round before added; n rounds reach all, and a round that adds none is the last.
+// The states reached from the set by zero or more pairs. Each of n rounds adds the ends of the pairs that start in what is
+// reached already.
 pub fn reach(n: u32, rows: &[u64], from: StateSet) -> StateSet
     ensures { λ r. ⌜ ((t : ℕ) → (has r t ≡ true) ↔ Reached (has from) (rel n (now (rows .entry))) t) ⌝ }
 {
     let mut reached = from;
-    let mut frontier = from;
     for _ in 0..n {
-        if frontier.bits == 0 {
-            return reached;
-        }
-        frontier = image(n, frontier, rows).narrow(reached);
-        reached = reached.join(frontier);
+        reached = reached.join(image(n, reached, rows));
     }
     reached
 }

@@ -1,6 +1,6 @@
 -- After each turn the value is that of the first `done` bits; what is left is at most 8 of the 8 bits that are read last.
-use Prim.Native.Nat.{_+_, _-_, _*_, _/_, _%_, _^_, _≤_, _<_}
-use mathlib.Core.Path.{_≡_, refl}
+use Prim.Native.Nat.{ℕ, _+_, _-_, _*_, _/_, _%_, _^_, _≤_, _<_}
+use mathlib.Core.Path.{_≡_, refl, ap, _∙_}
 use native.Mathlib.Omega.{arith}
 use borrow.Author.Needs.{needs}
 use Rattle.bits.specs.Fields.{bitsAt}
@@ -10,39 +10,47 @@ use Rattle.bits.proofs.gather.Statement.{statement}
 use Rattle.bits.proofs.gather.Tie as tie
 
 abbrev Inv-loop : tie.InvT-loop
-Inv-loop src at width value₀ done₀ value done = (done ≤ width) × (value ≡ bitsAt src at done)
+Inv-loop src at width value₀ done₀ value done = (done ≤ width) × (done % 8 ≡ 0) × (value ≡ bitsAt src at done)
 
 abbrev μ-loop : tie.MeasureT-loop
 μ-loop src at width value₀ done₀ value done = width - done
 
 loop-holds : tie.Need-loop-holds Inv-loop μ-loop
 unfolding bitsAt
-loop-holds c = (search needs, refl)
+loop-holds c = (search needs, refl, refl)
 
-more : (c : tie.After-byte-at Inv-loop μ-loop) →
+-- After whole bytes the cursor is at the same bit of a byte.
+here : (at done : ℕ) → done % 8 ≡ 0 → 8 * (at / 8 + done / 8) + at % 8 ≡ at + done
+here at done whole = omega arith
+
+more : (c : tie.After-byte-from Inv-loop μ-loop) →
     let a = c .before .before .before .before .args in
     let l = c .before .before .loop in
-    l .value * 256 + c .byte-at .result ≡ bitsAt (a .src .now) (a .at) (l .done + 8)
+    l .value * 256 + c .byte-from .result ≡ bitsAt (a .src .now) (a .at) (l .done + 8)
 more c =
     let a = c .before .before .before .before .args in
-    omega (arith, bits-join (a .src .now) (a .at) (c .before .before .loop .done) 8)
+    let l = c .before .before .loop in
+    let next : c .byte-from .result ≡ bitsAt (a .src .now) (a .at + l .done) 8 =
+    c .byte-from .ensures ∙ ap (λ i. bitsAt (a .src .now) i 8) (here (a .at) (l .done) (l .inv .1))
+    in
+    omega (arith, bits-join (a .src .now) (a .at) (l .done) 8)
 
 -- One byte more of at most 64 bits fits.
-room : (c : tie.After-byte-at Inv-loop μ-loop) → c .before .before .loop .value * 256 + c .byte-at .result < 2 ^ 64
+room : (c : tie.After-byte-from Inv-loop μ-loop) → c .before .before .loop .value * 256 + c .byte-from .result < 2 ^ 64
 room c =
     let a = c .before .before .before .before .args in
     omega (arith, more c, bits-fit (a .src .now) (a .at) (c .before .before .loop .done + 8) (omega arith))
 
 -- The whole field, with the bits that are left.
-whole : (c : tie.After-byte-at2 Inv-loop μ-loop) →
+whole : (c : tie.After-byte-from2 Inv-loop μ-loop) →
     let a = c .before .before .before .before .args in
     let l = c .before .before .loop in
-    l .value * 2 ^ (a .width - l .done) % 2 ^ 64 + c .byte-at2 .result / 2 ^ (8 - (a .width - l .done))
+    l .value * 2 ^ (a .width - l .done) % 2 ^ 64 + c .byte-from2 .result / 2 ^ (8 - (a .width - l .done))
     ≡ bitsAt (a .src .now) (a .at) (a .width)
 whole c =
     let a = c .before .before .before .before .args in
     let l = c .before .before .loop in
-    rw (l .inv .1, c .byte-at2 .ensures)
+    rw (l .inv .2, c .byte-from2 .ensures, here (a .at) (l .done) (l .inv .1))
     (bits-left (a .src .now) (a .at) (l .done) (a .width) (search needs) (omega arith) (search needs))
 
 add-result : tie.Need-add-result Inv-loop μ-loop
@@ -61,7 +69,7 @@ gather-spec =
     (λ c. omega (arith, room c))
     (λ c. omega (arith, room c))
     (λ c. search needs) (λ c. search needs)
-    (λ c. (search needs, more c))
+    (λ c. (omega arith, omega arith, more c))
     (λ c. search needs) (λ c. search needs) (λ c κs. search needs) (λ c. search needs) (λ c. search needs) (λ c. search needs)
     add-result
     whole)

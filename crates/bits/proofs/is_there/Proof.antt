@@ -1,18 +1,13 @@
 -- Each test that fails is one that a field in full would pass; the last bit is in a byte of the file iff it is inside.
-use mathlib.Core.Bool.{Bool, true, false, not-eq-not}
+use mathlib.Core.Bool.{not-eq-not, false}
 use mathlib.Core.Logic.{⊎-elim}
-use mathlib.Core.Path.{_≡_, refl, sym}
+use mathlib.Core.Path.{sym}
 use native.Mathlib.Omega.{arith}
 use borrow.Author.Needs.{needs}
 use borrow.Author.Tests.{ltb-true, ltb-false}
-use Rattle.bits.proofs.Laws.{is-there, in-full}
+use Rattle.bits.proofs.Laws.{same-test, is-there, in-full}
 use Rattle.bits.proofs.is_there.Statement.{statement}
 use Rattle.bits.proofs.is_there.Tie as tie
-
--- Two tests are one where the second passes after the first and not without it.
-same-test : (a b : Bool) → (a ≡ true → b ≡ true) → (a ≡ false → b ≡ true → ⊥) → a ≡ b
-same-test true b f g = sym (f refl)
-same-test false b f g = sym (not-eq-not {b = false} .0 (g refl))
 
 returns : tie.Need-returns
 returns c =
@@ -31,7 +26,7 @@ returns-2 c =
     same-test _ _
     (λ h.
     is-there (a .src .now) (a .at) (a .width) (omega arith) (omega (arith, ltb-false)) (omega (arith, ltb-true)) (omega (arith, ltb-false)))
-    (λ h e. omega (arith, ltb-false, in-full (a .src .now) (a .at) (a .width) e))
+    (λ h e. omega (arith, ltb-false, in-full (a .src .now) (a .at) (a .width) e .inside))
 
 pub is-there-spec : {M : Type 1} → statement M
 is-there-spec = tie.close (tie.spec (λ c. search needs) returns add-result (λ c. search needs) returns-2)

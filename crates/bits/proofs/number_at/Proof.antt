@@ -1,11 +1,10 @@
--- The two tests are those of the definition, and they let gathering fit.
-use Prim.Native.Nat.{_+_, _^_}
-use mathlib.Core.Logic.{⊎-elim}
-use mathlib.Core.Bool.{and-false}
+-- The first test is that of the definition; 64 bits are those of nine bytes where there are nine.
+use mathlib.Core.Path.{_≡_, sym}
 use native.Mathlib.Omega.{arith}
 use borrow.Author.Needs.{needs}
-use borrow.Author.Tests.{le-leb, lt-leb, lt-ltb, le-ltb, ltb-true, ltb-false}
-use Rattle.bits.specs.Fields.{numberAt}
+use borrow.Author.Tests.{lt-leb}
+use Rattle.bits.specs.Fields.{bitsAt, numberAt}
+use Rattle.bits.proofs.Laws.{number-bits}
 use Rattle.bits.proofs.number_at.Statement.{statement}
 use Rattle.bits.proofs.number_at.Tie as tie
 
@@ -13,13 +12,20 @@ returns : tie.Need-returns
 unfolding numberAt
 returns c =
     let a = c .before .before .args in
-    ⊎-elim (λ h. rw (lt-leb (a .width) 64 (omega arith))) (λ h. rw (le-ltb (a .at + a .width) (2 ^ 64) (omega (arith, ltb-true)), and-false)) (c .if1 .came)
+    let none : numberAt (a .src .now) (a .at) (a .width) ≡ 0 = rw (lt-leb (a .width) 64 (omega arith)) in
+    sym none
+
+-- The number is that of the bits.
+told : (c : tie.Else1) → let a = c .before .before .args in numberAt (a .src .now) (a .at) (a .width) ≡ bitsAt (a .src .now) (a .at) (a .width)
+told c = number-bits _ _ _ (omega arith)
 
 returns-2 : tie.Need-returns-2
-unfolding numberAt
 returns-2 c =
-    let a = c .before .before .before .before .args in
-    rw (le-leb (a .width) 64 (omega arith), lt-ltb (a .at + a .width) (2 ^ 64) (omega (arith, ltb-false))) (c .gather .ensures)
+    let whole = c .before .before in
+    rw (told (whole .before), whole .if2 .taken) (c .nine-bytes .ensures)
+
+returns-3 : tie.Need-returns-3
+returns-3 c = rw (told (c .before .before)) (c .gather .ensures)
 
 pub number-at-spec : {M : Type 1} → statement M
-number-at-spec = tie.close (tie.spec (λ c. search needs) returns (λ c κs. (omega arith, omega (arith, ltb-false))) returns-2)
+number-at-spec = tie.close (tie.spec returns (λ c. search needs) (λ c κs. search needs) returns-2 (λ c κs. search needs) returns-3)

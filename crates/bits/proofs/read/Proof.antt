@@ -1,4 +1,4 @@
--- A field that is there has at most 64 bits and a cursor behind it, as gathering asks.
+-- A field that is there has at most 64 bits, as gathering asks, and a cursor after it.
 use Prim.Native.Nat.{_+_}
 use mathlib.Core.Path.{sym}
 use native.Mathlib.Omega.{arith}
@@ -30,7 +30,7 @@ read-spec =
     tie.close
     (tie.spec
     (λ c κs. search needs)
-    (λ c κs. (full c .most, full c .fits))
+    (λ c κs. full c .most)
     (λ c. omega (arith, full (c .before) .fits))
     returns
     returns-2)

@@ -1,5 +1,4 @@
 -- The first test that fails decides.
-use mathlib.Core.Path.{refl}
 use borrow.Author.Tests.{le-leb, lt-leb}
 use Rattle.derivation.specs.Tables.{isCount}
 use Rattle.derivation.proofs.header.is_count.Statement.{statement}

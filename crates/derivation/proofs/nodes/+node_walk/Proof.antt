@@ -14,7 +14,8 @@ use Rattle.derivation.specs.declared.NodeHead.{NodeHead}
 use Rattle.derivation.specs.declared.NodeHead.the-variants as Head
 use Rattle.derivation.specs.declared.NodeEnd.{NodeEnd}
 use Rattle.derivation.specs.declared.NodeEnd.the-variants.{Ends, Fault}
-use Rattle.semantics.specs.Derivations.{Names, Derivation}
+use Rattle.semantics.specs.declared.Names.{Names}
+use Rattle.semantics.specs.Derivations.{Derivation}
 use Rattle.derivation.specs.Nodes.{NodeRead, whole, fault, alone, overTwo, overOne, onChild, onLeft, onNodeHead, nodeHead, nodeAt, endOf}
 use Rattle.derivation.proofs.Heads.{names, head-few, node-sound}
 use Rattle.derivation.proofs.nodes.node_walk.Reads as node-walk

@@ -2,12 +2,11 @@
 use Prim.Native.Nat.{_-_, _*_, _%_, _≤_}
 use mathlib.Core.Bool.{and-false}
 use mathlib.Core.Logic.{⊎-elim}
-use mathlib.Core.Path.{sym, _∙_}
 use native.Mathlib.Omega.{arith}
 use borrow.Author.Needs.{needs}
 use borrow.Author.Tests.{lt-ltb, le-ltb, leb-true, leb-false}
 use Rattle.derivation.specs.Tables.{setAt, tableWord}
-use Rattle.derivation.proofs.Counts.{row-offsets, row-small}
+use Rattle.derivation.proofs.Counts.{row-offsets}
 use Rattle.derivation.proofs.words.table_word.Statement.{statement}
 use Rattle.derivation.proofs.words.table_word.Tie as tie
 
@@ -34,11 +33,6 @@ returns-3 c =
     (λ h. simp (le-ltb ((a .j - 16) % 64) (a .n) (omega (arith, leb-true)), and-false))
     (c .if3 .came))
 
-word-at-requires-2 : tie.Need-word-at-requires-2
-word-at-requires-2 c κs =
-    let few = c .before .before .before .before .before .pre in
-    (rw (c .row-at .ensures) (row-small _ _ _ _ (few .0) (few .1) (omega arith) (omega arith)), few .0)
-
 returns-4 : tie.Need-returns-4
 unfolding tableWord
 returns-4 c =
@@ -57,10 +51,10 @@ table-word-spec =
     (tie.spec
     (λ c. omega (arith, set-small c))
     (λ c. omega (arith, set-small c))
-    (λ c κs. omega (arith, set-small c))
+    (λ c κs. search needs)
     returns
     returns-2
     returns-3
     (λ c κs. search needs)
-    word-at-requires-2
+    (λ c κs. search needs)
     returns-4)

@@ -1,8 +1,9 @@
 -- The 64 bits from the cursor on, reversed, hold the n that are asked for lowest.
-use mathlib.Core.Path.{_≡_}
+use mathlib.Core.Path.{_≡_, _∙_}
 use native.Mathlib.Omega.{arith}
 use borrow.Author.Needs.{needs}
 use lib.Pow.{pow-pos}
+use Rattle.bits.proofs.Laws.{number-bits}
 use Rattle.states.proofs.Words.{shifted}
 use Rattle.derivation.specs.Tables.{wordAt}
 use Rattle.derivation.proofs.Membership.{word-first}
@@ -12,7 +13,7 @@ use Rattle.derivation.proofs.words.word_at.Tie as tie
 whole : (c : tie.After-reversed) →
     let a = c .before .before .before .args in
     c .reversed .result ≡ wordAt (a .src .now) (a .at) 64
-whole c = c .reversed .ensures _ _ (c .before .bits-from .ensures)
+whole c = c .reversed .ensures _ _ (c .before .number-at .ensures ∙ number-bits _ _ 64 (omega arith))
 
 rem-result : tie.Need-rem-result
 rem-result c =

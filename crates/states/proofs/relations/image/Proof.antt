@@ -2,12 +2,11 @@
 use Prim.Native.Nat.{ℕ}
 use native.Mathlib.Omega.{arith}
 use mathlib.Core.Path.{_≡_, _∙_, ap}
-use mathlib.Core.Bool.{_&&_, _||_}
-use mathlib.Core.List.{[], _∷_}
+use mathlib.Core.Bool.{_&&_}
 use lib.Count.{trailing-le}
 use lib.Dec.{ltb}
 use borrow.Author.Needs.{needs}
-use Rattle.states.specs.Sets.{mem, has}
+use Rattle.states.specs.Sets.{has}
 use Rattle.states.proofs.Reach.{count}
 use Rattle.states.proofs.Members.{first-in, start-below, Turn, turn, Gathered, gathered-none, gathered-more, gathered-all}
 use Rattle.states.proofs.relations.image.Statement.{statement}

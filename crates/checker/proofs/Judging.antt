@@ -1,0 +1,98 @@
+-- The proof file over a handler file that was read, stage by stage, and the four ways out of the check.
+use Prim.Native.Nat.{ℕ, _-_, _^_, _≤_, _<_}
+use mathlib.Core.Path.{_≡_, refl, sym, _∙_, ap}
+use mathlib.Core.Bool.{Bool, true, false}
+use mathlib.Core.List.{List}
+use mathlib.Core.Option.{Option, none, some}
+use lib.ListN.{length}
+use lib.Dec.{ltb}
+use borrow.Author.Tests.{lt-ltb, le-ltb}
+use Rattle.semantics.specs.States.{product}
+use Rattle.semantics.specs.StepNumber.{steps}
+use Rattle.semantics.specs.Derivations.{Derivation, nodes}
+use Rattle.semantics.specs.Checking.{Broken, firstFault}
+use Rattle.expressions.specs.declared.head.Head.{Head}
+use Rattle.expressions.proofs.Heads.{head-read}
+use Rattle.handler.specs.Reading.{HandlerRead, handler, refused, readHandler}
+use Rattle.derivation.specs.NodeTable.{nodeTable}
+use Rattle.derivation.specs.Tables.{tableWord, written}
+use Rattle.derivation.specs.Reading as Proofs
+use Rattle.checker.specs.declared.Place.the-variants.{Bit}
+use Rattle.checker.specs.declared.Fault.{Fault}
+use Rattle.checker.specs.declared.Verdict.{Verdict}
+use Rattle.checker.specs.declared.Verdict.the-variants.{Accepted, Refused}
+use Rattle.checker.specs.Verdicts.{refusedAt, untouched, cleared, tablesOf, onSteps, onFault, onProof, onHandler, answer}
+use Rattle.checker.specs.Nodes.{faultsFrom, firstOf}
+use Rattle.checker.specs.Refinement.{Handled, decided}
+use Rattle.checker.proofs.Stages.{stages, decided-answer, words-kept, words-cleared}
+use Rattle.checker.proofs.Meaning.{found-in-tables}
+
+module _ (hb pb : List ℕ) (head : Head) (statements : List ℕ) (k : ℕ) (h : Handled hb head statements k) where
+  abbrev n : ℕ
+  n = product (h .sizes)
+
+  -- A proof file at fault.
+  pub on-refused : (j place : ℕ) → Proofs.readProof pb n ≡ Proofs.refused j place → onHandler pb (readHandler hb) ≡ cleared (refusedAt j (Bit place))
+  on-refused j place e = rw (h .reads, e)
+
+  module _ (sets relations root : ℕ) (d : Derivation) (e : Proofs.readProof pb n ≡ Proofs.proof sets relations root d) where
+    abbrev fault : Option Broken
+    fault = firstFault (tablesOf pb (h .sizes) sets) d (h .S) 0
+
+    on-read : onHandler pb (readHandler hb) ≡ onFault fault (steps n (h .S)) (tableWord pb n sets relations)
+    on-read = rw (h .reads, e)
+
+    -- What the loop finds decides.
+    pub judged : (before work table : List ℕ) → 1040 ≤ length before → work ≡ written (Proofs.wordsOf pb n (Proofs.readProof pb n)) before
+        → table ≡ nodeTable root d
+        → decided (firstOf (faultsFrom hb head work table statements (nodes d) 0 0)) k ≡ onHandler pb (readHandler hb) .verdict
+    judged before work table enough words is =
+        ap (λ o. decided (firstOf o) k) (found-in-tables hb pb before head statements k h sets relations root d e enough work words table is)
+        ∙ ap (decided (firstOf fault)) (h .counted)
+        ∙ decided-answer fault (steps n (h .S)) (tableWord pb n sets relations) ∙ sym (ap (λ a. a .verdict) on-read)
+
+    -- The words that the answer leaves: the tables if it accepts, else 0.
+    pub kept-words : (bound : ℕ) → onHandler pb (readHandler hb) .verdict ≡ Accepted bound → onHandler pb (readHandler hb) .words ≡ tableWord pb n sets relations
+    kept-words bound v =
+        ap (λ a. a .words) on-read
+        ∙ words-kept fault (steps n (h .S)) bound (tableWord pb n sets relations) (sym (ap (λ a. a .verdict) on-read) ∙ v)
+
+    pub no-words : (f : Fault) → onHandler pb (readHandler hb) .verdict ≡ Refused f → onHandler pb (readHandler hb) .words ≡ (λ j. 0)
+    no-words f v =
+        ap (λ a. a .words) on-read
+        ∙ words-cleared fault (steps n (h .S)) f (tableWord pb n sets relations) (sym (ap (λ a. a .verdict) on-read) ∙ v)
+
+-- The four ways out of the check.
+module _ (hb pb : List ℕ) (words : ℕ) where
+  pub few-words : words < 1040 → answer hb pb words ≡ untouched (refusedAt 1 (Bit 0))
+  unfolding answer
+  few-words low = rw (lt-ltb words 1040)
+
+  pub long-handler : 1040 ≤ words → 16384 < length hb → answer hb pb words ≡ untouched (refusedAt 2 (Bit 0))
+  unfolding answer
+  long-handler enough long = rw (le-ltb words 1040, lt-ltb 16384 (length hb))
+
+  pub long-proof : 1040 ≤ words → length hb ≤ 16384 → 16384 < length pb → answer hb pb words ≡ untouched (refusedAt 2 (Bit 0))
+  unfolding answer
+  long-proof enough short long = rw (le-ltb words 1040, le-ltb 16384 (length hb), lt-ltb 16384 (length pb))
+
+  pub both-read : 1040 ≤ words → length hb ≤ 16384 → length pb ≤ 16384 → answer hb pb words ≡ onHandler pb (readHandler hb)
+  unfolding answer
+  both-read enough short short′ = rw (le-ltb words 1040, le-ltb 16384 (length hb), le-ltb 16384 (length pb))
+
+writes-fault : (o : Option Broken) (k : ℕ) (words : ℕ → ℕ) → onFault o k words .writes ≡ true
+writes-fault (some b) k words = refl
+writes-fault none k words = by (ltb (2 ^ 32 - 1) k) refl
+  where
+    by : (b : Bool) → ltb (2 ^ 32 - 1) k ≡ b → onSteps k words .writes ≡ true
+    by true e = rw e
+    by false e = rw e
+
+pub writes : (pb : List ℕ) (r : HandlerRead) → onHandler pb r .writes ≡ true
+writes pb (refused k place) = refl
+writes pb (handler sizes at S) = by (Proofs.readProof pb (product sizes))
+  where
+    by : (p : Proofs.ProofRead) → onProof pb sizes S p .writes ≡ true
+    by (Proofs.refused k place) = refl
+    by (Proofs.proof sets relations root d) =
+        writes-fault (firstFault (tablesOf pb sizes sets) d S 0) (steps (product sizes) S) (tableWord pb (product sizes) sets relations)

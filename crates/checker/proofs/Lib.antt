@@ -1,0 +1,8 @@
+-- What the loop finds, demand 2 and demand 3 of the bytes.
+pub mod Stages
+pub mod Loaded
+pub mod AtHand
+pub mod Meaning
+pub mod Judging
+pub mod Acceptance
+pub mod Demand

@@ -1,0 +1,35 @@
+-- The loop over the nodes of the table: nodes by number, conditions by number.
+use Prim.Native.Nat.{ℕ, zero, suc}
+use mathlib.Core.Bool.{cond}
+use mathlib.Core.List.{List}
+use mathlib.Core.Option.{Option, none, some}
+use lib.Dec.{eqb}
+use Rattle.semantics.specs.Checking.{Condition, Broken, firstBroken, orBroken, atNode}
+use Rattle.expressions.specs.declared.head.Head.{Head}
+use Rattle.handler.specs.StatementTable.{statementIn}
+use Rattle.derivation.specs.declared.Node.{Node}
+use Rattle.derivation.specs.NodeTable.{nodeIn}
+use Rattle.rules.specs.Obligations.{obligationsIn}
+use Rattle.checker.specs.declared.nodes.FirstFault.{FirstFault}
+use Rattle.checker.specs.declared.nodes.FirstFault.the-variants as first
+
+-- The statement at hand after a node: a weaken has the same as its child, every other node takes the next.
+unfoldable pub statementAfter : ℕ → ℕ → ℕ
+statementAfter rule s = cond (eqb rule 6) s (suc s)
+
+module _ (bytes : List ℕ) (head : Head) (work nodes statements : List ℕ) where
+  -- The conditions of node i over statement s. Its first child is the node after it, its second the one that the table names.
+  unfoldable pub obligationsAt : ℕ → ℕ → List Condition
+  obligationsAt i s =
+      obligationsIn bytes head work (nodeIn nodes i) (statementIn statements s) (nodeIn nodes (suc i)) (nodeIn nodes (nodeIn nodes i .after))
+
+  -- The first fault of so many nodes from node i on, statement s being at hand.
+  unfoldable pub faultsFrom : ℕ → ℕ → ℕ → Option Broken
+  faultsFrom zero i s = none
+  faultsFrom (suc count) i s =
+      orBroken (atNode i (firstBroken (obligationsAt i s))) (faultsFrom count (suc i) (statementAfter (nodeIn nodes i .rule) s))
+
+-- What the code answers.
+abbrev pub firstOf : Option Broken → FirstFault
+firstOf none = first.Nothing
+firstOf (some b) = first.Broken (b .number) (b .node)

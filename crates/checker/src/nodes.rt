@@ -1,0 +1,81 @@
+// The loop over the nodes of the proof file, by number. Nodes and statements are both in file order, and every node but a weaken
+// is of the next statement, so that one counter says which statement is at hand.
+use derivation::Node;
+use derivation::table::node_at;
+use expressions::head::Head;
+use handler::table::statement_at;
+use rules::NodeVerdict;
+use rules::node_fault;
+ghost use mathlib.Core.Path.{_≡_};
+ghost use Prim.Native.Nat.{_≤_, _<_, _^_};
+ghost use Rattle.derivation.specs.NodeTable.{nodeIn};
+ghost use Rattle.rules.specs.declared.NodeVerdict.the-variants.{Holds};
+ghost use Rattle.rules.specs.Asking.{askedAll};
+ghost use Rattle.checker.specs.Nodes.{statementAfter, obligationsAt, faultsFrom, firstOf};
+
+// The rule code of a weaken.
+const WEAKEN: u32 = 6;
+
+// No fault, or the number and the node of the first condition that is broken.
+pub enum FirstFault {
+    Nothing,
+    Broken(u32, u32),
+}
+
+// What the conditions of node i say over statement s.
+fn fault_at(
+    handler: &[u8],
+    head: Head,
+    work: &[u64],
+    nodes: &[u64],
+    statements: &[u64],
+    i: u32,
+    s: u32,
+) -> NodeVerdict
+    ensures { λ r.
+        ⌜ r ≡ askedAll Holds (obligationsAt (now (handler .entry)) head (now (work .entry)) (now (nodes .entry)) (now (statements .entry)) i s) ⌝ }
+{
+    let node = node_at(nodes, i as usize);
+    let first = node_at(nodes, i as usize + 1);
+    let second = node_at(nodes, node.after as usize);
+    node_fault(
+        handler,
+        head,
+        work,
+        node,
+        statement_at(statements, s as usize),
+        first,
+        second,
+    )
+}
+
+// The statement at hand after node i.
+fn statement_after(nodes: &[u64], i: u32, s: u32) -> u32
+    requires { ⌜ s < 2 ^ 32 ⌝ }
+    ensures { λ r. ⌜ r ≡ statementAfter (nodeIn (now (nodes .entry)) i .rule) s ⌝ }
+{
+    let node = node_at(nodes, i as usize);
+    if node.rule == WEAKEN { s } else { s + 1 }
+}
+
+// The first fault of the first `count` nodes.
+pub fn first_fault(
+    handler: &[u8],
+    head: Head,
+    work: &[u64],
+    nodes: &[u64],
+    statements: &[u64],
+    count: u32,
+) -> FirstFault
+    ensures { λ r.
+        ⌜ r ≡ firstOf (faultsFrom (now (handler .entry)) head (now (work .entry)) (now (nodes .entry)) (now (statements .entry)) count 0 0) ⌝ }
+{
+    let mut s = 0;
+    for i in 0..count {
+        if let NodeVerdict::Breaks(number) = fault_at(handler, head, work, nodes, statements, i, s) {
+            return FirstFault::Broken(number, i);
+        }
+        s = statement_after(nodes, i, s);
+    }
+    FirstFault::Nothing
+}

@@ -1,4 +1,0 @@
--- The laws that the conditions' proofs share.
-pub mod Searches
-pub mod Words
-pub mod Bare

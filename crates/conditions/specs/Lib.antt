@@ -1,2 +1,0 @@
--- The tables as the work words hold them.
-pub mod Words

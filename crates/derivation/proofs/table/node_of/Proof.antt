@@ -1,0 +1,18 @@
+-- Each field is the part of the word that the definition names.
+use mathlib.Core.Path.{refl}
+use borrow.Author.Needs.{needs}
+use Rattle.derivation.specs.NodeTable.{nodeOf}
+use Rattle.derivation.proofs.table.node_of.Statement.{statement}
+use Rattle.derivation.proofs.table.node_of.Tie as tie
+
+returns : tie.Need-returns
+unfolding nodeOf
+returns c = refl
+
+pub node-of-spec : {M : Type 1} → statement M
+node-of-spec =
+    tie.close
+    (tie.spec
+    (λ c. search needs) (λ c. search needs) (λ c. search needs) (λ c. search needs) (λ c. search needs)
+    (λ c. search needs) (λ c. search needs) (λ c. search needs)
+    returns)

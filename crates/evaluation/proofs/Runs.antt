@@ -1,0 +1,106 @@
+-- The states at which a variable has a given value stand in runs: each starts at a multiple of the weight w and is w states long,
+-- and the next one starts w * z later, for the size z.
+use Prim.Native.Nat.{ℕ, _+_, _*_, _/_, _%_, _≤_, _<_}
+use native.Mathlib.Nat.{div-lt-iff-lt-mul, le-div-iff-mul-le, div-eq-of-lt-le, div-add-mod, mod-lt, mod-self, mod-add-mod, mod-eq-of-lt, add-mod-right, mul-le-mul-right, le-mul-of-pos-right}
+use native.Mathlib.Decide.{decLt}
+use native.Mathlib.Omega.{arith}
+use borrow.Author.Tests.{lt-ltb, le-ltb, eq-eqb, ne-eqb}
+use mathlib.Core.Bool.{Bool, true, false, cond, not, _&&_, _||_, and-false, and-true, or-false}
+use mathlib.Core.Path.{_≡_, refl, sym, _∙_}
+use lib.Dec.{ltb, eqb}
+use Rattle.states.specs.declared.StateSet.{StateSet}
+use Rattle.states.specs.Sets.{has}
+use Rattle.evaluation.proofs.Laws.{Holds}
+
+-- Two numbers less than z apart have different remainders.
+apart : (p q z : ℕ) → p < q → q < p + z → p % z ≡ q % z → ⊥
+apart p q z more less same = by (decLt (p / z) (q / z))
+  where
+    by : Dec (p / z < q / z) → ⊥
+    by (yes l) = omega (arith, div-add-mod p z, div-add-mod q z, mul-le-mul-right z l)
+    by (no l) = let m : q / z ≤ p / z = omega arith in omega (arith, div-add-mod p z, div-add-mod q z, mul-le-mul-right z m)
+
+-- A set is the same with no more states.
+no-more : (a b : Bool) → (a || b && false) ≡ a
+no-more a b = rw (and-false b) (or-false a)
+
+-- A run starts at the multiple `place` of the weight, and the variable has this value there.
+pub record Starts (w z value from : ℕ) : Type 0 where
+  pub place : ℕ
+  pub at : from ≡ place * w
+  pub worth : place % z ≡ value
+
+-- Whether a variable has this value at t, one of 64 states.
+abbrev pub has-value : ℕ → ℕ → ℕ → ℕ → Bool
+has-value w z value t = ltb t 64 && eqb value (t / w % z)
+
+module _ (w z value : ℕ) (weighs : 0 < w) (inside : value < z) where
+  pub first-run : Starts w z value (value * w)
+  first-run = record { place = value; at = refl; worth = mod-eq-of-lt inside }
+
+  pub next-run : {from : ℕ} → Starts w z value from → Starts w z value (from + w * z)
+  next-run run = record { place = run .place + z; at = omega (arith, run .at); worth = add-mod-right (run .place) z ∙ run .worth }
+
+  earlier : (t : ℕ) → t < value * w → eqb value (t / w % z) ≡ false
+  earlier t h = let low = div-lt-iff-lt-mul weighs .1 h in ne-eqb value (t / w % z) (λ e. omega (arith, mod-eq-of-lt {n = t / w} {m = z} (omega arith)))
+
+  module _ (from : ℕ) (run : Starts w z value from) (t : ℕ) where
+    within : from ≤ t → t < from + w → eqb value (t / w % z) ≡ true
+    within low high =
+        let here : t / w ≡ run .place = div-eq-of-lt-le w (omega (arith, run .at)) (omega (arith, run .at)) in
+        eq-eqb value (t / w % z) (rw here (sym (run .worth)))
+
+    between : from + w ≤ t → t < from + w * z → eqb value (t / w % z) ≡ false
+    between low high =
+        let more : run .place + 1 ≤ t / w = le-div-iff-mul-le weighs .1 (omega (arith, run .at)) in
+        let less : t / w < run .place + z = div-lt-iff-lt-mul weighs .1 (omega (arith, run .at)) in
+        ne-eqb value (t / w % z) (λ e. apart (run .place) (t / w) z (omega arith) less (run .worth ∙ e))
+
+  -- The states below the first run, none of which has the value.
+  pub no-run : (set : StateSet) → ((t : ℕ) → has set t ≡ false) → Holds (has-value w z value) (value * w) set
+  no-run set empty t = empty t ∙ by (decLt t (value * w))
+    where
+      by : Dec (t < value * w) → false ≡ (ltb t (value * w) && has-value w z value t)
+      by (yes l) = rw (earlier t l, lt-ltb t _ l) (sym (and-false (ltb t 64)))
+      by (no l) = rw (le-ltb t (value * w) (omega arith))
+
+  -- One more run, and the states up to the next.
+  pub one-run : (from : ℕ) → Starts w z value from → (set more : StateSet)
+      → ((t : ℕ) → has more t ≡ (has set t || ltb t 64 && (ltb t (from + w) && not (ltb t from))))
+      → Holds (has-value w z value) from set → Holds (has-value w z value) (from + w * z) more
+  one-run from run set more added old t = added t ∙ rw (old t) (by (decLt t from) (decLt t (from + w)) (decLt t (from + w * z)))
+    where
+      by : Dec (t < from) → Dec (t < from + w) → Dec (t < from + w * z)
+          → (ltb t from && has-value w z value t || ltb t 64 && (ltb t (from + w) && not (ltb t from))) ≡ (ltb t (from + w * z) && has-value w z value t)
+      by (yes a) b c = rw (lt-ltb t from a, lt-ltb t (from + w) (omega arith), lt-ltb t (from + w * z) (omega arith)) (no-more (has-value w z value t) (ltb t 64))
+      by (no a) (yes b) c =
+          rw (le-ltb t from (omega arith), lt-ltb t (from + w) b, lt-ltb t (from + w * z) (omega (arith, le-mul-of-pos-right {m = z} w (omega arith))), within from run t (omega arith) b)
+      by (no a) (no b) (yes c) =
+          rw (le-ltb t from (omega arith), le-ltb t (from + w) (omega arith), lt-ltb t (from + w * z) c, between from run t (omega arith) c)
+      by (no a) (no b) (no c) =
+          rw (le-ltb t from (omega arith), le-ltb t (from + w) (omega arith), le-ltb t (from + w * z) (omega arith)) (and-false (ltb t 64))
+
+  -- Once the next run starts at n or later.
+  pub all-runs : (n from : ℕ) → n ≤ 64 → n ≤ from → (set all below : StateSet) → Holds (has-value w z value) from set
+      → ((t : ℕ) → has below t ≡ (ltb t 64 && ltb t n)) → ((t : ℕ) → has all t ≡ (has set t && has below t))
+      → (t : ℕ) → has all t ≡ (ltb t n && eqb value (t / w % z))
+  all-runs n from small done set all below held low met t = met t ∙ rw (held t, low t) (by (decLt t n))
+    where
+      by : Dec (t < n) → (ltb t from && has-value w z value t && (ltb t 64 && ltb t n)) ≡ (ltb t n && eqb value (t / w % z))
+      by (yes l) = rw (lt-ltb t n l, lt-ltb t from (omega arith), lt-ltb t 64 (omega arith)) (and-true (eqb value (t / w % z)))
+      by (no l) = rw (le-ltb t n (omega arith), and-false (ltb t 64)) (and-false (ltb t from && has-value w z value t))
+
+-- A variable's value at the next state: one on where a run ends there.
+pub value-on : (s w z : ℕ) → 0 < w → cond (eqb ((s + 1) % w) 0) ((s / w % z + 1) % z) (s / w % z) ≡ (s + 1) / w % z
+value-on s w z weighs = by (decLt (s % w + 1) w)
+  where
+    by : Dec (s % w + 1 < w) → cond (eqb ((s + 1) % w) 0) ((s / w % z + 1) % z) (s / w % z) ≡ (s + 1) / w % z
+    by (yes l) =
+        let same : (s + 1) / w ≡ s / w = div-eq-of-lt-le w (omega (arith, div-add-mod s w)) (omega (arith, div-add-mod s w)) in
+        let inner : (s + 1) % w ≡ s % w + 1 = sym (mod-add-mod s w 1) ∙ mod-eq-of-lt l in
+        rw (same, inner, ne-eqb (s % w + 1) 0 (omega arith))
+    by (no l) =
+        let last : s % w + 1 ≡ w = omega (arith, mod-lt s weighs) in
+        let more : (s + 1) / w ≡ s / w + 1 = div-eq-of-lt-le w (omega (arith, div-add-mod s w)) (omega (arith, div-add-mod s w)) in
+        let first : (s + 1) % w ≡ 0 = sym (mod-add-mod s w 1) ∙ rw last (mod-self w) in
+        rw (more, first) (mod-add-mod (s / w) z 1)

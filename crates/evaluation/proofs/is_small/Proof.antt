@@ -1,0 +1,12 @@
+-- The tests are the definition's.
+use mathlib.Core.Path.{refl}
+use Rattle.evaluation.specs.Values.{isSmall}
+use Rattle.evaluation.proofs.is_small.Statement.{statement}
+use Rattle.evaluation.proofs.is_small.Tie as tie
+
+returns : tie.Need-returns
+unfolding isSmall
+returns c = refl
+
+pub is-small-spec : {M : Type 1} → statement M
+is-small-spec = tie.close (tie.spec returns)

@@ -1,0 +1,44 @@
+-- Each operation is its row of `ofTruths`, whose first five are those of integers.
+use Prim.Native.Nat.{ℕ, zero, suc}
+use native.Mathlib.Omega.{arith}
+use mathlib.Core.Bool.{Bool}
+use mathlib.Core.Option.{none, some}
+use mathlib.Core.Path.{_≡_, refl, sym, ap}
+use borrow.Author.Needs.{needs}
+use lib.ListN.{getD}
+use Rattle.states.specs.Sets.{has}
+use Rattle.semantics.specs.Language.{truth, ofTruths}
+use Rattle.evaluation.proofs.of_truths.Statement.{statement}
+use Rattle.evaluation.proofs.of_truths.Tie as tie
+
+no-row : (a b : Bool) (o : ℕ) → (o ≡ 5 → ⊥) → (o ≡ 6 → ⊥) → getD (ofTruths a b) o none ≡ none
+no-row a b zero f g = refl
+no-row a b (suc zero) f g = refl
+no-row a b (suc (suc zero)) f g = refl
+no-row a b (suc (suc (suc zero))) f g = refl
+no-row a b (suc (suc (suc (suc zero)))) f g = refl
+no-row a b (suc (suc (suc (suc (suc zero))))) f g = absurd (f refl)
+no-row a b (suc (suc (suc (suc (suc (suc zero)))))) f g = absurd (g refl)
+no-row a b (suc (suc (suc (suc (suc (suc (suc o))))))) f g = refl
+
+returns : tie.Need-returns
+returns c =
+    let made = c .truths-of .ensures in
+    (made .1, made .2, λ s l. (rw (made .0, made .3, c .before .before .match .keys1) (ap (λ b. some (truth b)) (c .before .meet .ensures s)), rw (made .4 s) (omega arith)))
+
+returns-2 : tie.Need-returns-2
+returns-2 c =
+    let made = c .truths-of2 .ensures in
+    (made .1, made .2, λ s l. (rw (made .0, made .3, c .before .before .match .keys2) (ap (λ b. some (truth b)) (c .before .join .ensures s)), rw (made .4 s) (omega arith)))
+
+returns-3 : tie.Need-returns-3
+returns-3 c =
+    let a = c .before .before .before .before .args in
+    let made = c .nothing .ensures in
+    (made .1, made .2, λ s l. (rw (made .0) (sym (no-row (has (a .left .truths) s) (has (a .right .truths) s) (a .o) (c .before .match .rest .0 .1) (c .before .match .rest .1))), rw (made .3 s) (omega arith)))
+
+pub of-truths-spec : {M : Type 1} → statement M
+of-truths-spec =
+    tie.close
+    (tie.spec (λ c κs. search needs) (λ c κs. search needs) (λ c κs. search needs) (λ c κs. search needs) (λ c κs. search needs)
+    returns returns-2 returns-3)

@@ -1,0 +1,65 @@
+-- After the states below s: those of them at which the integers compare so.
+use Prim.Native.Nat.{ℕ, zero, suc, _-_, _≤_, _<_}
+use native.Mathlib.Omega.{arith}
+use mathlib.Core.Bool.{Bool, true}
+use mathlib.Core.Option.{none, some}
+use mathlib.Core.Path.{_≡_, refl, ap, ap₂, _∙_}
+use borrow.Author.Needs.{needs, sfits-of}
+use borrow.Author.Tests.{lt-ltb}
+use lib.IntN.{ℤ, pos}
+use lib.ListN.{getD}
+use mir.Syntax.{w64}
+use mir.Facts.{toZ-ofZ}
+use Rattle.semantics.specs.Language.{truth, ofIntegers}
+use Rattle.semantics.specs.States.{isTruth}
+use Rattle.evaluation.proofs.Laws.{Holds, holds-none, holds-more}
+use Rattle.evaluation.proofs.pointwise.compared.Statement.{statement}
+use Rattle.evaluation.proofs.pointwise.compared.Tie as tie
+
+abbrev Inv-loop : tie.InvT-loop
+Inv-loop n o left right found₀ s₀ found s =
+    (s ≤ n) × Holds (λ t. isTruth true (getD (ofIntegers (getD left t (pos 0)) (getD right t (pos 0))) o none)) s found
+
+abbrev μ-loop : tie.MeasureT-loop
+μ-loop n o left right found₀ s₀ found s = n - s
+
+-- What a comparison makes of two integers is a truth value.
+told : (o : ℕ) (a b : ℤ) → 1 < o → o < 5 → some (truth (isTruth true (getD (ofIntegers a b) o none))) ≡ getD (ofIntegers a b) o none
+told zero a b more less = absurd (omega arith)
+told (suc zero) a b more less = absurd (omega arith)
+told (suc (suc zero)) a b more less = refl
+told (suc (suc (suc zero))) a b more less = refl
+told (suc (suc (suc (suc zero)))) a b more less = refl
+told (suc (suc (suc (suc (suc o))))) a b more less = absurd (omega arith)
+
+-- x and y are a and b as the code carries them.
+carried : (o : ℕ) (a b x y : ℤ) (r : Bool) → x ≡ a → y ≡ b → some (truth r) ≡ getD (ofIntegers x y) o none
+    → r ≡ isTruth true (getD (ofIntegers a b) o none)
+carried o a b x y r p q h = ap (isTruth true) (h ∙ ap₂ (λ i j. getD (ofIntegers i j) o none) p q)
+
+loop-again : tie.Need-loop-again Inv-loop μ-loop
+loop-again c =
+    let k = c .before .before .before .before .before in
+    let args = k .before .before .args in
+    let a = getD (args .t3) (k .loop .s) (pos 0) in
+    let b = getD (args .t4) (k .loop .s) (pos 0) in (
+      omega arith,
+      holds-more (λ t. isTruth true (getD (ofIntegers (getD (args .t3) t (pos 0)) (getD (args .t4) t (pos 0))) (args .o) none)) _ _ _ _ (omega arith)
+          (carried (args .o) a b _ _ _ (toZ-ofZ {w = w64} {z = a} (sfits-of (c .before .before .before .compares-arg .given)))
+          (toZ-ofZ {w = w64} {z = b} (sfits-of (c .before .before .compares-arg2 .given))) (c .before .compares .ensures))
+          (c .with-state .ensures) (k .loop .inv .1),
+    )
+
+returns : tie.Need-returns Inv-loop μ-loop
+returns c s l =
+    let k = c .before .before .before in
+    let holds = rw (lt-ltb s (c .before .loop .s) (omega arith)) at (c .before .loop .inv .1 s) in
+    ap (λ b. some (truth b)) holds
+    ∙ told (k .args .o) (getD (k .args .t3) s (pos 0)) (getD (k .args .t4) s (pos 0)) (k .pre .1) (k .pre .2)
+
+pub compared-spec : {M : Type 1} → statement M
+compared-spec =
+    tie.close
+    (tie.spec Inv-loop μ-loop (λ c κs. search needs) (λ c. (omega arith, holds-none _ _ (c .empty .ensures))) (λ c. search needs)
+    (λ c. search needs) (λ c. search needs) (λ c. search needs) (λ c. search needs) (λ c. search needs) (λ c κs. search needs)
+    (λ c κs. search needs) (λ c. search needs) (λ c. search needs) loop-again returns)

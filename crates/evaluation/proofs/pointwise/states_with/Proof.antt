@@ -1,0 +1,49 @@
+-- Before the run at `from`: the states below it that have the value. A weight and a size of at most 64 keep every number small.
+use Prim.Native.Nat.{_-_, _*_, _≤_, _<_}
+use native.Mathlib.Nat.{mul-le-mul, mul-pos}
+use native.Mathlib.Omega.{arith}
+use borrow.Author.Needs.{needs}
+use Rattle.evaluation.proofs.Laws.{Holds}
+use Rattle.evaluation.proofs.Runs.{Starts, has-value, first-run, next-run, no-run, one-run, all-runs}
+use Rattle.evaluation.proofs.pointwise.states_with.Statement.{statement}
+use Rattle.evaluation.proofs.pointwise.states_with.Tie as tie
+
+abbrev Inv-loop : tie.InvT-loop
+Inv-loop n weight size value period found₀ from₀ found from =
+    Starts weight size value from × Holds (has-value weight size value) from found
+
+abbrev μ-loop : tie.MeasureT-loop
+μ-loop n weight size value period found₀ from₀ found from = n - from
+
+-- The period is not 0 and no more than 64 by 64.
+period : (c : tie.Start Inv-loop μ-loop) → let a = c .args in (0 < a .weight * a .size) × (a .weight * a .size ≤ 64 * 64)
+period c = (mul-pos (c .pre .1) (omega arith), mul-le-mul {n₂ = 64} {m₂ = 64} (c .pre .2) (c .pre .3))
+
+mul-from : tie.Need-mul-from Inv-loop μ-loop
+mul-from c =
+    let a = c .before .args in
+    omega (arith, mul-le-mul {n₁ = a .value} {m₁ = a .weight} {n₂ = 64} {m₂ = 64} (omega arith) (omega arith))
+
+loop-holds : tie.Need-loop-holds Inv-loop μ-loop
+loop-holds c =
+    let p = c .before .pre in
+    (first-run _ _ _ (p .1) (p .4), no-run _ _ _ (p .1) (p .4) _ (c .empty .ensures))
+
+loop-again : tie.Need-loop-again Inv-loop μ-loop
+loop-again c =
+    let p = c .before .before .before .before .pre in
+    let run = c .before .before .loop .inv in
+    (next-run _ _ _ (p .1) (p .4) (run .0), one-run _ _ _ (p .1) (p .4) _ (run .0) _ _ (c .with-run .ensures) (run .1))
+
+returns : tie.Need-returns Inv-loop μ-loop
+returns c =
+    let k = c .before .before .before in
+    let p = k .before .before .pre in
+    all-runs _ _ _ (p .1) (p .4) _ _ (p .0) (omega arith) _ _ _ (k .loop .inv .1) (c .before .below .ensures) (c .meet .ensures)
+
+pub states-with-spec : {M : Type 1} → statement M
+states-with-spec =
+    tie.close
+    (tie.spec Inv-loop μ-loop (λ c. omega (arith, period c)) (λ c κs. search needs) mul-from loop-holds (λ c. omega arith)
+    (λ c κs. search needs) (λ c. omega (arith, period (c .before .before .before .before)))
+    (λ c. omega (arith, period (c .before .before .before .before))) loop-again (λ c κs. search needs) (λ c κs. search needs) returns)

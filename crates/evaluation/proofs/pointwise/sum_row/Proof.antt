@@ -1,0 +1,61 @@
+-- The entries below s are the sums or the differences there, and hardly larger than the operands.
+use Prim.Native.Nat.{ℕ, _+_, _-_, _≤_}
+use native.Mathlib.Omega.{arith}
+use mathlib.Core.List.{List}
+use mathlib.Core.Option.{none, some}
+use mathlib.Core.Path.{_≡_, ap₂, _∙_}
+use borrow.Author.Needs.{needs, sfits-of}
+use lib.IntN.{ℤ, pos}
+use lib.ListN.{getD}
+use lib.Signed.{mag}
+use mir.Syntax.{w64}
+use mir.Facts.{toZ-ofZ}
+use Rattle.semantics.specs.Language.{int, ofIntegers}
+use Rattle.states.proofs.Entries.{Entries, entries-none, entries-more}
+use Rattle.evaluation.proofs.pointwise.sum_row.Statement.{statement}
+use Rattle.evaluation.proofs.pointwise.sum_row.Tie as tie
+
+abbrev Sum : ℕ → List ℤ → List ℤ → ℕ → ℤ → Type 0
+Sum o left right s z =
+    let a = getD left s (pos 0) in
+    let b = getD right s (pos 0) in
+    (some (int z) ≡ getD (ofIntegers a b) o none) × (mag z ≤ mag a + mag b + 1)
+
+abbrev Inv-loop : tie.InvT-loop
+Inv-loop n o left right row₀ s₀ row s = (s ≤ n) × Entries (pos 0) (Sum o left right) s row
+
+abbrev μ-loop : tie.MeasureT-loop
+μ-loop n o left right row₀ s₀ row s = n - s
+
+sum-requires : tie.Need-sum-requires Inv-loop μ-loop
+sum-requires c κs =
+    let k = c .before .before .before in
+    rw (toZ-ofZ (sfits-of (c .before .sum-arg .given)), toZ-ofZ (sfits-of (c .sum-arg2 .given))) (k .before .pre .1, k .before .pre .2 (k .loop .s) (omega arith))
+
+-- x, y and z are a, b and r as the code carries them.
+carried : (o : ℕ) (a b r x y z : ℤ) → x ≡ a → y ≡ b → z ≡ r → (some (int r) ≡ getD (ofIntegers x y) o none) × (mag r ≤ mag x + mag y + 1)
+    → (some (int z) ≡ getD (ofIntegers a b) o none) × (mag z ≤ mag a + mag b + 1)
+carried o a b r x y z p q e h = rw e (h .0 ∙ ap₂ (λ i j. getD (ofIntegers i j) o none) p q, rw (p, q) at (h .1))
+
+loop-again : tie.Need-loop-again Inv-loop μ-loop
+loop-again c =
+    let k = c .before .before .before .before in
+    let args = k .before .args in
+    let a = getD (args .t3) (k .loop .s) (pos 0) in
+    let b = getD (args .t4) (k .loop .s) (pos 0) in (
+      omega arith,
+      entries-more (pos 0) (Sum (args .o) (args .t3) (args .t4)) _ _ _ (omega arith)
+          (carried (args .o) a b (c .sum .result) _ _ _ (toZ-ofZ {w = w64} {z = a} (sfits-of (c .before .before .sum-arg .given)))
+          (toZ-ofZ {w = w64} {z = b} (sfits-of (c .before .sum-arg2 .given))) (toZ-ofZ {w = w64} {z = c .sum .result} (sfits-of (c .sum .ok))) (c .sum .ensures))
+          (k .loop .inv .1),
+    )
+
+returns : tie.Need-returns Inv-loop μ-loop
+returns c s l = c .before .loop .inv .1 .hold s (omega arith)
+
+pub sum-row-spec : {M : Type 1} → statement M
+sum-row-spec =
+    tie.close
+    (tie.spec Inv-loop μ-loop (λ c. (omega arith, entries-none (pos 0) _)) (λ c. search needs) (λ c. search needs) (λ c. search needs)
+    (λ c. search needs) (λ c. search needs) (λ c. search needs) sum-requires (λ c. search needs) (λ c. search needs)
+    (λ c. search needs) (λ c. search needs) (λ c. search needs) loop-again returns)

@@ -1,2 +1,0 @@
--- What a node owes.
-pub mod Owing

@@ -1,0 +1,32 @@
+-- A node's answer, condition by condition, in the order in which they are asked.
+use Prim.Native.Nat.{ℕ}
+use mathlib.Core.Path.{_≡_, refl, _∙_, ap₂}
+use mathlib.Core.Bool.{Bool, true, false}
+use mathlib.Core.List.{List, [], _∷_}
+use mathlib.Core.Option.{Option, none, some}
+use Rattle.states.specs.Search.{Search, holds}
+use Rattle.semantics.specs.Checking.{Condition, orNumber, firstBroken}
+use Rattle.rules.specs.declared.NodeVerdict.{NodeVerdict}
+use Rattle.rules.specs.declared.NodeVerdict.the-variants.{Holds, Breaks}
+use Rattle.rules.specs.Asking.{asked, askedAll, verdictOf}
+
+-- A condition that the code has asked, after those before it.
+pub then : (number : ℕ) (s : Search) {held : Bool} {r found found′ : NodeVerdict} → found ≡ found′ → r ≡ asked found number held → held ≡ holds s
+    → r ≡ asked found′ number (holds s)
+then number s before e looked = e ∙ ap₂ (λ o b. asked o number b) before looked
+
+-- The answer of a list is its first broken condition.
+kept : (k : ℕ) (cs : List Condition) → askedAll (Breaks k) cs ≡ Breaks k
+unfolding asked
+kept k [] = refl
+kept k (c ∷ cs) = kept k cs
+
+pub first-asked : (cs : List Condition) → askedAll Holds cs ≡ verdictOf (firstBroken cs)
+unfolding asked holds
+first-asked [] = refl
+first-asked (c ∷ cs) = by (c .breach) (first-asked cs)
+  where
+    by : (s : Search) → askedAll Holds cs ≡ verdictOf (firstBroken cs)
+        → askedAll (asked Holds (c .number) (holds s)) cs ≡ verdictOf (orNumber (c .number) s (firstBroken cs))
+    by none rest = rest
+    by (some found) rest = kept (c .number) cs

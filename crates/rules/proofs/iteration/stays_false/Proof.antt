@@ -1,0 +1,22 @@
+-- R leads from P met with the falsity into the falsity.
+use mathlib.Core.Path.{_∙_, ap, refl}
+use mathlib.Core.Bool.{_&&_}
+use borrow.Author.Needs.{needs}
+use Rattle.states.specs.Search.{holds}
+use Rattle.states.specs.Sets.{has}
+use Rattle.semantics.specs.Conditions.{c54}
+use Rattle.rules.proofs.Searches.{inSet-and}
+use Rattle.rules.proofs.Words.{leads-cong}
+use Rattle.rules.proofs.iteration.stays_false.Statement.{statement}
+use Rattle.rules.proofs.iteration.stays_false.Tie as tie
+
+returns : tie.Need-returns
+unfolding c54
+returns c =
+    let falsity = c .before .before .before .before .args .falsity in
+    c .leads-into .ensures
+    ∙ leads-cong _ _ _ falsity _ _ (λ s. c .before .meet .ensures s ∙ ap (λ b. b && has falsity s) (c .before .before .set-at .ensures s)) (λ s. refl)
+    ∙ ap holds (inSet-and _ _ _ _)
+
+pub stays-false-spec : {M : Type 1} → statement M
+stays-false-spec = tie.close (tie.spec (λ c κs. search needs) (λ c κs. search needs) (λ c κs. search needs) returns)

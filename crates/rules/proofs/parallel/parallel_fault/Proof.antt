@@ -1,0 +1,22 @@
+-- 30 to 33, then 34, 65 and 66.
+use borrow.Author.Needs.{needs}
+use Rattle.rules.proofs.Asking.{then}
+use Rattle.rules.proofs.parallel.parallel_fault.Statement.{statement}
+use Rattle.rules.proofs.parallel.parallel_fault.Tie as tie
+
+returns : tie.Need-returns
+returns c =
+    then 66 _
+    (then 65 _
+    (then 34 _
+    (c .before .before .before .before .before .before .common .ensures)
+    (c .before .before .before .before .ask .ensures) (c .before .before .before .before .before .parallel-tables .ensures))
+    (c .before .before .ask2 .ensures) (c .before .before .before .guarantees-within .ensures))
+    (c .ask3 .ensures) (c .before .parallel-post .ensures)
+
+pub parallel-fault-spec : {M : Type 1} → statement M
+parallel-fault-spec =
+    tie.close
+    (tie.spec
+    (λ c κs. search needs) (λ c κs. search needs) (λ c κs. search needs) (λ c κs. search needs) (λ c κs. search needs) (λ c κs. search needs) (λ c κs. search needs)
+    returns)

@@ -1,0 +1,63 @@
+-- The states below s that are in P meet the condition. `holds-next` adds the next, whose reach by the 64 rows is the whole reach.
+use Prim.Native.Nat.{ℕ, _≤_, _-_}
+use native.Mathlib.Omega.{arith}
+use mathlib.Core.Path.{_≡_, _∙_, ap, ap₂, fun-ext, refl}
+use mathlib.Core.Bool.{Bool, _&&_, _||_}
+use mathlib.Core.List.{List}
+use lib.Dec.{ltb}
+use borrow.Author.Needs.{needs}
+use Rattle.states.specs.Search.{Search, must, given, each, holds}
+use Rattle.states.specs.Relations.{rel, reach}
+use Rattle.semantics.specs.Conditions.{inSet, c66}
+use Rattle.semantics.specs.declared.Names.{Names}
+use Rattle.rules.specs.Words.{wordSet, wordRelation}
+use Rattle.rules.proofs.Searches.{holds-next, each-done, given-cong}
+use Rattle.rules.proofs.Words.{set-small, relation-pairs, join-pairs, reach-rows, Pairs}
+use Rattle.rules.proofs.parallel.parallel_post.Statement.{statement}
+use Rattle.rules.proofs.parallel.parallel_post.Tie as tie
+
+-- The condition at a state, for the reach by some changes; and the changes that it names.
+abbrev at : ℕ → List ℕ → Names → Names → Names → (ℕ → ℕ → Bool) → ℕ → Search
+at n work own left right moves s =
+    given (wordSet n work (own .p) s) (inSet n (λ t. wordRelation n work (left .q) s t && wordRelation n work (right .q) s t && reach n moves s t)
+    (λ t. must (wordRelation n work (own .q) s t)))
+
+abbrev whole : ℕ → List ℕ → Names → Names → Names → ℕ → ℕ → Bool
+whole n work own left right s t = wordRelation n work (own .r) s t || wordRelation n work (left .g) s t || wordRelation n work (right .g) s t
+
+same-reach : (n : ℕ) (work : List ℕ) (own left right : Names) (rows : List ℕ)
+    → ((s t : ℕ) → rel n rows s t ≡ (ltb s 64 && whole n work own left right s t))
+    → (s : ℕ) → at n work own left right (rel n rows) s ≡ at n work own left right (whole n work own left right) s
+same-reach n work own left right rows same s =
+    given-cong _ _ _ (λ e. ap (λ p. inSet n p (λ t. must (wordRelation n work (own .q) s t)))
+    (fun-ext (λ t. ap (λ b. wordRelation n work (left .q) s t && wordRelation n work (right .q) s t && b)
+    (reach-rows n rows (whole n work own left right) pairs same s t (set-small n work (own .p) s e .0)))))
+  where
+    pairs : Pairs n (whole n work own left right)
+    pairs = join-pairs n _ _ (join-pairs n _ _ (relation-pairs n work (own .r)) (relation-pairs n work (left .g))) (relation-pairs n work (right .g))
+
+abbrev Inv-loop : tie.InvT-loop
+Inv-loop n work own left right moves held₀ s₀ held s = (s ≤ n) × (held ≡ holds (each s (at n work own left right (whole n work own left right))))
+
+abbrev μ-loop : tie.MeasureT-loop
+μ-loop n work own left right moves held₀ s₀ held s = n - s
+
+loop-holds : tie.Need-loop-holds Inv-loop μ-loop
+unfolding each holds
+loop-holds c = (omega arith, refl)
+
+loop-again : tie.Need-loop-again Inv-loop μ-loop
+loop-again c =
+    let a = c .before .before .before .before .before .before .args in
+    let next = same-reach (a .n) (a .work .now) (a .own) (a .left) (a .right) _ (c .before .before .before .before .changes .ensures) (c .before .before .before .loop .s) in
+    (omega arith, ap₂ _&&_ (c .before .before .before .loop .inv .1) (c .joint-post-at .ensures ∙ ap holds next) ∙ holds-next _ _)
+
+returns : tie.Need-returns Inv-loop μ-loop
+unfolding c66 inSet
+returns c = c .before .loop .inv .1 ∙ each-done _ _ _ (c .before .loop .inv .0) (c .loop-test .left)
+
+pub parallel-post-spec : {M : Type 1} → statement M
+parallel-post-spec =
+    tie.close
+    (tie.spec Inv-loop μ-loop (λ c κs. search needs) loop-holds (λ c. search needs) (λ c κs. search needs) (λ c. search needs)
+    (λ c. search needs) loop-again returns)

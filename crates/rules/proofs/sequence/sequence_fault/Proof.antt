@@ -1,0 +1,22 @@
+-- 30 to 33, then 34, 60 and 61.
+use borrow.Author.Needs.{needs}
+use Rattle.rules.proofs.Asking.{then}
+use Rattle.rules.proofs.sequence.sequence_fault.Statement.{statement}
+use Rattle.rules.proofs.sequence.sequence_fault.Tie as tie
+
+returns : tie.Need-returns
+returns c =
+    then 61 _
+    (then 60 _
+    (then 34 _
+    (c .before .before .before .before .before .before .common .ensures)
+    (c .before .before .before .before .ask .ensures) (c .before .before .before .before .before .sequence-tables .ensures))
+    (c .before .before .ask2 .ensures) (c .before .before .before .left-meets-right .ensures))
+    (c .ask3 .ensures) (c .before .sequence-post .ensures)
+
+pub sequence-fault-spec : {M : Type 1} → statement M
+sequence-fault-spec =
+    tie.close
+    (tie.spec
+    (λ c κs. search needs) (λ c κs. search needs) (λ c κs. search needs) (λ c κs. search needs) (λ c κs. search needs) (λ c κs. search needs) (λ c κs. search needs)
+    returns)

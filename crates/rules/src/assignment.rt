@@ -1,0 +1,95 @@
+// The assignment rule.
+use crate::NodeVerdict;
+use crate::ask;
+use crate::common;
+use crate::moving::moved;
+use crate::moving::unmoved;
+use crate::tables::row_at;
+use crate::tables::rows_of;
+use crate::tables::set_at;
+use evaluation::successors;
+use expressions::head::Head;
+use expressions::head::states_in;
+use semantics::Names;
+use states::StateSet;
+use states::relations::included_from;
+use states::relations::row;
+use states::relations::starting;
+ghost use mathlib.Core.Path.{_≡_};
+ghost use mathlib.Core.Bool.{_&&_, _||_};
+ghost use Prim.Native.Nat.{ℕ};
+ghost use lib.Dec.{ltb, eqb};
+ghost use Rattle.states.specs.Search.{must, holds, any};
+ghost use Rattle.states.specs.Relations.{rel};
+ghost use Rattle.semantics.specs.Conditions.{inSet};
+ghost use Rattle.rules.specs.Words.{wordSet, wordRelation, wordSpec};
+ghost use Rattle.rules.specs.Places.{afterHere};
+ghost use Rattle.rules.specs.declared.NodeVerdict.the-variants.{Holds};
+ghost use Rattle.rules.specs.Asking.{askedAll};
+ghost use Rattle.expressions.specs.Header.{machineIn};
+ghost use Rattle.evaluation.specs.Values.{exprIn};
+ghost use Rattle.semantics.specs.Checking.{assignmentObligations};
+
+// 40, by the rows that say where a store leads: every s in P has an end.
+pub fn in_range(n: u32, work: &[u64], own: Names, after: &[u64]) -> bool
+    ensures { λ out.
+        ⌜ out ≡ holds (inSet n (wordSet n (now (work .entry)) (own .p)) (λ s. must (any n (rel n (now (after .entry)) s)))) ⌝ }
+{
+    set_at(n, work, own.p).included(starting(n, after))
+}
+
+// 42, by the same rows: s in P, s′ its end: (s,s′) in Q.
+pub fn store_in_post(n: u32, work: &[u64], own: Names, after: &[u64]) -> bool
+    ensures { λ out.
+        ⌜ out ≡ holds (inSet n (wordSet n (now (work .entry)) (own .p)) (λ s. inSet n (rel n (now (after .entry)) s)
+        (λ t. must (wordRelation n (now (work .entry)) (own .q) s t)))) ⌝ }
+{
+    included_from(n, set_at(n, work, own.p), after, rows_of(work, own.q))
+}
+
+// Whether the end of a store at s is s or makes a pair of G.
+fn guaranteed_at(n: u32, work: &[u64], own: Names, after: &[u64], s: u32) -> bool
+    ensures { λ out.
+        ⌜ out ≡ holds (inSet n (rel n (now (after .entry)) s) (λ t. must (eqb t s || wordRelation n (now (work .entry)) (own .g) s t))) ⌝ }
+{
+    let allowed = StateSet::single(s).join(row_at(n, work, own.g, s));
+    row(n, after, s).included(allowed)
+}
+
+// 43, by the same rows: s in P, s′ its end: s′ = s or (s,s′) in G.
+pub fn store_in_guarantee(n: u32, work: &[u64], own: Names, after: &[u64]) -> bool
+    ensures { λ out.
+        ⌜ out ≡ holds (inSet n (wordSet n (now (work .entry)) (own .p)) (λ s. inSet n (rel n (now (after .entry)) s)
+        (λ t. must (eqb t s || wordRelation n (now (work .entry)) (own .g) s t)))) ⌝ }
+{
+    let mut rest = set_at(n, work, own.p);
+    let mut held = true;
+    while rest.bits != 0 {
+        let first = u64::trailing_zeros(rest.bits);
+        held = held & guaranteed_at(n, work, own, after, first);
+        rest = rest.without_least();
+    }
+    held
+}
+
+pub fn assignment_fault(
+    handler: &[u8],
+    head: Head,
+    work: &[u64],
+    own: Names,
+    fits: bool,
+    v: u32,
+    expr: usize,
+) -> NodeVerdict
+    ensures { λ r.
+        ⌜ r ≡ askedAll Holds (assignmentObligations (machineIn head) fits (wordSpec (machineIn head .states) (now (work .entry)) own) v
+        (exprIn (now (handler .entry)) (head .count) expr)) ⌝ }
+{
+    let n = states_in(head);
+    let after = successors(handler, head, v, expr);
+    let found = common(n, work, own, fits);
+    let found = ask(found, 40, in_range(n, work, own, &after));
+    let found = ask(found, 41, unmoved(handler, head, moved(head, work, own), expr));
+    let found = ask(found, 42, store_in_post(n, work, own, &after));
+    ask(found, 43, store_in_guarantee(n, work, own, &after))
+}

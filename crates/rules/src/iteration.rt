@@ -1,0 +1,194 @@
+// The while rule.
+use crate::NodeVerdict;
+use crate::ask;
+use crate::common;
+use crate::moving::moved;
+use crate::moving::read_once;
+use crate::tables::is_ending_in;
+use crate::tables::leads_into;
+use crate::tables::row_at;
+use crate::tables::same_relation;
+use crate::tables::same_set;
+use crate::tables::set_at;
+use evaluation::truths_at;
+use expressions::head::Head;
+use expressions::head::states_in;
+use semantics::Names;
+use states::StateSet;
+ghost use mathlib.Core.Path.{_≡_};
+ghost use mathlib.Core.Bool.{not, _&&_, _||_};
+ghost use lib.Dec.{eqb};
+ghost use Rattle.states.specs.Search.{must, given, holds, implies, all};
+ghost use Rattle.states.specs.Sets.{has};
+ghost use Rattle.semantics.specs.Conditions.{inSet, c34while, c51, c53, c55, c52, c54, c56};
+ghost use Rattle.rules.specs.Words.{wordSet, wordRelation, wordSpec};
+ghost use Rattle.rules.specs.declared.NodeVerdict.the-variants.{Holds};
+ghost use Rattle.rules.specs.Asking.{askedAll};
+ghost use Rattle.expressions.specs.Header.{machineIn};
+ghost use Rattle.evaluation.specs.Values.{exprIn};
+ghost use Rattle.semantics.specs.Checking.{whileObligations};
+
+// 34, while: P met with K; same R, G; Q the pairs of W that end in P.
+pub fn while_tables(n: u32, work: &[u64], own: Names, k: u32, w: u32, child: Names) -> bool
+    ensures { λ out.
+        ⌜ out ≡ holds (c34while n (wordSpec n (now (work .entry)) own) (wordSet n (now (work .entry)) k)
+        (wordRelation n (now (work .entry)) w) (wordSpec n (now (work .entry)) child)) ⌝ }
+{
+    same_set(
+        n,
+        set_at(n, work, child.p),
+        set_at(n, work, own.p).meet(set_at(n, work, k)),
+    )
+        & same_relation(n, work, child.r, own.r)
+        & same_relation(n, work, child.g, own.g)
+        & is_ending_in(n, work, child.q, w, own.p)
+}
+
+fn descends_at(n: u32, work: &[u64], w: u32, s: u32) -> bool
+    ensures { λ out.
+        ⌜ out ≡ (holds (must (not (wordRelation n (now (work .entry)) w s s)))
+        && holds (inSet n (wordRelation n (now (work .entry)) w s)
+        (λ t. inSet n (wordRelation n (now (work .entry)) w t) (λ u. must (wordRelation n (now (work .entry)) w s u))))) ⌝ }
+{
+    let ends = row_at(n, work, w, s);
+    if ends.holds_state(s) {
+        false
+    } else {
+        leads_into(n, work, ends, w, ends)
+    }
+}
+
+// 51: W is transitive and has no (s,s).
+pub fn strict_order(n: u32, work: &[u64], w: u32) -> bool
+    ensures { λ out. ⌜ out ≡ holds (c51 n (wordRelation n (now (work .entry)) w)) ⌝ }
+{
+    let mut held = true;
+    for s in 0..n {
+        held = held & descends_at(n, work, w, s);
+    }
+    held
+}
+
+// 52: s in P, test true: s in K.
+pub fn enters_k(n: u32, work: &[u64], own: Names, k: u32, truth: StateSet) -> bool
+    ensures { λ out.
+        ⌜ out ≡ holds (c52 n (wordSpec n (now (work .entry)) own) (has truth) (wordSet n (now (work .entry)) k)) ⌝ }
+{
+    set_at(n, work, own.p)
+        .meet(truth)
+        .included(set_at(n, work, k))
+}
+
+// 53: s in P and K, (s,t) in R: t in K.
+pub fn keeps_k(n: u32, work: &[u64], own: Names, k: u32) -> bool
+    ensures { λ out.
+        ⌜ out ≡ holds (c53 n (wordSpec n (now (work .entry)) own) (wordSet n (now (work .entry)) k)) ⌝ }
+{
+    let set = set_at(n, work, k);
+    leads_into(n, work, set_at(n, work, own.p).meet(set), own.r, set)
+}
+
+// 54: s in P, test false, (s,t) in R: test false at t.
+pub fn stays_false(n: u32, work: &[u64], own: Names, falsity: StateSet) -> bool
+    ensures { λ out. ⌜ out ≡ holds (c54 n (wordSpec n (now (work .entry)) own) (has falsity)) ⌝ }
+{
+    leads_into(
+        n,
+        work,
+        set_at(n, work, own.p).meet(falsity),
+        own.r,
+        falsity,
+    )
+}
+
+fn rely_descends_at(n: u32, work: &[u64], p: u32, r: u32, w: u32, s: u32) -> bool
+    ensures { λ out.
+        ⌜ out ≡ holds (given (wordSet n (now (work .entry)) p s) (inSet n (wordRelation n (now (work .entry)) r s)
+        (λ t. must (eqb s t || wordRelation n (now (work .entry)) w s t)))) ⌝ }
+{
+    if set_at(n, work, p).holds_state(s) {
+        row_at(n, work, r, s).included(StateSet::single(s).join(row_at(n, work, w, s)))
+    } else {
+        true
+    }
+}
+
+// 55: s in P, (s,t) in R: s = t or (s,t) in W.
+pub fn rely_descends(n: u32, work: &[u64], own: Names, w: u32) -> bool
+    ensures { λ out.
+        ⌜ out ≡ holds (c55 n (wordSpec n (now (work .entry)) own) (wordRelation n (now (work .entry)) w)) ⌝ }
+{
+    let mut held = true;
+    for s in 0..n {
+        held = held & rely_descends_at(n, work, own.p, own.r, w, s);
+    }
+    held
+}
+
+// Whether each t of p with the test false, that is s or that w leads to from s, makes a pair (s,t) of Q.
+fn exit_satisfies_post_at(
+    n: u32,
+    work: &[u64],
+    own: Names,
+    w: u32,
+    p: StateSet,
+    falsity: StateSet,
+    s: u32,
+) -> bool
+    ensures { λ out.
+        ⌜ out ≡ all 64 (λ t. implies ((eqb t s || wordRelation n (now (work .entry)) w s t) && has p t && has falsity t)
+        (wordRelation n (now (work .entry)) (own .q) s t)) ⌝ }
+{
+    let rounds = StateSet::single(s).join(row_at(n, work, w, s));
+    rounds
+        .meet(p)
+        .meet(falsity)
+        .included(row_at(n, work, own.q, s))
+}
+
+// 56: s in P, t = s or (s,t) in W, t in P, test false at t: (s,t) in Q. The states of P are taken out one by one, the least first.
+pub fn exit_satisfies_post(n: u32, work: &[u64], own: Names, w: u32, falsity: StateSet) -> bool
+    ensures { λ out.
+        ⌜ out ≡ holds (c56 n (wordSpec n (now (work .entry)) own) (has falsity) (wordRelation n (now (work .entry)) w)) ⌝ }
+{
+    let p = set_at(n, work, own.p);
+    let mut rest = p;
+    let mut held = true;
+    while rest.bits != 0 {
+        let first = u64::trailing_zeros(rest.bits);
+        held = held & exit_satisfies_post_at(n, work, own, w, p, falsity, first);
+        rest = rest.without_least();
+    }
+    held
+}
+
+pub fn while_fault(
+    handler: &[u8],
+    head: Head,
+    work: &[u64],
+    own: Names,
+    k: u32,
+    w: u32,
+    child: Names,
+    fits: bool,
+    expr: usize,
+) -> NodeVerdict
+    ensures { λ r.
+        ⌜ r ≡ askedAll Holds (whileObligations (machineIn head) fits (wordSpec (machineIn head .states) (now (work .entry)) own)
+        (exprIn (now (handler .entry)) (head .count) expr) (wordSet (machineIn head .states) (now (work .entry)) k)
+        (wordRelation (machineIn head .states) (now (work .entry)) w) (wordSpec (machineIn head .states) (now (work .entry)) child)) ⌝ }
+{
+    let n = states_in(head);
+    let test = truths_at(handler, head, expr);
+    let truth = test.holds;
+    let falsity = test.fails;
+    let found = common(n, work, own, fits);
+    let found = ask(found, 34, while_tables(n, work, own, k, w, child));
+    let found = ask(found, 50, read_once(handler, head, moved(head, work, own), expr));
+    let found = ask(found, 51, strict_order(n, work, w));
+    let found = ask(found, 52, enters_k(n, work, own, k, truth));
+    let found = ask(found, 53, keeps_k(n, work, own, k));
+    let found = ask(found, 54, stays_false(n, work, own, falsity));
+    let found = ask(found, 55, rely_descends(n, work, own, w));
+    ask(found, 56, exit_satisfies_post(n, work, own, w, falsity))
+}
