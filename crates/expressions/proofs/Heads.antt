@@ -1,23 +1,25 @@
 -- What is known of the sizes that a head declares: by the number of sizes read.
 use Prim.Native.Nat.{ℕ, zero, suc, _+_, _-_, _*_, _≤_, _<_}
-use native.Mathlib.Nat.{mul-assoc, mul-one, one-mul, mul-le-mul-left}
+use native.Mathlib.Nat.{mul-assoc, mul-one, one-mul, mul-pos, mul-le-mul-left}
 use native.Mathlib.Omega.{arith}
-use borrow.Author.Tests.{leb-true, ltb-false, le-leb}
-use mathlib.Core.Bool.{Bool, true, false, cond, _&&_, _||_, true≢false}
+use borrow.Author.Tests.{leb-true, ltb-false, le-leb, eqb-true, eq-eqb}
+use mathlib.Core.Bool.{Bool, true, false, cond, _&&_, _||_, and-eq-true-iff, true≢false}
 use mathlib.Core.List.{List, [], _∷_, _++_}
-use mathlib.Core.Path.{_≡_, refl, sym, ap, _∙_}
+use mathlib.Core.Path.{_≡_, refl, sym, ap, ap₂, _∙_}
 use lib.Dec.{leb, ltb}
-use lib.ListN.{length, getD, replicate, length-append, getD-replicate}
-use lib.Seq.{take-append-seam}
+use lib.ListN.{length, getD, take, replicate, length-take, length-append, getD-replicate, List·getD-eq-default}
+use lib.Seq.{take-append-seam, getD-take}
 use Rattle.bits.specs.Fields.{fieldAt}
 use Rattle.bits.specs.declared.Field.{Field}
 use Rattle.bits.specs.declared.Field.the-variants.{Value, Missing}
 use Rattle.bits.proofs.Laws.{there}
-use Rattle.states.proofs.Search.{and-right, and-both, all-intro}
-use Rattle.semantics.specs.States.{product, machineOf}
+use Rattle.states.specs.Search.{all}
+use Rattle.states.proofs.Search.{and-left, and-right, and-both, all-intro, all-at}
+use Rattle.semantics.specs.States.{product, Machine, machineOf}
+use Rattle.expressions.specs.declared.head.Head.{Head}
 use Rattle.expressions.specs.declared.head.HeadFile.{HeadFile}
 use Rattle.expressions.specs.declared.head.HeadEnd.the-variants as end
-use Rattle.expressions.specs.Header.{HeadRead, declared, fault, sizeRead, addSize, sizesRead, countRead, headAt, headOf, headFile, isSize, isHead, sizesIn, machineIn}
+use Rattle.expressions.specs.Header.{HeadRead, declared, fault, sizeRead, addSize, sizesRead, countRead, headAt, headOf, headFile, isSize, inLimits, isHead, sizesIn, machineIn}
 
 -- What is known after k sizes.
 pub record Sized (k at : ℕ) (sizes : List ℕ) : Type 0 where
@@ -95,6 +97,76 @@ getD-padded [] n v h = getD-replicate n v 1 0 (omega arith)
 getD-padded (size ∷ sizes) n zero h = refl
 getD-padded (size ∷ sizes) n (suc v) h = getD-padded sizes n v (omega arith)
 
+-- A declared variable's size is its entry of the array; that of another is 1.
+pub size-past : (head : Head) (v : ℕ) → head .count ≤ v → getD (sizesIn head) v 1 ≡ 1
+unfolding sizesIn
+size-past head v h = List·getD-eq-default (sizesIn head) 1 {n = v} (omega (arith, length-take (head .count) (head .sizes)))
+
+pub size-at : (head : Head) (v : ℕ) → v < length (head .sizes) → v < head .count → getD (sizesIn head) v 1 ≡ getD (head .sizes) v 0
+unfolding sizesIn
+size-at head v there few = getD-take (head .count) (head .sizes) v 1 few ∙ either (head .sizes) v there
+  where
+    either : (l : List ℕ) (i : ℕ) → i < length l → getD l i 1 ≡ getD l i 0
+    either [] i h = absurd (omega arith)
+    either (x ∷ l) zero h = refl
+    either (x ∷ l) (suc i) h = either l i (omega arith)
+
+-- What is known of a head whose numbers are within the limits.
+pub record Limited (head : Head) : Type 0 where
+  pub few : head .count ≤ 4
+  pub most : head .states ≤ 64
+  pub each : (v : ℕ) → getD (sizesIn head) v 1 ≤ 16
+  pub least : 1 ≤ product (sizesIn head)
+
+sizes-small : (k : ℕ) (l : List ℕ) → ((v : ℕ) → v < k → isSize (getD l v 0) ≡ true)
+    → ((v : ℕ) → getD (take k l) v 1 ≤ 16) × (1 ≤ product (take k l))
+sizes-small zero l each = (λ v. omega arith, omega arith)
+sizes-small (suc k) [] each = (λ v. omega arith, omega arith)
+sizes-small (suc k) (size ∷ l) each =
+    let own = each 0 (omega arith) in
+    let rest = sizes-small k l (λ v h. each (suc v) (omega arith)) in
+    (either (rest .0) (leb-true size 16 (and-right (leb 1 size) _ own)), mul-pos (leb-true 1 size (and-left (leb 1 size) _ own)) (rest .1))
+  where
+    either : ((v : ℕ) → getD (take k l) v 1 ≤ 16) → size ≤ 16 → (v : ℕ) → getD (size ∷ take k l) v 1 ≤ 16
+    either rest own zero = own
+    either rest own (suc v) = rest v
+
+pub limited : (head : Head) → inLimits head ≡ true → Limited head
+unfolding inLimits sizesIn
+limited head h =
+    let both = and-left (leb (head .count) 4 && leb (head .states) 64) _ h in
+    let few = leb-true (head .count) 4 (and-left (leb (head .count) 4) _ both) in
+    let sizes = all-at 4 _ (and-right (leb (head .count) 4 && leb (head .states) 64) _ h) in
+    let known = sizes-small (head .count) (head .sizes) (λ v l. sizes v (omega arith)) in
+    record { few = few; most = leb-true (head .states) 64 (and-right (leb (head .count) 4) _ both); each = known .0; least = known .1 }
+
+-- What is known of a head that is such as a file's.
+pub record KnownHead (head : Head) : Type 0 where
+  pub least : 1 ≤ product (sizesIn head)
+  pub most : product (sizesIn head) ≤ 64
+  pub machine : machineIn head ≡ machineOf (sizesIn head)
+
+pub known-head : (head : Head) → isHead head ≡ true → KnownHead head
+unfolding isHead machineIn
+known-head head h =
+    let known = limited head (and-left (inLimits head) _ h) in
+    let total : head .states ≡ product (sizesIn head) = eqb-true (head .states) _ (and-right (inLimits head) _ h) in
+    let m = machineOf (sizesIn head) in
+    record {
+      least = known .least;
+      most = rw (← total) (known .most);
+      machine = rw h (ap {B = Machine} (λ n. record { states = n; get = m .get; store = m .store }) total);
+    }
+
+-- The product of at most four sizes.
+pub product-four : (sizes : List ℕ) → length sizes ≤ 4 → getD sizes 0 1 * (getD sizes 1 1 * (getD sizes 2 1 * getD sizes 3 1)) ≡ product sizes
+product-four [] h = refl
+product-four (a ∷ []) h = refl
+product-four (a ∷ b ∷ []) h = refl
+product-four (a ∷ b ∷ c ∷ []) h = refl
+product-four (a ∷ b ∷ c ∷ d ∷ []) h = rw (mul-one d)
+product-four (a ∷ b ∷ c ∷ d ∷ e ∷ sizes) h = absurd (omega arith)
+
 -- What a head by value says of the head that was read.
 pub record FoundHead (h : HeadRead) (file : HeadFile) (at : ℕ) : Type 0 where
   pub sizes : List ℕ
@@ -128,20 +200,21 @@ pub record Declared (sizes : List ℕ) (at : ℕ) : Type 0 where
   pub machine : machineIn (headOf sizes) ≡ machineOf sizes
 
 declares : (sizes : List ℕ) (k at : ℕ) → k ≤ 4 → Sized k at sizes → Declared sizes at
-unfolding isHead headOf machineIn
+unfolding inLimits isHead headOf
 declares sizes k at few known =
     let same = known .counted in
-    let fits : isHead (headOf sizes) ≡ true =
+    let limits : inLimits (headOf sizes) ≡ true =
     and-both _ _ (and-both _ _ (le-leb (length sizes) 4 (omega arith)) (le-leb _ 64 (known .most)))
     (all-intro 4 (λ v. isSize (getD (sizes ++ replicate (4 - length sizes) 1) v 0))
     (λ v small. rw (getD-padded sizes (4 - length sizes) v (omega arith)) (and-both _ _ (le-leb 1 _ (known .each v .0)) (le-leb _ 16 (known .each v .1))))) in
+    let fits : isHead (headOf sizes) ≡ true = and-both _ _ limits (eq-eqb (product sizes) _ (rw (sizes-of sizes))) in
     record {
       few = omega arith;
       starts = omega arith;
       least = known .least;
       most = known .most;
       head = fits;
-      machine = rw (fits, sizes-of sizes);
+      machine = known-head (headOf sizes) fits .machine ∙ ap machineOf (sizes-of sizes);
     }
 
 pub head-read : (s : List ℕ) (sizes : List ℕ) (at : ℕ) → headAt s ≡ declared sizes at → Declared sizes at

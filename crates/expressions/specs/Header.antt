@@ -3,7 +3,7 @@
 use Prim.Native.Nat.{ℕ, zero, suc, _-_, _*_}
 use mathlib.Core.Bool.{Bool, cond, _&&_, _||_}
 use mathlib.Core.List.{List, [], _∷_, _++_}
-use lib.Dec.{leb, ltb}
+use lib.Dec.{leb, ltb, eqb}
 use lib.ListN.{length, getD, take, replicate}
 use Rattle.bits.specs.Fields.{bitLength, fieldAt}
 use Rattle.bits.specs.declared.Field.{Field}
@@ -56,16 +56,20 @@ abbrev pub headFile : HeadRead → HeadFile
 headFile (declared sizes at) = record { head = headOf sizes; end = end.Statement at }
 headFile (fault k place) = record { head = noHead; end = end.Fault k place }
 
--- Whether the numbers are such as a file's head has: at most 4 variables, sizes of 1 to 16, at most 64 states.
-abbrev pub isSize : ℕ → Bool
-isSize size = leb 1 size && leb size 16
-
-unfoldable pub isHead : Head → Bool
-isHead head = leb (head .count) 4 && leb (head .states) 64 && all 4 (λ v. isSize (getD (head .sizes) v 0))
-
 -- The sizes of the variables of a head.
 unfoldable pub sizesIn : Head → List ℕ
 sizesIn head = take (head .count) (head .sizes)
+
+-- Whether the numbers are within the limits of a file's head: at most 4 variables, sizes of 1 to 16, at most 64 states.
+abbrev pub isSize : ℕ → Bool
+isSize size = leb 1 size && leb size 16
+
+unfoldable pub inLimits : Head → Bool
+inLimits head = leb (head .count) 4 && leb (head .states) 64 && all 4 (λ v. isSize (getD (head .sizes) v 0))
+
+-- Whether the numbers are such as a file's head has: within the limits, and the states as many as the sizes give.
+unfoldable pub isHead : Head → Bool
+isHead head = inLimits head && eqb (head .states) (product (sizesIn head))
 
 -- The variables of a head as steps see them; there is no state where the numbers are not such as a file's head has.
 unfoldable pub machineIn : Head → Machine

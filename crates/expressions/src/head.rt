@@ -5,8 +5,11 @@ use crate::codes::STATES;
 use crate::codes::VARIABLES;
 use bits::Field;
 ghost use mathlib.Core.Path.{_≡_};
+ghost use mathlib.Core.Bool.{true};
 ghost use Prim.Native.Nat.{_+_, _<_};
-ghost use Rattle.expressions.specs.Header.{fault, sizesRead, headAt, noHead, headFile, isSize, isHead};
+ghost use lib.ListN.{getD};
+ghost use Rattle.semantics.specs.States.{product};
+ghost use Rattle.expressions.specs.Header.{fault, sizesRead, headAt, noHead, headFile, isSize, inLimits, isHead, sizesIn, machineIn};
 
 // Document 01: 1 to 4 variables, sizes of 2 to 16, at most 64 states.
 const MOST_VARIABLES: u64 = 4;
@@ -128,11 +131,51 @@ fn is_size(size: u32) -> bool
     (1 <= size) & (size as u64 <= MOST_SIZE)
 }
 
-// Whether the numbers are such as a file's head has.
-pub fn is_head(head: Head) -> bool
-    ensures { λ r. ⌜ r ≡ isHead head ⌝ }
+// The size of variable v; 1 where it is not declared.
+pub fn size_of(head: Head, v: u32) -> u32
+    ensures { λ r. ⌜ r ≡ getD (sizesIn head) v 1 ⌝ }
+{
+    if v >= head.count {
+        return 1;
+    }
+    if v as u64 >= MOST_VARIABLES {
+        return 1;
+    }
+    let sizes = head.sizes;
+    sizes[v as usize]
+}
+
+// Whether the numbers are within the limits of a file's head.
+fn in_limits(head: Head) -> bool
+    ensures { λ r. ⌜ r ≡ inLimits head ⌝ }
 {
     let few = (head.count as u64 <= MOST_VARIABLES) & (head.states as u64 <= MOST_STATES);
     let sizes = head.sizes;
     few & (is_size(sizes[0]) & is_size(sizes[1]) & is_size(sizes[2]) & is_size(sizes[3]))
+}
+
+// The product of the sizes, which are small, so that it fits.
+fn product_of(head: Head) -> u32
+    requires { ⌜ inLimits head ≡ true ⌝ }
+    ensures { λ r. ⌜ r ≡ product (sizesIn head) ⌝ }
+{
+    size_of(head, 0) * (size_of(head, 1) * (size_of(head, 2) * size_of(head, 3)))
+}
+
+// Whether the numbers are such as a file's head has.
+pub fn is_head(head: Head) -> bool
+    ensures { λ r. ⌜ r ≡ isHead head ⌝ }
+{
+    if in_limits(head) {
+        head.states == product_of(head)
+    } else {
+        false
+    }
+}
+
+// How many states there are: none where the numbers are not such as a file's head has.
+pub fn states_in(head: Head) -> u32
+    ensures { λ r. ⌜ r ≡ machineIn head .states ⌝ }
+{
+    if is_head(head) { head.states } else { 0 }
 }

@@ -1,18 +1,17 @@
 -- The tests are the definition's.
+use mathlib.Core.Path.{_≡_, sym, _∙_}
 use borrow.Author.Needs.{needs}
-use Rattle.states.specs.Search.{all}
 use Rattle.expressions.specs.Header.{isHead}
 use Rattle.expressions.proofs.head.is_head.Statement.{statement}
 use Rattle.expressions.proofs.head.is_head.Tie as tie
 
 returns : tie.Need-returns
-unfolding isHead all
-returns c = rw (c .before .before .before .is-size .ensures, c .before .before .is-size2 .ensures, c .before .is-size3 .ensures, c .is-size4 .ensures)
+unfolding isHead
+returns c = rw (sym (c .before .before .before .in-limits .ensures) ∙ c .before .before .if1 .taken, c .before .product-of .ensures)
+
+returns-2 : tie.Need-returns-2
+unfolding isHead
+returns-2 c = rw (sym (c .before .in-limits .ensures) ∙ c .if1 .left)
 
 pub is-head-spec : {M : Type 1} → statement M
-is-head-spec =
-    tie.close
-    (tie.spec
-    (λ c. search needs) (λ c. search needs) (λ c. search needs) (λ c κs. search needs) (λ c. search needs) (λ c κs. search needs)
-    (λ c. search needs) (λ c κs. search needs) (λ c. search needs) (λ c κs. search needs)
-    returns)
+is-head-spec = tie.close (tie.spec (λ c κs. search needs) (λ c κs. sym (c .before .in-limits .ensures) ∙ c .if1 .taken) returns returns-2)
