@@ -1,4 +1,5 @@
--- Worked examples by computation: document 01's files, and each of 10 to 18 with its place.
+-- Worked examples by computation: document 01's handler file, and 10 to 18 with their places, save the cases that the document
+-- marks: those are in `twelve` of crate report.
 use Prim.Native.Nat.{ℕ, _+_, _*_, _^_}
 use mathlib.Core.List.{List, [], _∷_, _++_}
 use mathlib.Core.Path.{_≡_, refl}
@@ -46,7 +47,7 @@ loops = 0x48 ∷ 0x45 ∷ 0x75 ∷ 0xD7 ∷ 0x5D ∷ 0x75 ∷ 0xD7 ∷ 0x5D ∷ 
 
 pub handlers :
     (readHandler (0x22 ∷ 0x20 ∷ 0x02 ∷ []) ≡ handler (2 ∷ []) 8 (assign 0 (lit (int (pos 1)))))
-    × (readHandler (0x30 ∷ 0x00 ∷ []) ≡ handler (16 ∷ []) 8 nil) × (readHandler (0x48 ∷ 0x40 ∷ []) ≡ handler (8 ∷ 8 ∷ []) 13 nil)
+    × (readHandler (0x30 ∷ 0x00 ∷ []) ≡ handler (16 ∷ []) 8 nil)
     × (fileOf (readHandler (0x22 ∷ 0x20 ∷ 0x02 ∷ [])) ≡ record {
       found = Handler (record { at = 8; statements = 1; steps = 1 });
       head = record { count = 1; sizes = 2 ∷ 1 ∷ 1 ∷ 1 ∷ []; states = 2 };
@@ -56,15 +57,14 @@ pub handlers :
     × (fileOf (readHandler loops) .found ≡ Handler (record { at = 13; statements = 16; steps = 2 ^ 32 }))
     × (fileOf (readHandler []) .head ≡ noHead)
 unfolding opened
-handlers = (refl, refl, refl, refl, refl, refl, refl)
+handlers = (refl, refl, refl, refl, refl, refl)
 
--- 10: the end, the size that is not there, the code that is not there on the 17th level. 11. 12, before 13. 13.
+-- 10: the code that is not there on the 17th level. 11. 12, before 13.
 pub heads :
-    (readHandler [] ≡ refused 10 0) × (readHandler (0x22 ∷ []) ≡ refused 10 8) × (readHandler deep ≡ refused 10 56)
-    × (readHandler (0x00 ∷ []) ≡ refused 11 0) × (readHandler (0xA0 ∷ []) ≡ refused 11 0) × (readHandler (0x21 ∷ []) ≡ refused 12 3)
-    × (readHandler (0x31 ∷ []) ≡ refused 12 3) × (readHandler (0x4D ∷ 0x88 ∷ []) ≡ refused 12 8) × (readHandler (0x4D ∷ 0x28 ∷ []) ≡ refused 13 8)
+    (readHandler deep ≡ refused 10 56) × (readHandler (0x00 ∷ []) ≡ refused 11 0) × (readHandler (0xA0 ∷ []) ≡ refused 11 0)
+    × (readHandler (0x21 ∷ []) ≡ refused 12 3) × (readHandler (0x31 ∷ []) ≡ refused 12 3) × (readHandler (0x4D ∷ 0x88 ∷ []) ≡ refused 12 8)
 unfolding opened
-heads = (refl, refl, refl, refl, refl, refl, refl, refl, refl)
+heads = (refl, refl, refl, refl, refl, refl)
 
 -- 14: code 6, operation 7. 15: a target, a variable. 17, before the code is judged: the level, the node, the statement.
 pub nodes :
@@ -75,10 +75,9 @@ pub nodes :
 unfolding opened
 nodes = (refl, refl, refl, refl, refl, refl, refl, refl)
 
--- 16: an assigned truth value, an operand of +. 18: the last fill bit, a further byte, before 16.
+-- 16: an assigned truth value, an operand of +. 18: a further byte, a fill bit before 16.
 pub ends :
     (readHandler (0x22 ∷ 0x23 ∷ []) ≡ refused 16 13) × (readHandler (0x22 ∷ 0x26 ∷ 0x1C ∷ 0x00 ∷ []) ≡ refused 16 18)
-    × (readHandler (0x22 ∷ 0x20 ∷ 0x03 ∷ []) ≡ refused 18 23) × (readHandler (0x22 ∷ 0x20 ∷ 0x02 ∷ 0x00 ∷ []) ≡ refused 18 24)
-    × (readHandler (0x22 ∷ 0x23 ∷ 0x80 ∷ []) ≡ refused 18 16)
+    × (readHandler (0x22 ∷ 0x20 ∷ 0x02 ∷ 0x00 ∷ []) ≡ refused 18 24) × (readHandler (0x22 ∷ 0x23 ∷ 0x80 ∷ []) ≡ refused 18 16)
 unfolding opened
-ends = (refl, refl, refl, refl, refl)
+ends = (refl, refl, refl, refl)

@@ -10,4 +10,3 @@ pub mod Storing
 pub mod Conditions
 pub mod Clear
 pub mod Soundness
-pub mod Cases

@@ -1,11 +1,13 @@
--- `semantics::row_of` meets its contract: the test on the code says which case of `rowOf` holds.
+-- `semantics::row_of` meets its contract: the test on the code says which case of `rowOf` holds. `refl` is written out so that a
+-- refusal shows where the two sides differ.
+use mathlib.Core.Path.{refl}
 use borrow.Author.Needs.{needs}
 use borrow.Author.Tests.{lt-ltb, le-ltb}
 use Rattle.semantics.proofs.row_of.Statement.{statement}
 use Rattle.semantics.proofs.row_of.Tie as tie
 
 returns : tie.Need-returns
-returns c = simp (lt-ltb _ _ (c .before .before .before .before .if1 .taken))
+returns c = simp (lt-ltb _ _ (c .before .before .before .before .if1 .taken)) refl
 
 returns-2 : tie.Need-returns-2
 returns-2 c = simp (le-ltb _ _ (c .if1 .left))
