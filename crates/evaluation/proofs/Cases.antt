@@ -2,15 +2,18 @@
 use Prim.Native.Nat.{ℕ}
 use mathlib.Core.Bool.{true, false}
 use mathlib.Core.List.{List, [], _∷_, map}
-use mathlib.Core.Option.{some}
+use mathlib.Core.Option.{none, some}
 use mathlib.Core.Path.{_≡_, refl}
 use lib.IntN.{pos, negsuc}
+use Rattle.states.specs.Search.{all}
 use Rattle.semantics.specs.Language.{int}
-use Rattle.evaluation.specs.declared.After.the-variants.{State, OutOfRange}
+use Rattle.semantics.specs.States.{value}
+use Rattle.semantics.specs.Conditions.{isTrue, isFalse, afterStore}
 use Rattle.bits.specs.Fields.{bitLength, bitAt, bitsAt, isThere, fieldAt}
-use Rattle.expressions.specs.Header.{sizeRead, addSize, sizesRead, countRead, headerAt, sizesOf}
+use Rattle.expressions.specs.declared.head.Head.{Head}
+use Rattle.expressions.specs.Header.{headOf, inLimits, isHead, sizesIn, machineIn}
 use Rattle.expressions.specs.Expressions.{signed, integerHead, truthHead, variableHead, operationHead, payloadHead, tagHead, exprHead, exprAt, wholeExpr}
-use Rattle.evaluation.specs.Values.{machineAt, valueAt, whereAt, afterAt, agreeAt, variableAt, isSmall, agreeIn}
+use Rattle.evaluation.specs.Values.{exprIn, agree, variableIn, isSmall, agreeIn}
 
 -- Variables 0 and 1, at bits 13 and 17.
 two-variables : List ℕ
@@ -24,23 +27,31 @@ difference = 66 ∷ 30 ∷ 98 ∷ 64 ∷ []
 less : List ℕ
 less = 66 ∷ 30 ∷ 164 ∷ 2 ∷ []
 
--- Values 1 and 2 are state 5; a difference below 0 is exact; the test is true at the states whose variable 1 is 0 or 1.
--- At state 5, a store of 1 in variable 1 leads to state 4; of 2, its size, in variable 0, nowhere; nor does a store at 6, which is
--- no state, or of what is no expression. States 5 and 3 agree in variable 0 and not in variable 1. Of the 6 states one more of variable 0's
--- value counts 3, and it has 2 values; with a weight of 0 no states agree.
+two : Head
+two = headOf (2 ∷ 3 ∷ [])
+
+-- As many variables, and a state too many.
+wrong : Head
+wrong = record { count = 2; sizes = 2 ∷ 3 ∷ 1 ∷ 1 ∷ []; states = 7 }
+
+-- Values 1 and 2 are state 5; a difference below 0 is exact; the test is true at the states whose variable 1 is 0 or 1, and false at
+-- the others; 6 is no state. At state 5, a store of 1 in variable 1 leads to state 4; of 2, its size, in variable 0, nowhere, as of what
+-- cannot be read. States 5 and 3 agree in variable 0 and not in variable 1. Of the 6 states one more of variable 0's value counts
+-- 3, and it has 2 values; with a weight of 0 no states agree. With a state too many there is none.
 values :
-    (valueAt two-variables 13 5 ≡ some (int (pos 1)))
-    × (valueAt two-variables 17 5 ≡ some (int (pos 2)))
-    × (valueAt difference 13 5 ≡ some (int (negsuc 0)))
-    × (map (whereAt less true 13) (0 ∷ 1 ∷ 2 ∷ 3 ∷ 4 ∷ 5 ∷ 6 ∷ []) ≡ true ∷ true ∷ false ∷ true ∷ true ∷ false ∷ false ∷ [])
-    × (afterAt two-variables 1 13 5 ≡ State 4)
-    × (afterAt two-variables 0 17 5 ≡ OutOfRange)
-    × (afterAt two-variables 1 13 6 ≡ OutOfRange)
-    × (afterAt two-variables 1 24 5 ≡ OutOfRange)
-    × (agreeAt two-variables 0 5 3 ≡ true)
-    × (agreeAt two-variables 1 5 3 ≡ false)
-    × (variableAt two-variables 0 ≡ record { states = 6; weight = 3; size = 2 })
+    (value (machineIn two) (exprIn two-variables 2 13) 5 ≡ some (int (pos 1)))
+    × (value (machineIn two) (exprIn two-variables 2 17) 5 ≡ some (int (pos 2)))
+    × (value (machineIn two) (exprIn difference 2 13) 5 ≡ some (int (negsuc 0)))
+    × (map (isTrue (machineIn two) (exprIn less 2 13)) (0 ∷ 1 ∷ 2 ∷ 3 ∷ 4 ∷ 5 ∷ 6 ∷ []) ≡ true ∷ true ∷ false ∷ true ∷ true ∷ false ∷ false ∷ [])
+    × (map (isFalse (machineIn two) (exprIn less 2 13)) (0 ∷ 1 ∷ 2 ∷ 3 ∷ 4 ∷ 5 ∷ 6 ∷ []) ≡ false ∷ false ∷ true ∷ false ∷ false ∷ true ∷ false ∷ [])
+    × (afterStore (machineIn two) 1 (exprIn two-variables 2 13) 5 ≡ some 4)
+    × (afterStore (machineIn two) 0 (exprIn two-variables 2 17) 5 ≡ none)
+    × (afterStore (machineIn two) 1 (exprIn two-variables 2 24) 5 ≡ none)
+    × (agree (machineIn two) 0 5 3 ≡ true)
+    × (agree (machineIn two) 1 5 3 ≡ false)
+    × (variableIn two 0 ≡ record { states = 6; weight = 3; size = 2 })
     × (agreeIn (record { states = 6; weight = 3; size = 2 }) 5 3 ≡ true)
     × (agreeIn (record { states = 6; weight = 0; size = 2 }) 5 3 ≡ false)
-unfolding two-variables difference less headerAt countRead sizesRead addSize sizeRead sizesOf fieldAt isThere bitsAt bitAt bitLength exprHead tagHead payloadHead integerHead truthHead variableHead operationHead signed exprAt wholeExpr machineAt valueAt whereAt afterAt agreeAt variableAt isSmall agreeIn
-values = (refl, refl, refl, refl, refl, refl, refl, refl, refl, refl, refl, refl, refl)
+    × (machineIn wrong .states ≡ 0)
+unfolding two-variables difference less two wrong all headOf inLimits isHead sizesIn machineIn fieldAt isThere bitsAt bitAt bitLength exprHead tagHead payloadHead integerHead truthHead variableHead operationHead signed exprAt wholeExpr isTrue isFalse afterStore exprIn agree variableIn isSmall agreeIn
+values = (refl, refl, refl, refl, refl, refl, refl, refl, refl, refl, refl, refl, refl, refl)

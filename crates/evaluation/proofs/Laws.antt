@@ -1,84 +1,82 @@
--- What the values of a file are where its head was read and an expression stands at the cursor: laws for callers.
-use Prim.Native.Nat.{ℕ, suc, _+_, _≤_, _<_}
+-- What the variables of a head and the expression at a cursor are: laws for callers.
+use Prim.Native.Nat.{ℕ, suc, _+_, _/_, _≤_, _<_}
 use native.Mathlib.Numerals.{add-one}
+use native.Mathlib.Nat.{mod-one, mod-lt}
 use native.Mathlib.Omega.{arith}
 use borrow.Author.Tests.{leb-true, ltb-true, lt-ltb, le-ltb, le-leb, eqb-true, eq-eqb}
-use mathlib.Core.Bool.{Bool, true, false, _&&_, _||_}
+use mathlib.Core.Bool.{Bool, true, false, cond, _&&_, _||_, false≢true}
 use mathlib.Core.List.{List}
 use mathlib.Core.Logic.{⊎-elim}
-use mathlib.Core.Option.{Option}
-use mathlib.Core.Path.{_≡_, refl, sym, _∙_}
+use mathlib.Core.Option.{Option, none, some}
+use mathlib.Core.Path.{_≡_, refl, sym, ap, _∙_}
 use lib.Dec.{leb, ltb, eqb}
-use lib.IntN.{pos}
+use lib.IntN.{ℤ, pos, negsuc}
 use lib.ListN.{getD}
+use lib.Signed.{mag}
 use Rattle.states.specs.declared.StateSet.{StateSet}
 use Rattle.states.specs.Sets.{has}
 use Rattle.states.proofs.Search.{and-left, and-right, and-both, or-left, or-right, or-cases, bool-ext, below-cases}
-use Rattle.semantics.specs.Language.{Val, Expr, eqZ}
-use Rattle.semantics.specs.States.{weight, valueOf, machineOf, value, isTruth, storeOf}
-use Rattle.expressions.specs.declared.Header.{Header}
-use Rattle.expressions.specs.declared.Header.the-variants.{Sizes, Fault}
-use Rattle.evaluation.specs.declared.Variable.{Variable}
-use Rattle.evaluation.specs.declared.After.the-variants.{OutOfRange}
-use Rattle.expressions.specs.Header.{headerAt, sizesOf}
+use Rattle.semantics.specs.Language.{Val, int, truth, Expr, eqZ}
+use Rattle.semantics.specs.States.{product, weight, valueOf, stored, machineOf, value, storeOf}
+use Rattle.semantics.specs.Conditions.{afterStore}
+use Rattle.semantics.proofs.Storing.{store-read}
+use Rattle.expressions.specs.declared.head.Head.{Head}
+use Rattle.expressions.specs.Header.{isHead, sizesIn, machineIn}
 use Rattle.expressions.specs.Expressions.{good, wholeExpr}
-use Rattle.evaluation.specs.Values.{countOf, statesOf, afterOf, machineAt, valueAt, whereAt, afterAt, agreeAt, variableAt, isSmall, agreeIn}
-use Rattle.expressions.proofs.Heads.{head-read}
-use Rattle.evaluation.proofs.Sizes.{sound}
+use Rattle.expressions.proofs.Heads.{size-past, known-head}
+use Rattle.evaluation.specs.declared.Variable.{Variable}
+use Rattle.evaluation.specs.Values.{exprIn, leadsTo, agree, variableIn, valueBy, isSmall, agreeIn}
+use Rattle.evaluation.specs.Refinement.{storedBy}
+use Rattle.evaluation.proofs.Sizes.{later-sizes, one-size}
 
--- Where the head was read.
-module _ (bytes : List ℕ) (count n first : ℕ) (head : headerAt bytes ≡ Sizes count n first) where
-  pub states-read : machineOf (sizesOf bytes count) .states ≡ n
-  states-read = sym (head-read bytes count n first head .sized .total)
+-- Where an expression can be read at the cursor.
+pub expr-read : (bytes : List ℕ) (count at : ℕ) (e : Expr) (nodes next : ℕ) → wholeExpr bytes count at ≡ good e nodes next → exprIn bytes count at ≡ e
+unfolding exprIn
+expr-read bytes count at e nodes next read = rw read
 
-  pub at-most : n ≤ 64
-  at-most = head-read bytes count n first head .sized .most
+-- A variable that is not declared has one value.
+pub get-past : (head : Head) (v s t : ℕ) → head .count ≤ v → machineIn head .get s v ≡ machineIn head .get t v
+unfolding machineIn
+get-past head v s t h = rw (size-past head v h) (ap pos (mod-one (s / weight (sizesIn head) v) ∙ sym (mod-one (t / weight (sizesIn head) v))))
 
-  pub count-read : count ≡ countOf (headerAt bytes)
-  count-read = rw head
+-- Where there is a state, the head is such as a file's.
+state-head : (head : Head) (s : ℕ) → s < machineIn head .states → isHead head ≡ true
+unfolding machineIn
+state-head head s = by (isHead head)
+  where
+    by : (b : Bool) → s < cond b (head .states) 0 → b ≡ true
+    by true below = refl
+    by false below = absurd (omega arith)
 
-  pub where-here : (wanted : Bool) (at s : ℕ) → whereAt bytes wanted at s ≡ (ltb s n && isTruth wanted (valueAt bytes at s))
-  unfolding whereAt
-  where-here wanted at s = rw head
+pub states-most : (head : Head) → machineIn head .states ≤ 64
+unfolding machineIn
+states-most head = by (isHead head) refl
+  where
+    by : (b : Bool) → isHead head ≡ b → machineIn head .states ≤ 64
+    by true h = rw h (omega (arith, known-head head h))
+    by false h = rw h (omega arith)
 
-  pub after-here : (v at s : ℕ) → s < n → (o : Option Val) → o ≡ valueAt bytes at s
-      → afterAt bytes v at s ≡ afterOf (storeOf (machineOf (sizesOf bytes count)) s v o)
-  unfolding afterAt machineAt
-  after-here v at s below o e = rw (head, lt-ltb s n below, ← e)
+-- A store leads from a state to a state.
+stored-below : (sizes : List ℕ) (v : ℕ) (e : Expr) (s t : ℕ) → s < product sizes
+    → leadsTo (afterStore (machineOf sizes) v e s) t ≡ true → t < product sizes
+unfolding afterStore
+stored-below sizes v e s t below = by (value (machineOf sizes) e s)
+  where
+    to : (z : ℤ) (o : Option ℕ) → stored sizes s v z ≡ o → leadsTo o t ≡ true → t < product sizes
+    to z none made leads = absurd (false≢true leads)
+    to z (some s′) made leads = rw (← eqb-true s′ t leads) (store-read sizes s v z s′ below made .state)
 
-  pub agree-here : (v s t : ℕ) → let m = machineOf (sizesOf bytes count) in
-      agreeAt bytes v s t ≡ (ltb s n && ltb t n && eqZ (m .get s v) (m .get t v))
-  unfolding agreeAt machineAt
-  agree-here v s t = rw head
+    by : (o : Option Val) → leadsTo (storeOf (machineOf sizes) s v o) t ≡ true → t < product sizes
+    by none leads = absurd (false≢true leads)
+    by (some (int z)) leads = to z (stored sizes s v z) refl leads
+    by (some (truth b)) leads = absurd (false≢true leads)
 
-  -- Where an expression stands at the cursor.
-  module _ (at : ℕ) (e : Expr) (nodes next : ℕ) (read : wholeExpr bytes count at ≡ good e nodes next) where
-    pub value-read : (s : ℕ) → valueAt bytes at s ≡ value (machineOf (sizesOf bytes count)) e s
-    unfolding valueAt machineAt
-    value-read s = rw (head, read)
-
-    pub where-read : (wanted : Bool) (s : ℕ) → whereAt bytes wanted at s ≡ (ltb s n && isTruth wanted (value (machineOf (sizesOf bytes count)) e s))
-    where-read wanted s = where-here wanted at s ∙ rw (value-read s)
-
-    pub after-read : (v s : ℕ) → s < n → let m = machineOf (sizesOf bytes count) in
-        afterAt bytes v at s ≡ afterOf (storeOf m s v (value m e s))
-    after-read v s below = after-here v at s below _ (sym (value-read s))
-
--- Where s is no state, as with a faulty head.
-module _ (bytes : List ℕ) (s : ℕ) (past : statesOf (headerAt bytes) ≤ s) where
-  pub where-past : (wanted : Bool) (at : ℕ) → whereAt bytes wanted at s ≡ false
-  unfolding whereAt
-  where-past wanted at = rw (le-ltb s (statesOf (headerAt bytes)) past)
-
-  pub after-past : (v at : ℕ) → afterAt bytes v at s ≡ OutOfRange
-  unfolding afterAt
-  after-past v at = rw (le-ltb s (statesOf (headerAt bytes)) past)
-
-pub fault-past : (bytes : List ℕ) (k place s : ℕ) → headerAt bytes ≡ Fault k place → statesOf (headerAt bytes) ≤ s
-fault-past bytes k place s head = rw head (omega arith)
-
-pub state-past : (bytes : List ℕ) (count n first s : ℕ) → headerAt bytes ≡ Sizes count n first → n ≤ s → statesOf (headerAt bytes) ≤ s
-state-past bytes count n first s head past = rw head past
+pub after-below : (head : Head) (v : ℕ) (e : Expr) (s t : ℕ) → s < machineIn head .states
+    → leadsTo (afterStore (machineIn head) v e s) t ≡ true → t < machineIn head .states
+after-below head v e s t below =
+    let all : s < machineIn head .states → leadsTo (afterStore (machineIn head) v e s) t ≡ true → t < machineIn head .states
+    = rw (known-head head (state-head head s below) .machine) (stored-below (sizesIn head) v e s t) in
+    all below
 
 -- Two numbers are the same as integers.
 same-number : (a b : ℕ) → eqZ (pos a) (pos b) ≡ eqb a b
@@ -109,29 +107,48 @@ small x h =
       short = leb-true (x .size) 64 (and-right (leb (x .states) 64 && ltb 0 (x .weight) && leb (x .weight) 64 && ltb 0 (x .size)) _ h);
     }
 
-states-most : (bytes : List ℕ) → statesOf (headerAt bytes) ≤ 64
-states-most bytes = by (headerAt bytes) refl
+-- A variable as the code carries it.
+pub variable-small : (head : Head) (v : ℕ) → isSmall (variableIn head v) ≡ true
+unfolding variableIn isSmall
+variable-small head v = by (isHead head) refl
   where
-    by : (h : Header) → headerAt bytes ≡ h → statesOf h ≤ 64
-    by (Sizes count n first) e = at-most bytes count n first e
-    by (Fault k place) e = omega arith
+    by : (b : Bool) → isHead head ≡ b → isSmall (variableIn head v) ≡ true
+    by true h =
+        let known = known-head head h in
+        let w = later-sizes (sizesIn head) (suc v) (known .least) in
+        let z = one-size (sizesIn head) v (known .least) in
+        rw (
+          h,
+          le-leb (head .states) 64 (omega (arith, known)),
+          lt-ltb 0 (weight (sizesIn head) v) (w .0),
+          le-leb (weight (sizesIn head) v) 64 (omega (arith, known)),
+          lt-ltb 0 (getD (sizesIn head) v 1) (z .0),
+          le-leb (getD (sizesIn head) v 1) 64 (omega (arith, known)),
+        )
+    by false h = rw h
 
--- Whether states agree in a variable is whether they agree in it as the code carries it.
-pub agree-variable : (bytes : List ℕ) (v s t : ℕ) → agreeIn (variableAt bytes v) s t ≡ agreeAt bytes v s t
-unfolding variableAt isSmall agreeIn agreeAt machineAt
-agree-variable bytes v s t =
-    let known = sound bytes (countOf (headerAt bytes)) refl in
-    let w = known .later (suc v) in
-    let z = known .size v in
-    let sizes = sizesOf bytes (countOf (headerAt bytes)) in
-    rw (
-      le-leb (statesOf (headerAt bytes)) 64 (states-most bytes),
-      lt-ltb 0 (weight sizes v) (w .0),
-      le-leb (weight sizes v) 64 (w .1),
-      lt-ltb 0 (getD sizes v 1) (z .0),
-      le-leb (getD sizes v 1) 64 (z .1),
-      same-number (valueOf sizes s v) (valueOf sizes t v),
-    )
+pub variable-values : (head : Head) (v n : ℕ) (x : Variable) (values : List ℤ) → x ≡ variableIn head v → n ≡ machineIn head .states
+    → ((s : ℕ) → s < n → getD values s (pos 0) ≡ pos (valueBy x s))
+    → (s : ℕ) → s < n → (getD values s (pos 0) ≡ machineIn head .get s v) × (mag (getD values s (pos 0)) < 128)
+unfolding machineIn variableIn
+variable-values head v n x values is all each s l =
+    let known = small x (ap isSmall is ∙ variable-small head v) in
+    let same : variableIn head v ≡ record { states = head .states; weight = weight (sizesIn head) v; size = getD (sizesIn head) v 1 }
+    = rw (state-head head s (rw all at l)) in
+    (each s l ∙ ap (λ y. pos (valueBy y s)) (is ∙ same), rw (each s l) (omega (arith, known, mod-lt (s / x .weight) (known .sized))))
+
+pub store-variable : (head : Head) (v s : ℕ) → s < machineIn head .states → (z : ℤ) → machineIn head .store s v z ≡ storedBy (variableIn head v) s z
+unfolding machineIn variableIn
+store-variable head v s below (pos n) = rw (state-head head s below)
+store-variable head v s below (negsuc n) = refl
+
+pub agree-variable : (head : Head) (v s t : ℕ) → agreeIn (variableIn head v) s t ≡ agree (machineIn head) v s t
+unfolding variableIn agreeIn agree machineIn
+agree-variable head v s t = by (isHead head) refl
+  where
+    by : (b : Bool) → isHead head ≡ b → agreeIn (variableIn head v) s t ≡ agree (machineIn head) v s t
+    by true h = rw (variable-small head v, h, same-number (valueOf (sizesIn head) s v) (valueOf (sizesIn head) t v))
+    by false h = rw (variable-small head v, h, le-ltb s 0 (omega arith))
 
 -- The states below k at which p is true: what a loop over the states keeps.
 abbrev pub Holds : (ℕ → Bool) → ℕ → StateSet → Type 0

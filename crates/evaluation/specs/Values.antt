@@ -1,104 +1,50 @@
--- Document 01, "States and steps": what an expression of the file is worth at a state, and what a store of it leads to.
-use Prim.Native.Nat.{ℕ, _+_, _-_, _*_, _/_, _%_, _≤_, _<_}
-use mathlib.Core.Path.{_≡_}
+-- Document 01, "States and steps": the expression at a cursor of the file, where a store leads, and the states that agree in a
+-- variable.
+use Prim.Native.Nat.{ℕ, _/_, _%_}
 use mathlib.Core.Bool.{Bool, false, cond, _&&_}
-use mathlib.Core.List.{List, [], _∷_}
+use mathlib.Core.List.{List}
 use mathlib.Core.Option.{Option, none, some}
 use lib.Dec.{leb, ltb, eqb}
-use lib.IntN.{ℤ, pos}
+use lib.IntN.{pos}
 use lib.ListN.{getD}
-use lib.Signed.{mag}
-use Rattle.states.specs.Sets.{has}
-use Rattle.semantics.specs.Language.{Val, int, truth, eqZ}
-use Rattle.semantics.specs.States.{Machine, machineOf, weight, value, isTruth, storeOf}
-use Rattle.expressions.specs.declared.Header.{Header}
-use Rattle.expressions.specs.declared.Header.the-variants as header
-use Rattle.evaluation.specs.declared.Worths.{Worths}
-use Rattle.evaluation.specs.declared.Variable.{Variable}
-use Rattle.evaluation.specs.declared.After.{After}
-use Rattle.evaluation.specs.declared.After.the-variants.{State, OutOfRange}
-use Rattle.expressions.specs.Header.{headerAt, sizesOf}
+use Rattle.semantics.specs.Language.{Expr, lit, op, int, eqZ}
+use Rattle.semantics.specs.States.{Machine, weight}
+use Rattle.expressions.specs.declared.head.Head.{Head}
+use Rattle.expressions.specs.Header.{isHead, sizesIn}
 use Rattle.expressions.specs.Expressions.{ExprRead, good, bad, wholeExpr}
+use Rattle.evaluation.specs.declared.Variable.{Variable}
 
--- The integer that a row has at a state, and the value: of kind 0 an integer, of kind 1 a truth value, else none.
-abbrev pub integerIn : Worths → ℕ → ℤ
-integerIn row s = getD (row .integers) s (pos 0)
+-- What was read, or an expression that has no variable and no value: operation 7 is not used.
+abbrev pub exprRead : ExprRead → Expr
+exprRead (good e nodes next) = e
+exprRead (bad k place) = op 7 (lit (int (pos 0))) (lit (int (pos 0)))
 
-abbrev pub valueIn : Worths → ℕ → Option Val
-valueIn row s = getD (some (int (integerIn row s)) ∷ some (truth (has (row .truths) s)) ∷ []) (row .kind) none
+-- The expression at a cursor of a file that declares so many variables.
+unfoldable pub exprIn : List ℕ → ℕ → ℕ → Expr
+exprIn bytes count at = exprRead (wholeExpr bytes count at)
 
--- What a row made of two others has at each of n states; it stands behind the right one, and its integers are hardly larger.
-abbrev pub Applied : ℕ → (ℕ → Option Val) → Worths → Worths → Worths → Type 0
-Applied n f left right row =
-    (row .nodes ≡ right .nodes) × (row .next ≡ right .next)
-    × ((s : ℕ) → s < n → (valueIn row s ≡ f s) × (mag (integerIn row s) ≤ mag (integerIn left s) + mag (integerIn right s) + 1))
+-- Whether a store leads to t; one that is out of range leads nowhere.
+abbrev pub leadsTo : Option ℕ → ℕ → Bool
+leadsTo none t = false
+leadsTo (some s′) t = eqb s′ t
 
--- What walking an expression promises of its row, by what reading finds: each state's value, and where there is one, what stands
--- behind the expression. Each node adds at most 128 to what an integer can be, and there are at most 31.
-abbrev pub Walked : ℕ → Machine → ℕ → Worths → ExprRead → Type 0
-Walked n m nodes row (good e after next) =
-    ((s : ℕ) → s < n → valueIn row s ≡ value m e s)
-    × (row .kind < 2 → (row .nodes ≡ after) × (row .next ≡ next) × (nodes < after) × (after ≤ 31)
-    × ((s : ℕ) → s < n → mag (integerIn row s) < 128 * (after - nodes)))
-Walked n m nodes row (bad k place) = 2 ≤ row .kind
+-- Whether s and t are states with the same value of variable v.
+unfoldable pub agree : Machine → ℕ → ℕ → ℕ → Bool
+agree m v s t = ltb s (m .states) && ltb t (m .states) && eqZ (m .get s v) (m .get t v)
 
--- The value at a state of an expression that was read; none of one that was not.
-abbrev pub valueRead : Machine → ℕ → ExprRead → Option Val
-valueRead m s (good e nodes next) = value m e s
-valueRead m s (bad k place) = none
+-- A variable as a state's number counts it; one that is not declared has one value. There is no state where the head is none.
+unfoldable pub variableIn : Head → ℕ → Variable
+variableIn head v =
+    cond (isHead head) (record { states = head .states; weight = weight (sizesIn head) v; size = getD (sizesIn head) v 1 })
+    (record { states = 0; weight = 1; size = 1 })
 
-abbrev pub afterOf : Option ℕ → After
-afterOf none = OutOfRange
-afterOf (some s) = State s
+abbrev pub valueBy : Variable → ℕ → ℕ
+valueBy x s = s / x .weight % x .size
 
--- Whether a store leads to t.
-abbrev pub leads : After → ℕ → Bool
-leads (State s) t = eqb s t
-leads OutOfRange t = false
-
--- How many variables a head declares, and how many states; none where it is faulty.
-abbrev pub countOf : Header → ℕ
-countOf (header.Sizes count n at) = count
-countOf (header.Fault k place) = 0
-
-abbrev pub statesOf : Header → ℕ
-statesOf (header.Sizes count n at) = n
-statesOf (header.Fault k place) = 0
-
--- The variables of a file.
-unfoldable pub machineAt : List ℕ → Machine
-machineAt bytes = machineOf (sizesOf bytes (countOf (headerAt bytes)))
-
--- The value at a state of the expression at a cursor; none where no expression stands there.
-unfoldable pub valueAt : List ℕ → ℕ → ℕ → Option Val
-valueAt bytes at s = valueRead (machineAt bytes) s (wholeExpr bytes (countOf (headerAt bytes)) at)
-
--- Whether s is a state at which the expression at a cursor is the wanted truth value.
-unfoldable pub whereAt : List ℕ → Bool → ℕ → ℕ → Bool
-whereAt bytes wanted at s = ltb s (statesOf (headerAt bytes)) && isTruth wanted (valueAt bytes at s)
-
--- Where a store in variable v of the expression at a cursor leads from s.
-unfoldable pub afterAt : List ℕ → ℕ → ℕ → ℕ → After
-afterAt bytes v at s =
-    cond (ltb s (statesOf (headerAt bytes))) (afterOf (storeOf (machineAt bytes) s v (valueAt bytes at s))) OutOfRange
-
--- Whether s and t are states that agree in variable v.
-unfoldable pub agreeAt : List ℕ → ℕ → ℕ → ℕ → Bool
-agreeAt bytes v s t =
-    ltb s (statesOf (headerAt bytes)) && ltb t (statesOf (headerAt bytes))
-    && eqZ (machineAt bytes .get s v) (machineAt bytes .get t v)
-
--- A variable as the code carries it; one that is not declared has one value, and there is no state where the head is faulty.
-unfoldable pub variableAt : List ℕ → ℕ → Variable
-variableAt bytes v =
-    let sizes = sizesOf bytes (countOf (headerAt bytes)) in
-    record { states = statesOf (headerAt bytes); weight = weight sizes v; size = getD sizes v 1 }
-
--- Whether the numbers are such as a file of at most 64 states has.
+-- Whether the numbers are such as a head of at most 64 states gives.
 unfoldable pub isSmall : Variable → Bool
 isSmall x = leb (x .states) 64 && ltb 0 (x .weight) && leb (x .weight) 64 && ltb 0 (x .size) && leb (x .size) 64
 
--- Whether s and t are states that agree in such a variable; none do in another.
+-- Whether s and t are states with the same value of such a variable; none are of another.
 unfoldable pub agreeIn : Variable → ℕ → ℕ → Bool
-agreeIn x s t =
-    isSmall x && ltb s (x .states) && ltb t (x .states) && eqb (s / x .weight % x .size) (t / x .weight % x .size)
+agreeIn x s t = isSmall x && ltb s (x .states) && ltb t (x .states) && eqb (valueBy x s) (valueBy x t)

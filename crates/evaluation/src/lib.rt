@@ -1,20 +1,25 @@
-// What expressions are worth at states, by re-reading the file. An expression is walked once for all states: each node gives a row.
+// The values of the expressions of a handler file at its states, and where stores lead. An expression is walked once for all
+// states: each node gives a row.
 mod pointwise;
 
-use bits::Field;
 use expressions::ExprHead;
-use expressions::Header;
+use expressions::ExprShape;
 use expressions::expr_head_at;
-use expressions::head::read_header;
+use expressions::expr_shape;
+use expressions::head::Head;
+use expressions::head::is_head;
+use expressions::head::size_of;
+use expressions::head::states_in;
 use pointwise::always;
 use pointwise::compared;
 use pointwise::states_with;
 use pointwise::sum_row;
 use pointwise::variable_row;
+use semantics::Kind;
 use states::StateSet;
 ghost use mathlib.Core.Path.{_≡_};
-ghost use mathlib.Core.Bool.{true, false, _&&_};
-ghost use mathlib.Core.List.{List, [], _∷_};
+ghost use mathlib.Core.Bool.{true, _&&_};
+ghost use mathlib.Core.List.{[], _∷_};
 ghost use mathlib.Core.Option.{none};
 ghost use Prim.Native.Nat.{ℕ, _+_, _≤_, _<_};
 ghost use lib.Dec.{ltb};
@@ -23,19 +28,25 @@ ghost use lib.ListN.{getD};
 ghost use lib.Signed.{mag};
 ghost use Rattle.states.specs.Sets.{mem, has};
 ghost use Rattle.semantics.specs.Language.{ofIntegers, ofTruths, apply};
-ghost use Rattle.semantics.specs.States.{machineOf, both, weight as weightIn, stored};
-ghost use Rattle.expressions.specs.Header.{headerAt, sizesOf};
+ghost use Rattle.semantics.specs.States.{both, weight};
+ghost use Rattle.semantics.specs.Conditions.{isTrue, isFalse, afterStore, occurrences};
+ghost use Rattle.expressions.specs.Header.{isHead, sizesIn, machineIn};
 ghost use Rattle.expressions.specs.Expressions.{exprAt};
-ghost use Rattle.evaluation.specs.Values.{countOf, valueIn, integerIn, Applied, Walked, afterOf, leads, whereAt, afterAt, variableAt, isSmall, agreeIn};
+ghost use Rattle.expressions.specs.Shapes.{inMask};
+ghost use Rattle.evaluation.specs.Values.{exprIn, leadsTo, variableIn, isSmall, agreeIn};
+ghost use Rattle.evaluation.specs.Refinement.{integerIn, valueIn, Applied, Walked, storedBy};
 
-// What an expression is worth at each state: of kind 0 an integer, of kind 1 a truth value, of kind 2 nothing, as where the kinds
-// of its operands do not fit. With it go the number of the expression's nodes so far and the cursor behind it.
-pub struct Worths {
-    pub kind: u32,
-    pub nodes: u32,
-    pub next: usize,
-    pub integers: [i64; 64],
-    pub truths: StateSet,
+// An expression is read to 32 levels, one more than it can have nodes.
+const LEVELS: u32 = 32;
+
+// The value of an expression at each state: of kind 0 an integer, of kind 1 a truth value, of kind 2 none, as where the kinds of
+// its operands do not fit; with the number of the expression's nodes so far and the cursor after it.
+struct Values {
+    kind: u32,
+    nodes: u32,
+    next: usize,
+    integers: [i64; 64],
+    truths: StateSet,
 }
 
 // The states at which a test is true, and those at which it is false.
@@ -52,48 +63,47 @@ pub struct Variable {
     pub size: u32,
 }
 
-// The state after a store, or that the value is no integer or out of the variable's range.
-pub enum After {
-    State(u32),
-    OutOfRange,
-}
-
-// The size of variable v; 1 where there is no such variable.
-fn size_of(src: &[u8], count: u32, v: u32) -> u32
-    requires { ⌜ count ≡ countOf (headerAt (now src)) ⌝ }
-    ensures { λ r. ⌜ r ≡ getD (sizesOf (now (src .entry)) count) v 1 ⌝ }
-{
-    if v >= count {
-        return 1;
-    }
-    let Field::Value(size, _) = bits::read(src, 3 + 5 * (v as usize), 5) else {
-        return 1;
-    };
-    size as u32
-}
-
 // How many states one more of variable v's value counts: the product of the later sizes.
-fn weight_of(src: &[u8], count: u32, v: u32) -> u32
-    requires { ⌜ count ≡ countOf (headerAt (now src)) ⌝ }
-    ensures { λ r. ⌜ r ≡ weightIn (sizesOf (now (src .entry)) count) v ⌝ }
+fn weight_of(head: Head, v: u32) -> u32
+    requires { ⌜ isHead head ≡ true ⌝ }
+    ensures { λ r. ⌜ r ≡ weight (sizesIn head) v ⌝ }
 {
-    if v >= count {
+    if v >= head.count {
         return 1;
     }
     let mut product = 1;
-    let mut later = count;
+    let mut later = head.count;
     while later > v + 1 {
         later -= 1;
-        product = product * size_of(src, count, later);
+        product = product * size_of(head, later);
     }
     product
 }
 
+// Variable v of a head.
+pub fn variable_of(head: Head, v: u32) -> Variable
+    ensures { λ r. ⌜ r ≡ variableIn head v ⌝ }
+{
+    if is_head(head) {
+        Variable {
+            states: head.states,
+            weight: weight_of(head, v),
+            size: size_of(head, v),
+        }
+    } else {
+        Variable {
+            states: 0,
+            weight: 1,
+            size: 1,
+        }
+    }
+}
+
 // No value at any state.
-fn nothing(nodes: u32, next: usize) -> Worths
+fn nothing(nodes: u32, next: usize) -> Values
     ensures { λ r. ⌜ (r .kind ≡ 2) × (r .nodes ≡ nodes) × (r .next ≡ next) × ((s : ℕ) → integerIn r s ≡ pos 0) ⌝ }
 {
-    Worths {
+    Values {
         kind: 2,
         nodes,
         next,
@@ -103,10 +113,10 @@ fn nothing(nodes: u32, next: usize) -> Worths
 }
 
 // An integer at each state.
-fn integers_of(nodes: u32, next: usize, integers: [i64; 64]) -> Worths
+fn integers_of(nodes: u32, next: usize, integers: [i64; 64]) -> Values
     ensures { λ r. ⌜ (r .kind ≡ 0) × (r .nodes ≡ nodes) × (r .next ≡ next) × (r .integers ≡ integers) ⌝ }
 {
-    Worths {
+    Values {
         kind: 0,
         nodes,
         next,
@@ -116,11 +126,11 @@ fn integers_of(nodes: u32, next: usize, integers: [i64; 64]) -> Worths
 }
 
 // A truth value at each state.
-fn truths_of(nodes: u32, next: usize, truths: StateSet) -> Worths
+fn truths_of(nodes: u32, next: usize, truths: StateSet) -> Values
     ensures { λ r.
         ⌜ (r .kind ≡ 1) × (r .nodes ≡ nodes) × (r .next ≡ next) × (r .truths ≡ truths) × ((s : ℕ) → integerIn r s ≡ pos 0) ⌝ }
 {
-    Worths {
+    Values {
         kind: 1,
         nodes,
         next,
@@ -130,7 +140,7 @@ fn truths_of(nodes: u32, next: usize, truths: StateSet) -> Worths
 }
 
 // What operation o makes of two integers at each state.
-fn of_integers(n: u32, o: u32, left: Worths, right: Worths) -> Worths
+fn of_integers(n: u32, o: u32, left: Values, right: Values) -> Values
     requires { ⌜ (n ≤ 64) × ((s : ℕ) → s < n → mag (integerIn left s) + mag (integerIn right s) < 8192) ⌝ }
     ensures { λ r. ⌜ Applied n (λ s. getD (ofIntegers (integerIn left s) (integerIn right s)) o none) left right r ⌝ }
 {
@@ -146,7 +156,7 @@ fn of_integers(n: u32, o: u32, left: Worths, right: Worths) -> Worths
 }
 
 // What operation o makes of two truth values at each state.
-fn of_truths(n: u32, o: u32, left: Worths, right: Worths) -> Worths
+fn of_truths(n: u32, o: u32, left: Values, right: Values) -> Values
     ensures { λ r. ⌜ Applied n (λ s. getD (ofTruths (has (left .truths) s) (has (right .truths) s)) o none) left right r ⌝ }
 {
     let a = left.truths;
@@ -159,7 +169,7 @@ fn of_truths(n: u32, o: u32, left: Worths, right: Worths) -> Worths
 }
 
 // What operation o makes of its operands, both of them needed.
-fn apply_op(n: u32, o: u32, left: Worths, right: Worths) -> Worths
+fn apply_op(n: u32, o: u32, left: Values, right: Values) -> Values
     requires { ⌜ (n ≤ 64) × (left .kind < 2) × (right .kind < 2)
         × ((s : ℕ) → s < n → mag (integerIn left s) + mag (integerIn right s) < 8192) ⌝ }
     ensures { λ r. ⌜ Applied n (λ s. both (apply o) (valueIn left s) (valueIn right s)) left right r ⌝ }
@@ -175,31 +185,29 @@ fn apply_op(n: u32, o: u32, left: Worths, right: Worths) -> Worths
     }
 }
 
-// The worths at n states of the expression at a cursor, where `nodes` of its nodes stand before it. A node adds at most 128 to
-// what an integer can be, so that sums of 31 nodes fit. What has no value stops the walk: the whole has none either.
-fn worths_walk(src: &[u8], count: u32, n: u32, levels: u32, nodes: u32, at: usize) -> Worths
-    requires { ⌜ (count ≡ countOf (headerAt (now src))) × (n ≤ 64) ⌝ }
-    ensures { λ r.
-        ⌜ Walked n (machineOf (sizesOf (now (src .entry)) count)) nodes r (exprAt levels (now (src .entry)) count nodes at) ⌝ }
+// The values at n states of the expression at a cursor, where `nodes` of its nodes are before it. A node adds at most 128 to what
+// an integer can be, so that sums of 31 nodes fit. What has no value ends the walk: the whole has none either.
+fn values_walk(src: &[u8], head: Head, n: u32, levels: u32, nodes: u32, at: usize) -> Values
+    requires { ⌜ n ≡ machineIn head .states ⌝ }
+    ensures { λ r. ⌜ Walked n (machineIn head) nodes r (exprAt levels (now (src .entry)) (head .count) nodes at) ⌝ }
 {
     if levels == 0 {
         return nothing(nodes, at);
     }
-    let head = expr_head_at(src, count, nodes, at);
-    match head {
+    let node = expr_head_at(src, head.count, nodes, at);
+    match node {
         ExprHead::Integer(z, next) => integers_of(nodes + 1, next, [z; 64]),
         ExprHead::Truth(b, next) => truths_of(nodes + 1, next, always(b)),
         ExprHead::Variable(v, next) => {
-            let weight = weight_of(src, count, v);
-            let size = size_of(src, count, v);
-            integers_of(nodes + 1, next, variable_row(n, weight, size))
+            let x = variable_of(head, v);
+            integers_of(nodes + 1, next, variable_row(n, x.weight, x.size))
         }
         ExprHead::Operation(o, next) => {
-            let left = worths_walk(src, count, n, levels - 1, nodes + 1, next);
+            let left = values_walk(src, head, n, levels - 1, nodes + 1, next);
             if left.kind >= 2 {
                 return left;
             }
-            let right = worths_walk(src, count, n, levels - 1, left.nodes, left.next);
+            let right = values_walk(src, head, n, levels - 1, left.nodes, left.next);
             if right.kind >= 2 {
                 return right;
             }
@@ -209,20 +217,15 @@ fn worths_walk(src: &[u8], count: u32, n: u32, levels: u32, nodes: u32, at: usiz
     }
 }
 
-// The states at which the expression at a cursor is true, and those at which it is false; none where there is no such expression.
-pub fn truths_at(src: &[u8], at: usize) -> Truths
-    ensures holding { λ r. ⌜ ((s : ℕ) → has (r .holds) s ≡ whereAt (now (src .entry)) true at s) ⌝ }
-    ensures failing { λ r. ⌜ ((s : ℕ) → has (r .fails) s ≡ whereAt (now (src .entry)) false at s) ⌝ }
+// The states at which the expression at a cursor is true, and those at which it is false.
+pub fn truths_at(src: &[u8], head: Head, at: usize) -> Truths
+    ensures holding { λ r. ⌜ ((s : ℕ) → has (r .holds) s ≡ isTrue (machineIn head) (exprIn (now (src .entry)) (head .count) at) s) ⌝ }
+    ensures failing { λ r. ⌜ ((s : ℕ) → has (r .fails) s ≡ isFalse (machineIn head) (exprIn (now (src .entry)) (head .count) at) s) ⌝ }
 {
-    let none = StateSet::empty();
-    let Header::Sizes(count, n, _) = read_header(src) else {
-        return Truths {
-            holds: none,
-            fails: none,
-        };
-    };
-    let row = worths_walk(src, count, n, 32, 0, at);
+    let n = states_in(head);
+    let row = values_walk(src, head, n, LEVELS, 0, at);
     if row.kind != 1 {
+        let none = StateSet::empty();
         return Truths {
             holds: none,
             fails: none,
@@ -236,22 +239,18 @@ pub fn truths_at(src: &[u8], at: usize) -> Truths
     }
 }
 
-// Variable v of the file.
-pub fn variable_of(src: &[u8], v: u32) -> Variable
-    ensures { λ r. ⌜ r ≡ variableAt (now (src .entry)) v ⌝ }
+// How many variable occurrences in the expression at a cursor are of the variables in a mask. R mostly moves no variable, and then
+// nothing is read.
+pub fn occurrences_at(src: &[u8], head: Head, mask: u32, at: usize) -> u32
+    ensures { λ r. ⌜ r ≡ occurrences (inMask mask) (exprIn (now (src .entry)) (head .count) at) ⌝ }
 {
-    let Header::Sizes(count, states, _) = read_header(src) else {
-        return Variable {
-            states: 0,
-            weight: 1,
-            size: 1,
-        };
-    };
-    Variable {
-        states,
-        weight: weight_of(src, count, v),
-        size: size_of(src, count, v),
+    if mask == 0 {
+        return 0;
     }
+    let ExprShape::Whole(summary) = expr_shape(src, head.count, Kind::Integer, mask, at) else {
+        return 0;
+    };
+    summary.occurs
 }
 
 // Whether there are at most 64 states, and numbers to divide by that are not 0 and no larger.
@@ -261,7 +260,7 @@ fn is_small(x: Variable) -> bool
     (x.states <= 64) & (0 < x.weight) & (x.weight <= 64) & (0 < x.size) & (x.size <= 64)
 }
 
-// The states that agree with s in a variable; none where s is no state. A caller with many states to ask for reads the variable
+// The states that agree with s in a variable; none where s is no state. A caller with many states to ask for makes the variable
 // once.
 pub fn agreeing(x: Variable, s: u32) -> StateSet
     ensures { λ r. ⌜ ((t : ℕ) → has r t ≡ agreeIn x s t) ⌝ }
@@ -273,59 +272,45 @@ pub fn agreeing(x: Variable, s: u32) -> StateSet
     }
 }
 
-// The state after a store of n at state s, in a variable of this weight and size.
-fn store_natural(weight: u32, size: u32, s: u32, n: u64) -> After
-    requires { ⌜ (0 < weight) × (weight ≤ 64) × (0 < size) × (size ≤ 64) × (s < 64) ⌝ }
-    ensures { λ r.
-        ⌜ ((sizes : List ℕ) (v : ℕ) → weight ≡ weightIn sizes v → size ≡ getD sizes v 1 → r ≡ afterOf (stored sizes s v (pos n))) ⌝ }
+// The one state after a store of n at state s, or none where the value is out of range.
+fn store_natural(x: Variable, s: u32, n: u64) -> StateSet
+    requires { ⌜ (isSmall x ≡ true) × (s < 64) ⌝ }
+    ensures { λ r. ⌜ ((t : ℕ) → has r t ≡ (ltb t 64 && leadsTo (storedBy x s (pos n)) t)) ⌝ }
 {
-    if n >= size as u64 {
-        return After::OutOfRange;
+    if n >= x.size as u64 {
+        return StateSet::empty();
     }
-    let value = s / weight % size;
-    After::State(s - value * weight + n as u32 * weight)
+    let value = s / x.weight % x.size;
+    StateSet::single(s - value * x.weight + n as u32 * x.weight)
 }
 
-// The state after a store of z; no variable holds a negative number.
-fn store_integer(weight: u32, size: u32, s: u32, z: i64) -> After
-    requires { ⌜ (0 < weight) × (weight ≤ 64) × (0 < size) × (size ≤ 64) × (s < 64) ⌝ }
-    ensures { λ r.
-        ⌜ ((sizes : List ℕ) (v : ℕ) → weight ≡ weightIn sizes v → size ≡ getD sizes v 1 → r ≡ afterOf (stored sizes s v z)) ⌝ }
+// The one state after a store of z, or none; no variable holds a negative number.
+fn store_integer(x: Variable, s: u32, z: i64) -> StateSet
+    requires { ⌜ (isSmall x ≡ true) × (s < 64) ⌝ }
+    ensures { λ r. ⌜ ((t : ℕ) → has r t ≡ (ltb t 64 && leadsTo (storedBy x s z) t)) ⌝ }
 {
     if z < 0 {
-        After::OutOfRange
+        StateSet::empty()
     } else {
-        store_natural(weight, size, s, z as u64)
-    }
-}
-
-// The one state after a store, or none where the value is out of range.
-fn end_of(after: After) -> StateSet
-    ensures { λ r. ⌜ ((t : ℕ) → has r t ≡ (ltb t 64 && leads after t)) ⌝ }
-{
-    match after {
-        After::State(t) => StateSet::single(t),
-        After::OutOfRange => StateSet::empty(),
+        store_natural(x, s, z as u64)
     }
 }
 
 // Where a store in variable v of the expression at a cursor leads: in row s the one state after it at s, or none.
-pub fn successors(src: &[u8], v: u32, at: usize) -> [u64; 64]
-    ensures { λ r. ⌜ ((s t : ℕ) → mem (getD r s 0 ∷ []) t ≡ (ltb t 64 && leads (afterAt (now (src .entry)) v at s) t)) ⌝ }
+pub fn successors(src: &[u8], head: Head, v: u32, at: usize) -> [u64; 64]
+    ensures { λ r. ⌜ ((s t : ℕ) → mem (getD r s 0 ∷ []) t
+        ≡ (ltb s (machineIn head .states) && leadsTo (afterStore (machineIn head) v (exprIn (now (src .entry)) (head .count) at) s) t)) ⌝ }
 {
     let mut rows = [0u64; 64];
-    let Header::Sizes(count, n, _) = read_header(src) else {
-        return rows;
-    };
-    let row = worths_walk(src, count, n, 32, 0, at);
+    let n = states_in(head);
+    let row = values_walk(src, head, n, LEVELS, 0, at);
     if row.kind != 0 {
         return rows;
     }
     let integers = row.integers;
-    let weight = weight_of(src, count, v);
-    let size = size_of(src, count, v);
+    let x = variable_of(head, v);
     for s in 0..n {
-        let end = end_of(store_integer(weight, size, s, integers[s as usize]));
+        let end = store_integer(x, s, integers[s as usize]);
         rows[s as usize] = end.bits;
     }
     rows

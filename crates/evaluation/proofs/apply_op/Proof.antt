@@ -11,7 +11,7 @@ use lib.ListN.{getD}
 use Rattle.states.specs.Sets.{has}
 use Rattle.semantics.specs.Language.{int, truth, apply}
 use Rattle.semantics.specs.States.{both}
-use Rattle.evaluation.specs.Values.{integerIn}
+use Rattle.evaluation.specs.Refinement.{integerIn}
 use Rattle.evaluation.proofs.apply_op.Statement.{statement}
 use Rattle.evaluation.proofs.apply_op.Tie as tie
 

@@ -5,7 +5,7 @@ use mathlib.Core.Path.{sym}
 use borrow.Author.Needs.{needs}
 use lib.ListN.{List·getD-eq-default}
 use Rattle.semantics.specs.Language.{truth, ofIntegers}
-use Rattle.evaluation.specs.Values.{integerIn}
+use Rattle.evaluation.specs.Refinement.{integerIn}
 use Rattle.evaluation.proofs.of_integers.Statement.{statement}
 use Rattle.evaluation.proofs.of_integers.Tie as tie
 

@@ -1,10 +1,10 @@
 -- A row of truth values says where the test is true; of the n states, the others are those where it is false. Any other row has
 -- no truth value at any state.
-use Prim.Native.Nat.{ℕ, zero, suc, _<_}
+use Prim.Native.Nat.{ℕ, zero, suc, _≤_, _<_}
 use native.Mathlib.Decide.{decLt}
 use native.Mathlib.Omega.{arith}
 use mathlib.Core.Bool.{Bool, true, false, not, _&&_, and-false}
-use mathlib.Core.List.{List, [], _∷_}
+use mathlib.Core.List.{[], _∷_}
 use mathlib.Core.Option.{none, some}
 use mathlib.Core.Path.{_≡_, refl, sym, ap, _∙_}
 use borrow.Author.Needs.{needs}
@@ -13,14 +13,15 @@ use lib.Dec.{ltb}
 use lib.IntN.{ℤ}
 use lib.ListN.{getD}
 use Rattle.states.specs.Sets.{has}
-use Rattle.semantics.specs.Language.{int, truth}
-use Rattle.semantics.specs.States.{isTruth}
-use Rattle.expressions.specs.declared.Header.the-variants.{Sizes}
-use Rattle.expressions.specs.Header.{headerAt}
-use Rattle.evaluation.specs.declared.Worths.{Worths}
-use Rattle.evaluation.specs.Values.{integerIn, valueIn, valueAt, whereAt}
-use Rattle.evaluation.proofs.Laws.{count-read, at-most, where-here, where-past, fault-past}
-use Rattle.evaluation.proofs.Walking.{RowAt, whole-value}
+use Rattle.semantics.specs.Language.{int, truth, Expr}
+use Rattle.semantics.specs.States.{Machine, value, isTruth}
+use Rattle.semantics.specs.Conditions.{isTrue, isFalse}
+use Rattle.expressions.specs.Header.{machineIn}
+use Rattle.evaluation.specs.declared.Values.{Values}
+use Rattle.evaluation.specs.Values.{exprIn}
+use Rattle.evaluation.specs.Refinement.{integerIn, valueIn}
+use Rattle.evaluation.proofs.Laws.{states-most}
+use Rattle.evaluation.proofs.Walking.{whole-value}
 use Rattle.evaluation.proofs.truths_at.Statement.{statement}
 use Rattle.evaluation.proofs.truths_at.Tie as tie
 
@@ -29,72 +30,64 @@ no-truth wanted zero z b other = refl
 no-truth wanted (suc zero) z b other = absurd (other refl)
 no-truth wanted (suc (suc k)) z b other = refl
 
+as-truth : (wanted : Bool) (row : Values) (s : ℕ) → row .kind ≡ 1 → isTruth wanted (some (truth (has (row .truths) s))) ≡ isTruth wanted (valueIn row s)
+as-truth wanted row s is = rw is
+
 not-as : (b : Bool) → not b ≡ isTruth false (some (truth b))
 not-as true = refl
 not-as false = refl
 
-module _ (bytes : List ℕ) (count n first : ℕ) (head : headerAt bytes ≡ Sizes count n first) (at : ℕ) (row : Worths)
-    (walked : RowAt bytes count n 32 0 at row) where
-  in-row : (wanted : Bool) (s : ℕ) → whereAt bytes wanted at s ≡ (ltb s n && isTruth wanted (valueIn row s))
-  in-row wanted s = where-here bytes count n first head wanted at s ∙ by (decLt s n)
-    where
-      by : Dec (s < n) → (ltb s n && isTruth wanted (valueAt bytes at s)) ≡ (ltb s n && isTruth wanted (valueIn row s))
-      by (yes l) = rw (whole-value bytes count n at row (count-read bytes count n first head) walked s l)
-      by (no l) = rw (le-ltb s n (omega arith))
+-- Whether s is a state at which a test is the wanted truth value.
+abbrev test : Bool → Machine → Expr → ℕ → Bool
+test wanted m e s = ltb s (m .states) && isTruth wanted (value m e s)
 
-  nowhere : (row .kind ≡ 1 → ⊥) → (wanted : Bool) (s : ℕ) → whereAt bytes wanted at s ≡ false
+tested : (n : ℕ) (m : Machine) (e : Expr) (row : Values) → n ≡ m .states → n ≤ 64 → ((s : ℕ) → s < n → valueIn row s ≡ value m e s)
+    → (wanted : Bool) (s : ℕ) (b : Bool) → b ≡ isTruth wanted (valueIn row s) → (ltb s 64 && ltb s n && b) ≡ test wanted m e s
+tested n m e row all most each wanted s b is = rw (← all) (by (decLt s n))
+  where
+    by : Dec (s < n) → (ltb s 64 && ltb s n && b) ≡ (ltb s n && isTruth wanted (value m e s))
+    by (yes l) = rw (lt-ltb s n l, lt-ltb s 64 (omega arith)) (is ∙ ap (isTruth wanted) (each s l))
+    by (no l) = rw (le-ltb s n (omega arith), and-false (ltb s 64))
+
+-- What a set says once the row is worked out.
+module _ (w : tie.After-values-walk) where
+  abbrev row : Values
+  row = w .values-walk .result
+
+  abbrev here : Bool → ℕ → Bool
+  here wanted = let a = w .before .before .before .args in test wanted (machineIn (a .head)) (exprIn (a .src .now) (a .head .count) (a .at))
+
+  known : (wanted : Bool) (s : ℕ) (b : Bool) → b ≡ isTruth wanted (valueIn row s) → (ltb s 64 && ltb s (w .before .states-in .result) && b) ≡ here wanted s
+  known =
+      let a = w .before .before .before .args in
+      let all = w .before .states-in .ensures in
+      tested _ (machineIn (a .head)) (exprIn (a .src .now) (a .head .count) (a .at)) row all (rw all (states-most (a .head)))
+      (whole-value _ _ _ (machineIn (a .head)) (a .at) row (w .values-walk .ensures))
+
+  nowhere : (row .kind ≡ 1 → ⊥) → (wanted : Bool) (s : ℕ) → false ≡ here wanted s
   nowhere other wanted s =
-      in-row wanted s ∙ rw (no-truth wanted (row .kind) (integerIn row s) (has (row .truths) s) other) (and-false (ltb s n))
-
-  within : (s : ℕ) → (ltb s 64 && ltb s n) ≡ ltb s n
-  within s = by (decLt s n)
-    where
-      by : Dec (s < n) → (ltb s 64 && ltb s n) ≡ ltb s n
-      by (yes l) = rw (lt-ltb s n l, lt-ltb s 64 (omega (arith, at-most bytes count n first head)))
-      by (no l) = rw (le-ltb s n (omega arith)) (and-false (ltb s 64))
-
-  somewhere : row .kind ≡ 1 → (wanted : Bool) (s : ℕ) → (ltb s 64 && ltb s n && isTruth wanted (some (truth (has (row .truths) s)))) ≡ whereAt bytes wanted at s
-  somewhere is wanted s = rw (within s) (sym (in-row wanted s ∙ rw is))
-
--- What is known once the head is read.
-head : (k : tie.After-known-told) → let x = k .before .count .given .0 in
-    headerAt (k .before .before .before .before .before .before .args .src .now) ≡ Sizes (x .0) (x .1 .0) (x .1 .1 .0)
-head k = sym (k .before .before .before .read-header .ensures) ∙ k .before .count .given .1
+      sym (and-false (ltb s 64 && ltb s (w .before .states-in .result)))
+      ∙ known wanted s false (sym (no-truth wanted (row .kind) (integerIn row s) (has (row .truths) s) other))
 
 returns : tie.Need-returns
-returns c = (both true, both false)
-  where
-    both : (wanted : Bool) (s : ℕ) → has (c .before .before .before .empty .result) s ≡ whereAt (c .before .before .before .before .before .args .src .now) wanted (c .before .before .before .before .before .args .at) s
-    both wanted s =
-        c .before .before .before .empty .ensures s
-        ∙ sym (where-past _ s (fault-past _ _ _ s (sym (c .before .before .read-header .ensures) ∙ c .enum-told .given .1)) wanted _)
-
-worths-walk-requires : tie.Need-worths-walk-requires
-worths-walk-requires c κs = (count-read _ _ _ _ (head c), at-most _ _ _ _ (head c))
+unfolding isTrue isFalse
+returns c =
+    let none = nowhere (c .before .before .before) (c .before .if1 .taken) in
+    (λ s. c .empty .ensures s ∙ none true s, λ s. c .empty .ensures s ∙ none false s)
 
 returns-2 : tie.Need-returns-2
+unfolding isTrue isFalse
 returns-2 c =
-    let k = c .before .before .before in
-    let a = k .before .before .before .before .before .before .args in
-    let walk = c .before .before .worths-walk in
-    let gone = nowhere _ _ _ _ (head k) (a .at) (walk .result) (walk .ensures) (c .if1 .taken) in
-    let empty = k .before .before .before .before .empty .ensures in
-    (λ s. empty s ∙ sym (gone true s), λ s. empty s ∙ sym (gone false s))
-
-returns-3 : tie.Need-returns-3
-returns-3 c =
-    let k = c .before .before .before .before .before .before .before in
-    let a = k .before .before .before .before .before .before .args in
-    let walk = c .before .before .before .before .before .before .worths-walk in
-    let states = c .before .before .before .below .ensures in
-    let told = somewhere _ _ _ _ (head k) (a .at) (walk .result) (walk .ensures) (c .before .before .before .before .if1 .left) in
-    let held = walk .result .truths in (
-      λ s. c .before .meet .ensures s ∙ ap (λ b. b && has held s) (states s) ∙ told true s,
-      λ s. c .narrow .ensures s ∙ ap (λ b. b && not (has held s)) (states s) ∙ ap (λ b. ltb s 64 && ltb s (k .before .count .given .0 .1 .0) && b) (not-as (has held s)) ∙ told false s,
+    let l = c .before .before .before in
+    let w = l .before .before .before in
+    let held = row w .truths in
+    let is = l .before .if1 .left in (
+      λ s. c .before .meet .ensures s ∙ ap (λ b. b && has held s) (l .below .ensures s) ∙ known w true s (has held s) (as-truth true (row w) s is),
+      λ s. c .narrow .ensures s ∙ ap (λ b. b && not (has held s)) (l .below .ensures s) ∙ known w false s (not (has held s)) (not-as (has held s) ∙ as-truth false (row w) s is),
     )
 
 pub truths-at-spec : {M : Type 1} → statement M
 truths-at-spec =
     tie.close
-    (tie.spec (λ c κs. search needs) (λ c κs. search needs) (λ c. search needs) (λ c. search needs) returns worths-walk-requires
-    returns-2 (λ c κs. search needs) (λ c κs. search needs) (λ c κs. search needs) returns-3)
+    (tie.spec (λ c κs. search needs) (λ c κs. search needs) (λ c κs. search needs) returns (λ c κs. search needs) (λ c κs. search needs)
+    (λ c κs. search needs) returns-2)

@@ -5,38 +5,37 @@ use mathlib.Core.Path.{_≡_, sym, ap₂, _∙_}
 use borrow.Author.Needs.{needs}
 use lib.ListN.{drop}
 use Rattle.semantics.specs.States.{product}
-use Rattle.expressions.specs.Header.{sizesOf}
-use Rattle.evaluation.proofs.Sizes.{product-none, product-before, sound}
+use Rattle.expressions.specs.Header.{sizesIn}
+use Rattle.expressions.proofs.Heads.{known-head}
+use Rattle.evaluation.proofs.Sizes.{later-sizes, product-before, none-later}
 use Rattle.evaluation.proofs.weight_of.Statement.{statement}
 use Rattle.evaluation.proofs.weight_of.Tie as tie
 
 abbrev Inv-loop : tie.InvT-loop
-Inv-loop src count v p₀ later₀ p later = (v < later) × (later ≤ count) × (p ≡ product (drop later (sizesOf src count)))
+Inv-loop head v p₀ later₀ p later = (v < later) × (later ≤ head .count) × (p ≡ product (drop later (sizesIn head)))
 
 abbrev μ-loop : tie.MeasureT-loop
-μ-loop src count v p₀ later₀ p later = later
+μ-loop head v p₀ later₀ p later = later
 
 returns : tie.Need-returns Inv-loop μ-loop
-returns c = let a = c .before .before .args in sym (product-none (a .src .now) (a .count) (suc (a .v)) (omega arith))
+returns c = let a = c .before .before .args in sym (none-later (a .head) (suc (a .v)) (omega arith))
 
 loop-holds : tie.Need-loop-holds Inv-loop μ-loop
-loop-holds c =
-    let a = c .before .before .args in
-    (omega arith, omega arith, sym (product-none (a .src .now) (a .count) (a .count) (omega arith)))
+loop-holds c = let head = c .before .before .args .head in (omega arith, omega arith, sym (none-later head (head .count) (omega arith)))
 
 one-more : (c : tie.After-size-of Inv-loop μ-loop) → let a = c .before .before .before .before .before .args in let l = c .before .before .loop in
-    l .product * c .size-of .result ≡ product (drop (l .later - 1) (sizesOf (a .src .now) (a .count)))
+    l .product * c .size-of .result ≡ product (drop (l .later - 1) (sizesIn (a .head)))
 one-more c =
-    ap₂ _*_ (c .before .before .loop .inv .2) (c .size-of .ensures) ∙ product-before _ _ _ (omega arith) (c .before .before .loop .inv .1)
+    let a = c .before .before .before .before .before .args in
+    let l = c .before .before .loop in
+    let last : l .later ≡ suc (l .later - 1) = omega arith in
+    ap₂ _*_ (rw last at (l .inv .2)) (c .size-of .ensures) ∙ product-before (sizesIn (a .head)) (l .later - 1)
 
 mul-product : tie.Need-mul-product Inv-loop μ-loop
 mul-product c =
     let a = c .before .before .before .before .before .args in
-    let known = sound (a .src .now) (a .count) (c .before .before .before .before .before .pre) in
-    omega (arith, one-more c, known .later (c .before .before .loop .later - 1))
-
-loop-again : tie.Need-loop-again Inv-loop μ-loop
-loop-again c = (omega arith, omega arith, one-more c)
+    let known = known-head (a .head) (c .before .before .before .before .before .pre) in
+    omega (arith, one-more c, known, later-sizes (sizesIn (a .head)) (c .before .before .loop .later - 1) (known .least))
 
 returns-2 : tie.Need-returns-2 Inv-loop μ-loop
 returns-2 c = let done : c .before .loop .later ≡ suc (c .before .before .before .before .args .v) = omega arith in rw done at (c .before .loop .inv .2)
@@ -45,4 +44,4 @@ pub weight-of-spec : {M : Type 1} → statement M
 weight-of-spec =
     tie.close
     (tie.spec Inv-loop μ-loop returns loop-holds (λ c. search needs) (λ c. search needs) (λ c κs. search needs) mul-product
-    (λ c. search needs) loop-again returns-2)
+    (λ c. search needs) (λ c. (omega arith, omega arith, one-more c)) returns-2)
