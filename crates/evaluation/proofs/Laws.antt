@@ -40,7 +40,7 @@ unfolding machineIn
 get-past head v s t h = rw (size-past head v h) (ap pos (mod-one (s / weight (sizesIn head) v) ∙ sym (mod-one (t / weight (sizesIn head) v))))
 
 -- Where there is a state, the head is such as a file's.
-state-head : (head : Head) (s : ℕ) → s < machineIn head .states → isHead head ≡ true
+pub state-head : (head : Head) (s : ℕ) → s < machineIn head .states → isHead head ≡ true
 unfolding machineIn
 state-head head s = by (isHead head)
   where

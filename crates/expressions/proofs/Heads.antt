@@ -142,6 +142,7 @@ limited head h =
 
 -- What is known of a head that is such as a file's.
 pub record KnownHead (head : Head) : Type 0 where
+  pub few : head .count ≤ 4
   pub total : head .states ≡ product (sizesIn head)
   pub least : 1 ≤ product (sizesIn head)
   pub most : product (sizesIn head) ≤ 64
@@ -154,6 +155,7 @@ known-head head h =
     let total : head .states ≡ product (sizesIn head) = eqb-true (head .states) _ (and-right (inLimits head) _ h) in
     let m = machineOf (sizesIn head) in
     record {
+      few = known .few;
       total = total;
       least = known .least;
       most = rw (← total) (known .most);

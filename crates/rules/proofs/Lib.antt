@@ -1,7 +1,6 @@
 -- The laws that the proofs of the rules share.
 pub mod Searches
 pub mod Words
-pub mod Places
 pub mod Rows
 pub mod Stores
 pub mod Movement

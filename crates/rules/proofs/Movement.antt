@@ -21,11 +21,11 @@ use Rattle.semantics.specs.Language.{Expr, eqZ}
 use Rattle.semantics.specs.States.{Machine}
 use Rattle.semantics.specs.Derivations.{Spec}
 use Rattle.semantics.specs.Conditions.{occurrences, inSet, moves, unmoved, c41, c45, c50}
-use Rattle.semantics.proofs.Conditions.{eqZ-true}
 use Rattle.expressions.specs.declared.head.Head.{Head}
 use Rattle.expressions.specs.Header.{machineIn}
 use Rattle.expressions.specs.Shapes.{inMask}
-use Rattle.evaluation.specs.Values.{agree}
+use Rattle.evaluation.specs.declared.Variable.{Variable}
+use Rattle.evaluation.specs.Values.{agree, valueBy, isSmall, agreeIn}
 use Rattle.evaluation.proofs.Laws.{get-past}
 use Rattle.rules.specs.Words.{wordSet, wordRelation, wordSpec}
 use Rattle.rules.proofs.Searches.{holds-inSet, within, part-within}
@@ -73,19 +73,19 @@ not-within n a b = ap not (all-cong n _ _ (λ t l. turned (a t) (b t)) ∙ all-n
     twice false = refl
 
 -- The states that agree with s agree with the same states; so does s itself, where it is no state.
-pub alike : (m : Machine) (v s u : ℕ) → (agree m v s u || ltb u 64 && eqb s u) ≡ true → (t : ℕ) → agree m v u t ≡ agree m v s t
-unfolding agree
-alike m v s u e t = ⊎-elim agreed itself (or-cases (agree m v s u) _ e)
+pub alike : (x : Variable) (s u : ℕ) → (agreeIn x s u || ltb u 64 && eqb s u) ≡ true → (t : ℕ) → agreeIn x u t ≡ agreeIn x s t
+unfolding agreeIn
+alike x s u e t = ⊎-elim agreed itself (or-cases (agreeIn x s u) _ e)
   where
-    itself : (ltb u 64 && eqb s u) ≡ true → agree m v u t ≡ agree m v s t
-    itself h = ap (λ x. agree m v x t) (sym (eqb-true s u (and-right (ltb u 64) _ h)))
+    itself : (ltb u 64 && eqb s u) ≡ true → agreeIn x u t ≡ agreeIn x s t
+    itself h = ap (λ y. agreeIn x y t) (sym (eqb-true s u (and-right (ltb u 64) _ h)))
 
-    agreed : agree m v s u ≡ true → agree m v u t ≡ agree m v s t
+    agreed : agreeIn x s u ≡ true → agreeIn x u t ≡ agreeIn x s t
     agreed h =
-        let n = m .states in
-        let both = and-left (ltb s n && ltb u n) _ h in
-        let same : m .get s v ≡ m .get u v = eqZ-true _ _ (and-right (ltb s n && ltb u n) _ h) in
-        rw (and-left (ltb s n) (ltb u n) both, and-right (ltb s n) (ltb u n) both, same)
+        let both = and-left (isSmall x && ltb s (x .states)) (ltb u (x .states)) (and-left (isSmall x && ltb s (x .states) && ltb u (x .states)) _ h) in
+        let there = and-right (isSmall x && ltb s (x .states)) (ltb u (x .states)) (and-left (isSmall x && ltb s (x .states) && ltb u (x .states)) _ h) in
+        let same : valueBy x s ≡ valueBy x u = eqb-true _ _ (and-right (isSmall x && ltb s (x .states) && ltb u (x .states)) _ h) in
+        rw (and-right (isSmall x) (ltb s (x .states)) both, there, same)
 
 -- Ends that lie in one set, from states that all have it for their own.
 pub alike-within : (n : ℕ) (p g : ℕ → Bool) (r f : ℕ → ℕ → Bool) (q : ℕ → Bool) → ((s : ℕ) → g s ≡ true → (t : ℕ) → f s t ≡ q t)
@@ -163,7 +163,7 @@ module _ (head : Head) (work : List ℕ) (own : Names) where
       any-none _ _ (λ s l. ap (λ b. c .P s && b) (any-none _ _ (λ t k. still s t)) ∙ and-false (c .P s))
     where
       still : (s t : ℕ) → (c .R s t && not (eqZ (m .get s v) (m .get t v))) ≡ false
-      still s t = ap (λ x. c .R s t && not (eqZ (m .get s v) x)) (get-past head v s t h) ∙ rw (eqZ-same (m .get s v)) (and-false (c .R s t))
+      still s t = ap (λ x. c .R s t && not (eqZ (m .get s v) x)) (get-past head v t s h) ∙ rw (eqZ-same (m .get s v)) (and-false (c .R s t))
 
   -- The variables found moved are those that R moves.
   pub mask-moves : (v : ℕ) → any (head .count) (λ u. any (m .states) (movedFrom m work own u) && eqb u v) ≡ moves m (wordSpec (m .states) work own) v
@@ -172,6 +172,11 @@ module _ (head : Head) (work : List ℕ) (own : Names) where
       at : Dec (v < head .count) → (ltb v (head .count) && any (m .states) (movedFrom m work own v)) ≡ moves m (wordSpec (m .states) work own) v
       at (yes l) = rw (lt-ltb v (head .count) l) (moves-here v)
       at (no l) = rw (le-ltb v (head .count) (omega arith)) (sym (moves-past _ v (omega arith)))
+
+-- Where there is no state, nothing moves.
+pub moves-none : (m : Machine) → m .states ≡ 0 → (c : Spec) (v : ℕ) → moves m c v ≡ false
+unfolding moves any
+moves-none m none c v = rw none
 
 pub mask-none : (v : ℕ) → inMask 0 v ≡ false
 mask-none v = ap (λ x. eqb (x % 2) 1) (zero-div (2 ^ v))

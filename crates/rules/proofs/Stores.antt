@@ -2,20 +2,25 @@
 use Prim.Native.Nat.{ℕ, _<_}
 use mathlib.Core.Path.{_≡_, refl, sym, ap, _∙_, fun-ext, subst}
 use mathlib.Core.Bool.{Bool, true, false, _&&_, _||_, false≢true}
-use mathlib.Core.List.{List}
+use mathlib.Core.List.{List, [], _∷_}
 use mathlib.Core.Option.{Option, none, some}
-use lib.Dec.{eqb}
-use borrow.Author.Tests.{eqb-true, eq-eqb}
+use lib.Dec.{ltb, eqb}
+use lib.ListN.{getD}
+use borrow.Author.Tests.{lt-ltb, eqb-true, eq-eqb}
 use Rattle.states.specs.Search.{any, must, holds}
+use Rattle.states.specs.Sets.{mem}
 use Rattle.states.specs.Relations.{rel}
 use Rattle.states.proofs.Search.{bool-ext, any-intro, any-none, holds-named}
 use Rattle.semantics.specs.Language.{Expr}
 use Rattle.semantics.specs.States.{Machine}
 use Rattle.semantics.specs.Derivations.{Spec}
 use Rattle.semantics.specs.Conditions.{inSet, afterStore, inRange, toAfter, c40, c42, c43}
-use Rattle.evaluation.specs.Stores.{leadsTo}
+use Rattle.expressions.specs.declared.head.Head.{Head}
+use Rattle.expressions.specs.Header.{machineIn}
+use Rattle.evaluation.specs.Values.{leadsTo}
+use Rattle.evaluation.proofs.Laws.{after-below}
 use Rattle.rules.proofs.Searches.{inSet-intro, inSet-at}
-use Rattle.rules.proofs.Rows.{inSet-cong}
+use Rattle.rules.proofs.Rows.{absorbed, inSet-cong}
 
 -- The end of a store, where it is one of the n states.
 module _ (n : ℕ) where
@@ -33,10 +38,19 @@ module _ (n : ℕ) where
       (λ h. inSet-intro n _ _ (λ t l e. subst (λ x. holds (must (g x)) ≡ true) (eqb-true s′ t e) h))
       ∙ sym (holds-named s′ (must (g s′)))
 
--- Rows that say where a store leads from each of the states.
-module _ (m : Machine) (v : ℕ) (e : Expr) (rows : List ℕ)
-    (below : (s : ℕ) → s < m .states → (t : ℕ) → leadsTo (afterStore m v e s) t ≡ true → t < m .states)
-    (filled : (s : ℕ) → s < m .states → rel (m .states) rows s ≡ leadsTo (afterStore m v e s)) where
+-- Rows that say where a store leads from each of the states of a head.
+module _ (head : Head) (v : ℕ) (e : Expr) (rows : List ℕ)
+    (made : (s t : ℕ) → mem (getD rows s 0 ∷ []) t ≡ (ltb s (machineIn head .states) && leadsTo (afterStore (machineIn head) v e s) t)) where
+  abbrev m : Machine
+  m = machineIn head
+
+  below : (s : ℕ) → s < m .states → (t : ℕ) → leadsTo (afterStore m v e s) t ≡ true → t < m .states
+  below s l t = after-below head v e s t l
+
+  filled : (s : ℕ) → s < m .states → rel (m .states) rows s ≡ leadsTo (afterStore m v e s)
+  unfolding rel
+  filled s l = fun-ext (λ t. rw (made s t, lt-ltb s (m .states) l) (absorbed (ltb t (m .states)) _ (λ h. lt-ltb t (m .states) (below s l t h))))
+
   after-ends : (p : ℕ → Bool) (g : ℕ → ℕ → Bool)
       → holds (inSet (m .states) p (λ s. inSet (m .states) (rel (m .states) rows s) (λ t. must (g s t))))
       ≡ holds (inSet (m .states) p (λ s. toAfter (afterStore m v e s) (λ t. must (g s t))))

@@ -1,4 +1,4 @@
--- What the contracts of the rules cite: the tables in the work words, and conditions asked in order.
+-- What the contracts of the rules cite: the tables in the work words, conditions asked in order, and what a node must meet.
 pub mod Words
-pub mod Places
 pub mod Asking
+pub mod Obligations

@@ -2,7 +2,13 @@
 // 30 upwards and keeps the first that failed; all are looked at, because an accepted pair needs them all.
 use assignment::assignment_fault;
 use conditional::if_fault;
+use derivation::ASSIGNMENT;
+use derivation::IF;
 use derivation::Node;
+use derivation::PARALLEL;
+use derivation::SEQUENCE;
+use derivation::SKIP;
+use derivation::WHILE;
 use expressions::head::Head;
 use expressions::head::states_in;
 use handler::table::Statement;
@@ -30,14 +36,6 @@ pub mod skip;
 pub mod stability;
 pub mod tables;
 pub mod weaken;
-
-// The codes of the rules, which but for weaken are those of the statements that they fit.
-const SKIP: u32 = 0;
-const ASSIGNMENT: u32 = 1;
-const SEQUENCE: u32 = 2;
-const PARALLEL: u32 = 3;
-const IF: u32 = 4;
-const WHILE: u32 = 5;
 
 // What the conditions asked so far say: all hold, or the number of the first that failed.
 pub enum NodeVerdict {
@@ -68,8 +66,8 @@ pub fn common(n: u32, work: &[u64], own: Names, fits: bool) -> NodeVerdict
     let held = stable_under_rely(n, work, own);
     let found = ask(NodeVerdict::Holds, 30, fits);
     let found = ask(found, 31, held.pre);
-    let found = ask(found, 32, held.post_before);
-    ask(found, 33, held.post_after)
+    let found = ask(found, 32, held.before);
+    ask(found, 33, held.after)
 }
 
 // What the conditions of a node say over a statement, by the node's rule. The children are those that the rule asks for; a weaken
@@ -92,7 +90,8 @@ pub fn node_fault(
     let right = second.names;
     let code = statement.code;
     let expr = statement.expr;
-    match node.rule {
+    let rule = node.rule;
+    match rule {
         SKIP => skip_fault(n, work, own, code == SKIP),
         ASSIGNMENT => {
             assignment_fault(handler, head, work, own, code == ASSIGNMENT, statement.target, expr)

@@ -58,13 +58,17 @@ pub fn moved(head: Head, work: &[u64], own: Names) -> u32
         ⌜ ((v : ℕ) → inMask out v ≡ moves (machineIn head) (wordSpec (machineIn head .states) (now (work .entry)) own) v) ⌝ }
 {
     let n = states_in(head);
+    if n == 0 {
+        return 0;
+    }
     let starts = starting(n, rows_of(work, own.r));
     let from = set_at(n, work, own.p).meet(starts);
     if from.bits == 0 {
         return 0;
     }
     let mut mask = 0;
-    for v in 0..head.count {
+    let count = head.count;
+    for v in 0..count {
         mask = with_variable(mask, v, moves_variable(head, n, work, from, own.r, v));
     }
     mask

@@ -14,23 +14,23 @@ ghost use Rattle.rules.specs.Words.{wordSpec};
 // What others do, by condition: P is stable under it (31), and Q takes it in before (32) and after (33).
 pub struct Stability {
     pub pre: bool,
-    pub post_before: bool,
-    pub post_after: bool,
+    pub before: bool,
+    pub after: bool,
 }
 
 // 31: s in P, (s,t) in R: t in P. 32: s in P, (s,t) in R, (t,u) in Q: (s,u) in Q. 33: s in P, (s,t) in Q, (t,u) in R: (s,u) in Q.
 // Every rule asks the three, so the states that start a pair of R are found once; where none does, others do nothing.
 pub fn stable_under_rely(n: u32, work: &[u64], own: Names) -> Stability
     ensures pre { λ out. ⌜ out .pre ≡ holds (c31 n (wordSpec n (now (work .entry)) own)) ⌝ }
-    ensures before { λ out. ⌜ out .post-before ≡ holds (c32 n (wordSpec n (now (work .entry)) own)) ⌝ }
-    ensures after { λ out. ⌜ out .post-after ≡ holds (c33 n (wordSpec n (now (work .entry)) own)) ⌝ }
+    ensures before { λ out. ⌜ out .before ≡ holds (c32 n (wordSpec n (now (work .entry)) own)) ⌝ }
+    ensures after { λ out. ⌜ out .after ≡ holds (c33 n (wordSpec n (now (work .entry)) own)) ⌝ }
 {
     let starts = starting(n, rows_of(work, own.r));
     if starts.bits == 0 {
         return Stability {
             pre: true,
-            post_before: true,
-            post_after: true,
+            before: true,
+            after: true,
         };
     }
     let p = set_at(n, work, own.p);
@@ -38,7 +38,7 @@ pub fn stable_under_rely(n: u32, work: &[u64], own: Names) -> Stability
     let states = StateSet::below(n);
     Stability {
         pre: leads_into(n, work, from, own.r, p),
-        post_before: chains_into(n, work, from, own.r, states, own.q, own.q),
-        post_after: chains_into(n, work, p, own.q, starts, own.r, own.q),
+        before: chains_into(n, work, from, own.r, states, own.q, own.q),
+        after: chains_into(n, work, p, own.q, starts, own.r, own.q),
     }
 }

@@ -19,7 +19,7 @@ returns c =
     c .included .ensures
     ∙ all-cong 64 _ _ (λ s l. ap₂ implies (c .before .before .set-at .ensures s) (c .before .starting .ensures s))
     ∙ small-within (a .n) _ _ small
-    ∙ inSet-cong (a .n) (a .n) refl _ _ _ (λ s l e. ap (λ b. holds (must (b && any (a .n) (rel (a .n) (a .after .now) s)))) (lt-ltb s 64 (small s e .0)))
+    ∙ inSet-cong (a .n) _ _ _ (λ s l e. ap (λ b. holds (must (b && any (a .n) (rel (a .n) (a .after .now) s)))) (lt-ltb s 64 (small s e .0)))
 
 pub in-range-spec : {M : Type 1} → statement M
 in-range-spec = tie.close (tie.spec (λ c κs. search needs) (λ c κs. search needs) (λ c κs. search needs) returns)

@@ -1,5 +1,5 @@
 -- After the variables below v: the mask has those of them that R moves. `any-more` adds the next.
-use Prim.Native.Nat.{ℕ, _≤_, _-_}
+use Prim.Native.Nat.{ℕ, _≤_, _<_, _-_}
 use native.Mathlib.Omega.{arith}
 use mathlib.Core.Path.{_≡_, _∙_, sym, ap, ap₂}
 use mathlib.Core.Bool.{not, _&&_, _||_}
@@ -8,56 +8,59 @@ use borrow.Author.Needs.{needs}
 use Rattle.states.specs.Search.{any}
 use Rattle.states.proofs.Search.{any-none, any-more, any-done}
 use Rattle.states.specs.Sets.{has}
-use Rattle.rules.specs.Words.{wordRelation}
-use Rattle.expressions.specs.declared.Header.the-variants.{Sizes}
-use Rattle.expressions.specs.Header.{headerAt}
+use Rattle.expressions.specs.Header.{machineIn}
 use Rattle.expressions.specs.Shapes.{inMask}
-use Rattle.expressions.proofs.Heads.{head-read}
-use Rattle.evaluation.specs.Values.{agreeAt}
+use Rattle.expressions.proofs.Heads.{known-head}
+use Rattle.evaluation.specs.Values.{agree}
+use Rattle.evaluation.proofs.Laws.{state-head}
+use Rattle.rules.specs.Words.{wordRelation}
 use Rattle.rules.proofs.Movement.{movedFrom, mask-moves, mask-none, moves-none, none-start, starts-moved}
 use Rattle.rules.proofs.moving.moved.Statement.{statement}
 use Rattle.rules.proofs.moving.moved.Tie as tie
 
 abbrev Inv-loop : tie.InvT-loop
-Inv-loop src work own count n from mask₀ v₀ mask v = (v ≤ count) × ((u : ℕ) → inMask mask u ≡ any v (λ k. any n (movedFrom src n work own k) && eqb k u))
+Inv-loop head work own n from mask₀ count v₀ mask v =
+    (v ≤ count) × ((u : ℕ) → inMask mask u ≡ any v (λ k. any (machineIn head .states) (movedFrom (machineIn head) work own k) && eqb k u))
 
 abbrev μ-loop : tie.MeasureT-loop
-μ-loop src work own count n from mask₀ v₀ mask v = count - v
+μ-loop head work own n from mask₀ count v₀ mask v = count - v
 
 returns : tie.Need-returns Inv-loop μ-loop
-returns c v = mask-none v ∙ sym (moves-none _ _ _ (sym (c .before .before .read-header .ensures) ∙ c .enum-told .given .1) _ v)
-
--- What is known once the head is read.
-head : (k : tie.After-count Inv-loop μ-loop) → let x = k .count .given .0 in
-    headerAt (k .before .before .before .before .before .args .src .now) ≡ Sizes (x .0) (x .1 .0) (x .1 .1 .0)
-head k = sym (k .before .before .read-header .ensures) ∙ k .count .given .1
+returns c v = mask-none v ∙ sym (moves-none _ (sym (c .before .states-in .ensures) ∙ c .if1 .taken) _ v)
 
 -- The states of P that start a pair are all that matter.
 enough : (c : tie.After-meet Inv-loop μ-loop) (v : ℕ) → let k = c .before .before .before .before .before in
-    let a = k .before .before .before .before .before .args in let n = k .count .given .0 .1 .0 in
-    any n (λ s. has (c .meet .result) s && any n (λ t. wordRelation n (a .work .now) (a .own .r) s t && not (agreeAt (a .src .now) v s t)))
-    ≡ any n (movedFrom (a .src .now) n (a .work .now) (a .own) v)
+    let a = k .before .before .args in let n = k .states-in .result in
+    any n (λ s. has (c .meet .result) s && any n (λ t. wordRelation n (a .work .now) (a .own .r) s t && not (agree (machineIn (a .head)) v s t)))
+    ≡ any (machineIn (a .head) .states) (movedFrom (machineIn (a .head)) (a .work .now) (a .own) v)
 unfolding wordRelation
 enough c v =
     let starts = c .before .before in
-    let a = starts .before .before .before .before .before .before .before .before .args in
-    starts-moved (a .src .now) _ (a .work .now) (a .own) v _ _ (rw (starts .before .rows-of .ensures) at (starts .starting .ensures))
-    (λ s. c .meet .ensures s ∙ ap (λ b. b && has (starts .starting .result) s) (c .before .set-at .ensures s))
+    let k = starts .before .before .before in
+    let a = k .before .before .args in
+    rw (k .states-in .ensures)
+    (starts-moved (machineIn (a .head)) (a .work .now) (a .own) v _ _ (rw (starts .before .rows-of .ensures, k .states-in .ensures) at (starts .starting .ensures))
+    (λ s. c .meet .ensures s ∙ ap (λ b. b && has (starts .starting .result) s) (rw (k .states-in .ensures) at (c .before .set-at .ensures s))))
 
 returns-2 : tie.Need-returns-2 Inv-loop μ-loop
 returns-2 c v =
     let d = c .before .before in
-    let k = d .before .before .before .before .before in
-    mask-none v ∙ sym (any-none (k .count .given .0 .0) _ (λ u l. ap (λ b. b && eqb u v) (sym (enough d u) ∙ none-start _ _ _ (c .if1 .taken))))
-    ∙ mask-moves _ _ _ _ (head k) _ _ v
+    let a = d .before .before .before .before .before .before .before .args in
+    mask-none v ∙ sym (any-none (a .head .count) _ (λ u l. ap (λ b. b && eqb u v) (sym (enough d u) ∙ none-start _ _ _ (c .if2 .taken))))
+    ∙ mask-moves (a .head) (a .work .now) (a .own) v
 
 loop-holds : tie.Need-loop-holds Inv-loop μ-loop
 unfolding any
 loop-holds c = (omega arith, mask-none)
 
+-- Where there is a state there are at most 4 variables.
 with-variable-requires : tie.Need-with-variable-requires Inv-loop μ-loop
 with-variable-requires c κs =
-    omega (arith, head-read _ _ _ _ (head (c .before .before .before .before .before .before .before .before .before .before)) .few)
+    let k = c .before .before .before .before .before .before .before .before .before .before in
+    let a = k .before .before .args in
+    let some : k .states-in .result ≡ 0 → ⊥ = c .before .before .before .before .before .before .before .before .before .if1 .left in
+    let state : 0 < machineIn (a .head) .states = rw (← k .states-in .ensures) (omega arith) in
+    omega (arith, known-head (a .head) (state-head (a .head) 0 state) .few)
 
 loop-again : tie.Need-loop-again Inv-loop μ-loop
 loop-again c =
@@ -70,12 +73,13 @@ loop-again c =
 
 returns-3 : tie.Need-returns-3 Inv-loop μ-loop
 returns-3 c v =
+    let d = c .before .before .before .before in
+    let a = d .before .before .before .before .before .before .before .args in
     c .before .loop .inv .1 v ∙ any-done _ _ _ (c .before .loop .inv .0) (c .loop-test .left)
-    ∙ mask-moves _ _ _ _ (head (c .before .before .before .before .before .before .before .before .before)) _ _ v
+    ∙ mask-moves (a .head) (a .work .now) (a .own) v
 
 pub moved-spec : {M : Type 1} → statement M
 moved-spec =
     tie.close
-    (tie.spec Inv-loop μ-loop (λ c κs. search needs) (λ c. search needs) (λ c. search needs) returns (λ c κs. search needs)
-    (λ c κs. search needs) (λ c κs. search needs) (λ c κs. search needs) returns-2 loop-holds
-    (λ c κs. search needs) with-variable-requires (λ c. search needs) (λ c. search needs) loop-again returns-3)
+    (tie.spec Inv-loop μ-loop (λ c κs. search needs) returns (λ c κs. search needs) (λ c κs. search needs) (λ c κs. search needs)
+    (λ c κs. search needs) returns-2 loop-holds (λ c κs. search needs) with-variable-requires (λ c. search needs) (λ c. search needs) loop-again returns-3)

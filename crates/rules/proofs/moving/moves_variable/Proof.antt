@@ -7,13 +7,15 @@ use mathlib.Core.List.{List}
 use lib.Count.{trailingZeros}
 use lib.Dec.{ltb, eqb}
 use borrow.Author.Needs.{needs}
-use borrow.Author.Tests.{ltb-true, lt-ltb, eq-eqb}
+use borrow.Author.Tests.{lt-ltb, eq-eqb}
 use Rattle.states.specs.Search.{implies, all, any}
 use Rattle.states.specs.Sets.{has}
-use Rattle.states.proofs.Search.{and-left, and-right, and-both, or-right, any-cong}
+use Rattle.states.proofs.Search.{and-left, and-both, or-right, any-cong}
 use Rattle.states.proofs.Reach.{count, count-more}
 use Rattle.states.proofs.Members.{first-below, first-in, start-below, start-same, Passed, passed-none, passed-part, passed-all}
-use Rattle.evaluation.specs.Values.{agreeAt, agreeIn}
+use Rattle.expressions.specs.Header.{machineIn}
+use Rattle.evaluation.specs.declared.Variable.{Variable}
+use Rattle.evaluation.specs.Values.{agree, agreeIn}
 use Rattle.evaluation.proofs.Laws.{agree-variable}
 use Rattle.rules.specs.Words.{wordRelation}
 use Rattle.rules.proofs.Words.{leads-cong}
@@ -22,51 +24,43 @@ use Rattle.rules.proofs.moving.moves_variable.Statement.{statement}
 use Rattle.rules.proofs.moving.moves_variable.Tie as tie
 
 -- r leads from s to states that agree with it.
-abbrev keeps : List ℕ → ℕ → List ℕ → ℕ → ℕ → ℕ → Bool
-keeps src n work r v s = all n (λ t. implies (wordRelation n work r s t) (agreeAt src v s t))
+abbrev keeps : ℕ → List ℕ → ℕ → Variable → ℕ → Bool
+keeps n work r variable s = all n (λ t. implies (wordRelation n work r s t) (agreeIn variable s t))
 
 abbrev Inv-loop : tie.InvT-loop
-Inv-loop src n work r v variable rest₀ rest = Passed n (keeps src n work r v) rest₀ rest true
+Inv-loop n work r v variable rest₀ rest = Passed n (keeps n work r variable) rest₀ rest true
 
 abbrev μ-loop : tie.MeasureT-loop
-μ-loop src n work r v variable rest₀ rest = count 64 (has rest)
-
--- The variable is asked for once; the states that agree in it are those that agree by the file.
-agrees : (c : tie.After-agreeing Inv-loop μ-loop) → let d = c .before .before .before .before in
-    let a = d .before .before .before .before .before .before .args in
-    (s : ℕ) → has (c .agreeing .result) s ≡ agreeAt (a .src .now) (a .v) (trailingZeros 64 (d .loop .rest .bits)) s
-agrees c s =
-    let d = c .before .before .before .before in
-    c .agreeing .ensures s ∙ ap (λ x. agreeIn x (trailingZeros 64 (d .loop .rest .bits)) s) (d .before .before .before .variable-of .ensures) ∙ agree-variable _ _ _ s
+μ-loop n work r v variable rest₀ rest = count 64 (has rest)
 
 -- What is taken out, and what is asked of it.
 group : (c : tie.After-join Inv-loop μ-loop) → let d = c .before .before .before .before .before .before in
-    let a = d .before .before .before .before .before .before .args in
     let first = trailingZeros 64 (d .loop .rest .bits) in
-    (s : ℕ) → has (c .join .result) s ≡ (agreeAt (a .src .now) (a .v) first s || ltb s 64 && eqb first s)
-group c s = c .join .ensures s ∙ ap₂ _||_ (agrees (c .before .before) s) (c .before .single .ensures s)
+    (s : ℕ) → has (c .join .result) s ≡ (agreeIn (d .before .before .before .variable-of .result) first s || ltb s 64 && eqb first s)
+group c s = c .join .ensures s ∙ ap₂ _||_ (c .before .before .agreeing .ensures s) (c .before .single .ensures s)
 
 asked : (c : tie.After-leads-into Inv-loop μ-loop) → let d = c .before .before in
     let e = d .before .before .before .before .before .before in
-    let a = e .before .before .before .before .before .before .args in
-    c .leads-into .result ≡ all (a .n) (λ s. implies (has (e .loop .rest) s && has (d .join .result) s) (keeps (a .src .now) (a .n) (a .work .now) (a .r) (a .v) s))
+    let a = e .before .before .before .before .before .args in
+    c .leads-into .result ≡ all (a .n) (λ s. implies (has (e .loop .rest) s && has (d .join .result) s) (keeps (a .n) (a .work .now) (a .r) (e .before .before .before .variable-of .result) s))
 asked c =
     let d = c .before .before in
     let e = d .before .before .before .before .before .before in
-    let a = e .before .before .before .before .before .before .args in
+    let a = e .before .before .before .before .before .args in
+    let x = e .before .before .before .variable-of .result in
     c .leads-into .ensures
-    ∙ leads-cong _ _ _ _ _ _ (c .before .meet2 .ensures) (agrees (d .before .before))
-    ∙ alike-within (a .n) (has (e .loop .rest)) _ (wordRelation (a .n) (a .work .now) (a .r)) (agreeAt (a .src .now) (a .v)) _
-    (λ s h. alike (a .src .now) (a .v) _ s (sym (group d s) ∙ h))
+    ∙ leads-cong _ _ _ _ _ _ (c .before .meet2 .ensures) (d .before .before .agreeing .ensures)
+    ∙ alike-within (a .n) (has (e .loop .rest)) _ (wordRelation (a .n) (a .work .now) (a .r)) (agreeIn x) _
+    (λ s h. alike x _ s (sym (group d s) ∙ h))
 
 -- The states to take out are those of the set that are below n.
-start : (c : tie.After-meet Inv-loop μ-loop) → let a = c .before .before .before .before .before .args in
+start : (c : tie.After-meet Inv-loop μ-loop) → let a = c .before .before .before .before .args in
     (s : ℕ) → has (c .meet .result) s ≡ (has (a .from) s && (ltb s 64 && ltb s (a .n)))
-start c s = c .meet .ensures s ∙ ap (λ b. has (c .before .before .before .before .before .args .from) s && b) (c .before .below .ensures s)
+start c s = c .meet .ensures s ∙ ap (λ b. has (c .before .before .before .before .args .from) s && b) (c .before .below .ensures s)
 
 loop-holds : tie.Need-loop-holds Inv-loop μ-loop
 loop-holds c =
-    passed-none _ _ _ (start-below _ (c .before .before .before .before .before .args .from) _ (start c))
+    passed-none _ _ _ (start-below _ (c .before .before .before .before .args .from) _ (start c))
 
 loop-less : tie.Need-loop-less Inv-loop μ-loop
 loop-less c =
@@ -76,7 +70,7 @@ loop-less c =
     let first = trailingZeros 64 (set .bits) in
     let low = first-below set (e .struct-known2 .given .0 .fits) (e .before .if1 .taken) in
     let there = first-in set (e .struct-known2 .given .0 .fits) (e .before .if1 .taken) in
-    let own = group d first ∙ or-right (agreeAt _ _ first first) (ltb first 64 && eqb first first) (and-both _ _ (lt-ltb first 64 low) (eq-eqb first first refl)) in
+    let own = group d first ∙ or-right (agreeIn _ first first) (ltb first 64 && eqb first first) (and-both _ _ (lt-ltb first 64 low) (eq-eqb first first refl)) in
     count-more 64 _ _ (λ s h. and-left (has set s) _ (sym (c .narrow .ensures s) ∙ h)) first low
     (c .narrow .ensures first ∙ ap (λ b. has set first && not b) own ∙ and-false (has set first)) there
 
@@ -86,15 +80,15 @@ loop-again c =
     passed-part _ _ _ _ _ true true (has (d .before .before .join .result)) (c .narrow .ensures) (sym (c .before .if2 .taken) ∙ asked d)
     (d .before .before .before .before .before .before .before .before .loop .inv)
 
--- Whether r leads to states that agree, from the states that the loop starts with as from the set.
-moved : (c : tie.After-meet Inv-loop μ-loop) (b : Bool) → let a = c .before .before .before .before .before .args in
-    b ≡ all (a .n) (λ s. implies (has (c .meet .result) s) (keeps (a .src .now) (a .n) (a .work .now) (a .r) (a .v) s))
-    → not b ≡ any (a .n) (λ s. has (a .from) s && any (a .n) (λ t. wordRelation (a .n) (a .work .now) (a .r) s t && not (agreeAt (a .src .now) (a .v) s t)))
+-- Whether r leads to states that agree, from the states that the loop starts with as from the set, in the variable as in the head's.
+moved : (c : tie.After-meet Inv-loop μ-loop) (b : Bool) → let a = c .before .before .before .before .args in
+    b ≡ all (a .n) (λ s. implies (has (c .meet .result) s) (keeps (a .n) (a .work .now) (a .r) (c .before .before .variable-of .result) s))
+    → not b ≡ any (a .n) (λ s. has (a .from) s && any (a .n) (λ t. wordRelation (a .n) (a .work .now) (a .r) s t && not (agree (machineIn (a .head)) (a .v) s t)))
 moved c b e =
-    let a = c .before .before .before .before .before .args in
+    let a = c .before .before .before .before .args in
     ap not e ∙ not-kept (a .n) _ _ _
-    ∙ any-cong (a .n) _ _ (λ s l. ap (λ x. x && any (a .n) (λ t. wordRelation (a .n) (a .work .now) (a .r) s t && not (agreeAt (a .src .now) (a .v) s t)))
-    (start-same (a .n) (a .from) _ (start c) s l))
+    ∙ any-cong (a .n) _ _ (λ s l. ap₂ _&&_ (start-same (a .n) (a .from) _ (start c) s l) (any-cong (a .n) _ _ (λ t k.
+    ap (λ x. wordRelation (a .n) (a .work .now) (a .r) s t && not x) (ap (λ x. agreeIn x s t) (c .before .before .variable-of .ensures) ∙ agree-variable (a .head) (a .v) s t))))
 
 returns : tie.Need-returns Inv-loop μ-loop
 returns c =

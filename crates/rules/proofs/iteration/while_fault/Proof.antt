@@ -1,0 +1,41 @@
+-- 30 to 33, then 34 and 50 to 56; the code's n is the machine's, and the sets are where the test is true and false.
+use mathlib.Core.Path.{_∙_, fun-ext}
+use borrow.Author.Needs.{needs}
+use Rattle.evaluation.specs.Values.{exprIn}
+use Rattle.rules.proofs.Asking.{then}
+use Rattle.rules.proofs.Movement.{read-once-50}
+use Rattle.rules.proofs.iteration.while_fault.Statement.{statement}
+use Rattle.rules.proofs.iteration.while_fault.Tie as tie
+
+returns : tie.Need-returns
+returns c =
+    let from-51 = c .before .before .before .before .before .before .before .before .before .before in
+    let test = from-51 .before .before .before .before .before .before .before .before .before .before in
+    let a = test .before .before .before .before .args in
+    let e = exprIn (a .handler .now) (a .head .count) (a .expr) in
+    let once = from-51 .before .before .before .read-once .ensures ∙ read-once-50 _ _ _ (from-51 .before .before .before .before .moved .ensures) e in
+    rw (test .before .states-in .ensures, fun-ext (test .truths-at .ensures .0), fun-ext (test .truths-at .ensures .1)) at
+    (then 56 _
+    (then 55 _
+    (then 54 _
+    (then 53 _
+    (then 52 _
+    (then 51 _
+    (then 50 _
+    (then 34 _ (from-51 .before .before .before .before .before .before .before .common .ensures)
+    (from-51 .before .before .before .before .before .ask .ensures) (from-51 .before .before .before .before .before .before .while-tables .ensures))
+    (from-51 .before .before .ask2 .ensures) once)
+    (from-51 .ask3 .ensures) (from-51 .before .strict-order .ensures))
+    (c .before .before .before .before .before .before .before .before .ask4 .ensures) (c .before .before .before .before .before .before .before .before .before .enters-k .ensures))
+    (c .before .before .before .before .before .before .ask5 .ensures) (c .before .before .before .before .before .before .before .keeps-k .ensures))
+    (c .before .before .before .before .ask6 .ensures) (c .before .before .before .before .before .stays-false .ensures))
+    (c .before .before .ask7 .ensures) (c .before .before .before .rely-descends .ensures))
+    (c .ask8 .ensures) (c .before .exit-satisfies-post .ensures))
+
+pub while-fault-spec : {M : Type 1} → statement M
+while-fault-spec =
+    tie.close
+    (tie.spec
+    (λ c κs. search needs) (λ c κs. search needs) (λ c κs. search needs) (λ c κs. search needs) (λ c κs. search needs) (λ c κs. search needs) (λ c κs. search needs) (λ c κs. search needs) (λ c κs. search needs) (λ c κs. search needs)
+    (λ c κs. search needs) (λ c κs. search needs) (λ c κs. search needs) (λ c κs. search needs) (λ c κs. search needs) (λ c κs. search needs) (λ c κs. search needs) (λ c κs. search needs) (λ c κs. search needs) (λ c κs. search needs)
+    returns)
