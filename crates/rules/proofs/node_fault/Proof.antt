@@ -11,7 +11,7 @@ returns c = rw (c .before .match .keys1) (rw (c .before .before .before .before 
 
 returns-2 : tie.Need-returns-2
 unfolding obligationsIn
-returns-2 c = rw (c .before .match .keys2) (rw (c .before .before .before .before .before .states-in .ensures) at (c .assignment-fault .ensures))
+returns-2 c = rw (c .before .match .keys2) (c .assignment-fault .ensures)
 
 returns-3 : tie.Need-returns-3
 unfolding obligationsIn
@@ -23,11 +23,11 @@ returns-4 c = rw (c .before .match .keys4) (rw (c .before .before .before .befor
 
 returns-5 : tie.Need-returns-5
 unfolding obligationsIn
-returns-5 c = rw (c .before .match .keys5) (rw (c .before .before .before .before .before .states-in .ensures) at (c .if-fault .ensures))
+returns-5 c = rw (c .before .match .keys5) (c .if-fault .ensures)
 
 returns-6 : tie.Need-returns-6
 unfolding obligationsIn
-returns-6 c = rw (c .before .match .keys6) (rw (c .before .before .before .before .before .states-in .ensures) at (c .while-fault .ensures))
+returns-6 c = rw (c .before .match .keys6) (c .while-fault .ensures)
 
 returns-7 : tie.Need-returns-7
 unfolding obligationsIn
