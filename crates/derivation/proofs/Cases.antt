@@ -3,11 +3,13 @@ use Prim.Native.Nat.{ℕ}
 use mathlib.Core.List.{List, [], _∷_, _++_}
 use mathlib.Core.Path.{_≡_, refl}
 use Rattle.bits.specs.Fields.{bitLength, bitAt, bitsAt, isThere, fieldAt, firstSet, fillBits, furtherByte, fillFrom, fillAt}
-use Rattle.semantics.specs.Derivations.{assignment, iteration, weaken, skip}
-use Rattle.derivation.specs.declared.NodeHead.the-variants.{Node, Fault}
+use Rattle.semantics.specs.declared.Names.{Names}
+use Rattle.semantics.specs.Derivations.{skip, assignment, parallel, iteration, weaken}
+use Rattle.derivation.specs.declared.HeadFound.the-variants.{Head, Fault}
 use Rattle.derivation.specs.Tables.{setAt, rowAt, tablesThere, isCount, relationsRead, setsRead, tablesAt, wordAt, tableWord, tabulate, written}
 use Rattle.derivation.specs.Nodes.{onName, named, loopHead, namesHead, ruleHead, nodeHead, nodeAt, wholeNode}
-use Rattle.derivation.specs.Reading.{ProofRead, proof, refused, readProof, wordsOf}
+use Rattle.derivation.specs.Reading.{ProofRead, proof, refused, readProof, tableOf}
+use Rattle.derivation.specs.NodeTable.{nodeWord, nodeOf, nodeIn, padded, nodeTable}
 
 -- One set {0,1}; relations none, {(0,1)}, {(0,1),(1,1)}; an assignment node with P 0, R 0, G 1, Q 2.
 abbrev sample : List ℕ
@@ -25,6 +27,13 @@ eight =
 abbrev deep : List ℕ
 deep = 0x08 ∷ 0x6C ∷ eight ++ eight ++ eight
 
+-- The table of a parallel over a while and a weaken.
+abbrev all : Names
+all = record { p = 1; r = 2; g = 3; q = 15 }
+
+abbrev tree : List ℕ
+tree = nodeTable 24 (parallel all (iteration all 4 9 (skip all)) (weaken all (assignment all)))
+
 -- Opens every definition of reading, for the cases to compute.
 reading : List ℕ → ℕ → ProofRead
 unfolding readProof tablesAt setsRead relationsRead isCount tablesThere rowAt wholeNode nodeAt nodeHead ruleHead namesHead loopHead
@@ -34,6 +43,23 @@ reading = readProof
 pub sample-read : readProof sample 2 ≡ proof 1 3 24 (assignment (record { p = 0; r = 0; g = 1; q = 2 }))
 unfolding reading
 sample-read = refl
+
+-- Its table of nodes: one node, which begins at bit 24; past it the word is 0, which is a skip.
+pub sample-nodes :
+    (nodeIn (tableOf (readProof sample 2)) 0 ≡ record { rule = 1; names = record { p = 0; r = 0; g = 1; q = 2 }; k = 0; w = 0; after = 1; bit = 24 })
+    × (nodeIn (tableOf (readProof sample 2)) 1 ≡ record { rule = 0; names = record { p = 0; r = 0; g = 0; q = 0 }; k = 0; w = 0; after = 0; bit = 0 })
+unfolding reading nodeIn nodeOf nodeTable padded nodeWord
+sample-nodes = (refl, refl)
+
+-- Nodes are numbered in file order; a while takes 27 bits, another node 19.
+pub tree-nodes :
+    (nodeIn tree 0 ≡ record { rule = 3; names = all; k = 0; w = 0; after = 3; bit = 24 })
+    × (nodeIn tree 1 ≡ record { rule = 5; names = all; k = 4; w = 9; after = 3; bit = 43 })
+    × (nodeIn tree 2 ≡ record { rule = 0; names = all; k = 0; w = 0; after = 3; bit = 70 })
+    × (nodeIn tree 3 ≡ record { rule = 6; names = all; k = 0; w = 0; after = 5; bit = 89 })
+    × (nodeIn tree 4 ≡ record { rule = 1; names = all; k = 0; w = 0; after = 5; bit = 108 })
+unfolding nodeIn nodeOf nodeTable padded nodeWord
+tree-nodes = (refl, refl, refl, refl, refl)
 
 -- Its set is word 0, row 0 of relation 1 is word 80, the rows of relation 2 are words 144 and 145.
 pub sample-words :
@@ -73,7 +99,7 @@ codes-and-names = (refl, refl, refl, refl, refl)
 
 -- 24: the node at level 25, and the 128th node; a field that is not there goes before it, an unused code after it.
 pub too-many :
-    (readProof deep 1 ≡ refused 24 468) × (nodeHead sample 1 3 24 127 24 ≡ Fault 24 24) × (nodeHead sample 1 3 1 126 24 ≡ Node 1 0 0 1 2 0 0 43)
+    (readProof deep 1 ≡ refused 24 468) × (nodeHead sample 1 3 24 127 24 ≡ Fault 24 24) × (nodeHead sample 1 3 1 126 24 ≡ Head (record { rule = 1; names = record { p = 0; r = 0; g = 1; q = 2 }; k = 0; w = 0; next = 43 }))
     × (nodeHead sample 1 3 0 0 24 ≡ Fault 24 24) × (nodeHead sample 1 3 0 0 48 ≡ Fault 20 48) × (nodeHead (0xE0 ∷ []) 1 3 24 127 0 ≡ Fault 24 0)
 unfolding reading
 too-many = (refl, refl, refl, refl, refl, refl)

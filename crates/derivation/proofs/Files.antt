@@ -2,31 +2,36 @@
 use Prim.Native.Nat.{ℕ, _*_, _≤_}
 use mathlib.Core.Bool.{Bool, true, false, cond, and-eq-true-iff}
 use mathlib.Core.List.{List}
-use mathlib.Core.Path.{_≡_, refl}
+use mathlib.Core.Path.{_≡_, refl, sym, _∙_, ap}
 use native.Mathlib.Omega.{arith}
 use borrow.Author.Tests.{leb-true}
-use lib.ListN.{length}
+use lib.ListN.{length, replicate}
+use lib.Seq.{sets as stored}
 use Rattle.bits.specs.Fields.{bitLength, fieldAt, fillAt}
 use Rattle.bits.specs.declared.Field.{Field}
 use Rattle.bits.specs.declared.Field.the-variants.{Value, Missing}
 use Rattle.bits.specs.declared.Fill.{Fill}
 use Rattle.bits.specs.declared.Fill.the-variants.{Ends, Wrong}
-use Rattle.semantics.specs.Derivations.{Derivation}
+use Rattle.semantics.specs.Derivations.{Derivation, nodes}
 use Rattle.derivation.specs.declared.Tables.{Tables}
 use Rattle.derivation.specs.declared.Tables.the-variants.{Counts, Fault}
-use Rattle.derivation.specs.declared.ProofFile.the-variants as File
+use Rattle.derivation.specs.declared.ProofHead.{ProofHead}
+use Rattle.derivation.specs.declared.ProofFound.{ProofFound}
+use Rattle.derivation.specs.declared.ProofFound.the-variants as Found
+use Rattle.derivation.specs.declared.NodeEnd.the-variants as End
 use Rattle.derivation.specs.Tables.{rowAt, tablesThere, isCount, relationsRead, setsRead, tablesAt}
-use Rattle.derivation.specs.Nodes.{NodeRead, whole, fault, wholeNode}
-use Rattle.derivation.specs.Reading.{ProofRead, proof, refused, onFill, onNodes, onTables, readProof, fileOf, wordsOf}
+use Rattle.derivation.specs.Nodes.{NodeRead, whole, fault, wholeNode, endOf}
+use Rattle.derivation.specs.Reading.{ProofRead, proof, refused, onFill, onNodes, onTables, readProof, foundOf, fileOf, wordsOf}
+use Rattle.derivation.specs.NodeTable.{nodeWords, nodeTable}
 use Rattle.derivation.proofs.Counts.{count-range}
+use Rattle.derivation.proofs.NodeTable.{Known, length-nodeWords}
+use Rattle.derivation.proofs.NodesRead.{ended-whole, ended-faulty, read}
+use Rattle.derivation.proofs.Filling.{stored-padded}
 
 -- Its counts, and that its tables are there in full.
 pub record Counted (bytes : List ℕ) (n sets relations at : ℕ) : Type 0 where
-  pub states-least : 1 ≤ n
   pub states-most : n ≤ 64
-  pub sets-least : 1 ≤ sets
   pub sets-most : sets ≤ 16
-  pub relations-least : 1 ≤ relations
   pub relations-most : relations ≤ 16
   pub root : at ≡ rowAt n sets relations 0
   pub inside : rowAt n sets relations 0 ≤ 8 * length bytes
@@ -45,15 +50,10 @@ module _ (bytes : List ℕ) (n : ℕ) where
           → CountedIn bytes n (cond b (Counts sets relations (rowAt n sets relations 0)) (Fault 20 (bitLength bytes)))
       within true t er =
           let tests = simp and-eq-true-iff at t in
-          let s = count-range sets es in
-          let r = count-range relations er in
           record {
-            states-least = omega (arith, leb-true);
             states-most = omega (arith, leb-true);
-            sets-least = s .0;
-            sets-most = s .1;
-            relations-least = r .0;
-            relations-most = r .1;
+            sets-most = count-range sets es .1;
+            relations-most = count-range relations er .1;
             root = refl;
             inside = omega (arith, leb-true);
           }
@@ -110,15 +110,91 @@ module _ (bytes : List ℕ) (n : ℕ) where
       head (Fault k place) t eq = absurd (let z : _≡_ {A = ℕ} 0 1 = cc in omega arith)
       head (Counts s r a) t eq = root s r a (wholeNode bytes s r a) t refl eq
 
--- The code's answer tells whether the file was read without fault, and what its words are.
-pub answered : (r : ProofRead) (sets relations at : ℕ) → fileOf r ≡ File.Proof sets relations at → (d : Derivation) × (r ≡ proof sets relations at d)
-answered (proof s r a d) sets relations at e =
-    let same-s : s ≡ sets = cc in
-    let same-r : r ≡ relations = cc in
-    let same-a : a ≡ at = cc in
-    (d, rw (same-s, same-r, same-a))
-answered (refused k place) sets relations at e = absurd (let z : _≡_ {A = ℕ} 0 1 = cc in omega arith)
+  -- What is known of such a file: its counts, and that its nodes name tables that there are.
+  pub record Shown (sets relations : ℕ) (d : Derivation) : Type 0 where
+    pub sets-most : sets ≤ 16
+    pub relations-most : relations ≤ 16
+    pub nodes-most : nodes d ≤ 127
+    pub known : Known sets relations d
 
-pub no-words : (bytes : List ℕ) (n : ℕ) (r : ProofRead) (k place : ℕ) → fileOf r ≡ File.Fault k place → (j : ℕ) → wordsOf bytes n r j ≡ 0
+  pub read-known : (sets relations at : ℕ) (d : Derivation) → readProof bytes n ≡ proof sets relations at d → Shown sets relations d
+  unfolding wholeNode
+  read-known sets relations at d e =
+      let s = stages sets relations at d e in
+      let r = read bytes sets relations 25 0 at d (s .count) (s .next) (s .nodes-read) in
+      let c = counted sets relations at (s .tables) in
+      record { sets-most = c .sets-most; relations-most = c .relations-most; nodes-most = omega (arith, r .counted, r .room); known = r .known }
+
+  -- What is owed of reading into a table: the answer, and where there is a derivation the table has its words.
+  module _ (table exit : List ℕ) where
+    abbrev pub FileDone : ProofFound → Type 0
+    FileDone r =
+        (r ≡ foundOf (readProof bytes n))
+        × ((sets relations at : ℕ) (d : Derivation) → readProof bytes n ≡ proof sets relations at d → exit ≡ stored table 0 (nodeWords 0 at d))
+
+    refused-done : (k place : ℕ) → readProof bytes n ≡ refused k place → FileDone (Found.Fault k place)
+    refused-done k place e =
+        (sym (ap foundOf e), λ sets relations at d p. absurd (let z : _≡_ {A = ℕ} 0 1 = cc in omega arith))
+
+    pub no-tables : (k place : ℕ) → tablesAt bytes n ≡ Fault k place → FileDone (Found.Fault k place)
+    unfolding readProof
+    no-tables k place e = refused-done k place (rw e)
+
+    module _ (sets relations at : ℕ) (tables : tablesAt bytes n ≡ Counts sets relations at) where
+      pub no-nodes : (k place : ℕ) → endOf (wholeNode bytes sets relations at) ≡ End.Fault k place → FileDone (Found.Fault k place)
+      unfolding readProof
+      no-nodes k place e = refused-done k place (rw (tables, ended-faulty _ k place e))
+
+      module _ (count next : ℕ) (nodes-end : endOf (wholeNode bytes sets relations at) ≡ End.Ends count next) where
+        d-read : (d : Derivation) × (wholeNode bytes sets relations at ≡ whole d count next)
+        d-read = ended-whole (wholeNode bytes sets relations at) count next nodes-end
+
+        pub wrong-fill : (place : ℕ) → fillAt bytes next ≡ Wrong place → FileDone (Found.Fault 25 place)
+        unfolding readProof
+        wrong-fill place e = refused-done 25 place (rw (tables, d-read .1, e))
+
+        pub whole-file : fillAt bytes next ≡ Ends
+            → ((d : Derivation) (after next : ℕ) → wholeNode bytes sets relations at ≡ whole d after next → exit ≡ stored table 0 (nodeWords 0 at d))
+            → FileDone (Found.Proof (record { sets = sets; relations = relations; nodes = count; root = at }))
+        unfolding readProof wholeNode
+        whole-file e filled =
+            let is : readProof bytes n ≡ proof sets relations at (d-read .0) = rw (tables, d-read .1, e) in
+            let shows = read bytes sets relations 25 0 at (d-read .0) count next (d-read .1) in
+            let counts : count ≡ nodes (d-read .0) = omega (arith, shows .counted) in (
+              ap (λ (k : ℕ). Found.Proof (record { sets = sets; relations = relations; nodes = k; root = at })) counts ∙ sym (ap foundOf is),
+              λ sets′ relations′ at′ d p.
+                  let same-at : at ≡ at′ = cc in
+                  let same-d : d-read .0 ≡ d = cc in
+                  filled (d-read .0) count next (d-read .1) ∙ (λ i. stored table 0 (nodeWords 0 (same-at i) (same-d i))),
+            )
+
+  -- The file as it is answered, by what was read into a table of 0.
+  module _ (r : ProofFound) (exit : List ℕ) (done : FileDone (replicate 127 0) exit r) where
+    pub file-refused : (k place : ℕ) → r ≡ Found.Fault k place → record { found = Found.Fault k place; nodes = replicate 127 0 } ≡ fileOf (readProof bytes n)
+    file-refused k place e = by (readProof bytes n) (sym e ∙ done .0)
+      where
+        by : (p : ProofRead) → Found.Fault k place ≡ foundOf p → record { found = Found.Fault k place; nodes = replicate 127 0 } ≡ fileOf p
+        by (proof sets relations at d) f = absurd (let z : _≡_ {A = ℕ} 0 1 = cc in omega arith)
+        by (refused k′ place′) f = λ i. record { found = f i; nodes = replicate 127 0 }
+
+    pub file-read : (x : ProofHead) → r ≡ Found.Proof x → record { found = Found.Proof x; nodes = exit } ≡ fileOf (readProof bytes n)
+    unfolding nodeTable
+    file-read x e = by (readProof bytes n) refl (sym e ∙ done .0)
+      where
+        by : (p : ProofRead) → readProof bytes n ≡ p → Found.Proof x ≡ foundOf p → record { found = Found.Proof x; nodes = exit } ≡ fileOf p
+        by (proof sets relations at d) is f =
+            let few : length (nodeWords 0 at d) ≤ 127 = rw (length-nodeWords 0 at d) (read-known sets relations at d is .nodes-most) in
+            let table = done .1 sets relations at d is ∙ stored-padded 127 (nodeWords 0 at d) few in
+            λ i. record { found = f i; nodes = table i }
+        by (refused k place) is f = absurd (let z : _≡_ {A = ℕ} 0 1 = cc in omega arith)
+
+-- The code's answer tells whether the file was read without fault, and what its words are.
+pub answered : (r : ProofRead) (x : ProofHead) → foundOf r ≡ Found.Proof x → (d : Derivation) × (r ≡ proof (x .sets) (x .relations) (x .root) d)
+answered (proof sets relations at d) x e =
+    let same : record { sets = sets; relations = relations; nodes = nodes d; root = at } ≡ x = cc in
+    (d, λ i. proof (same i .sets) (same i .relations) (same i .root) d)
+answered (refused k place) x e = absurd (let z : _≡_ {A = ℕ} 0 1 = cc in omega arith)
+
+pub no-words : (bytes : List ℕ) (n : ℕ) (r : ProofRead) (k place : ℕ) → foundOf r ≡ Found.Fault k place → (j : ℕ) → wordsOf bytes n r j ≡ 0
 no-words bytes n (proof sets relations at d) k place e j = absurd (let z : _≡_ {A = ℕ} 0 1 = cc in omega arith)
 no-words bytes n (refused k' place') k place e j = refl

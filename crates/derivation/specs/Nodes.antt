@@ -10,59 +10,62 @@ use Rattle.bits.specs.declared.Field.the-variants.{Value, Missing}
 use Rattle.semantics.specs.declared.Names.{Names}
 use Rattle.semantics.specs.Derivations.{Derivation, skip, assignment, sequence, parallel, conditional, iteration, weaken}
 use Rattle.derivation.specs.declared.NodeHead.{NodeHead}
-use Rattle.derivation.specs.declared.NodeHead.the-variants.{Node, Fault}
+use Rattle.derivation.specs.declared.HeadFound.{HeadFound}
+use Rattle.derivation.specs.declared.HeadFound.the-variants.{Head, Fault}
 use Rattle.derivation.specs.declared.TwoNames.{TwoNames}
 use Rattle.derivation.specs.declared.TwoNames.the-variants as Two
 use Rattle.derivation.specs.declared.NodeEnd.{NodeEnd}
 use Rattle.derivation.specs.declared.NodeEnd.the-variants as End
 
 -- 23: no such set or relation, at its field.
-unfoldable pub onName : List ℕ → ℕ → ℕ → Field → (ℕ → NodeHead) → NodeHead
+unfoldable pub onName : List ℕ → ℕ → ℕ → Field → (ℕ → HeadFound) → HeadFound
 onName bytes limit at Missing f = Fault 20 (bitLength bytes)
 onName bytes limit at (Value i next) f = cond (ltb i limit) (f i) (Fault 23 at)
 
-unfoldable pub named : List ℕ → ℕ → ℕ → (ℕ → NodeHead) → NodeHead
+unfoldable pub named : List ℕ → ℕ → ℕ → (ℕ → HeadFound) → HeadFound
 named bytes limit at f = onName bytes limit at (fieldAt bytes at 4) f
 
--- What two tables read one after the other give to what is read behind them.
-unfoldable pub onPair : TwoNames → (ℕ → ℕ → ℕ → NodeHead) → NodeHead
+-- What two tables read one after the other give to what is read after them.
+unfoldable pub onPair : TwoNames → (ℕ → ℕ → ℕ → HeadFound) → HeadFound
 onPair (Two.Pair i j next) f = f i j next
 onPair (Two.Fault k place) f = Fault k place
 
 module _ (bytes : List ℕ) (sets relations : ℕ) where
   -- K and W of a while, which are 0 at any other rule.
-  unfoldable pub loopHead : ℕ → ℕ → ℕ → ℕ → ℕ → ℕ → NodeHead
-  loopHead rule P R G Q at =
+  unfoldable pub loopHead : ℕ → Names → ℕ → HeadFound
+  loopHead rule h at =
       cond (eqb rule 5)
-      (named bytes sets at (λ K. named bytes relations (at + 4) (λ W. Node rule P R G Q K W (at + 8)))) (Node rule P R G Q 0 0 at)
+      (named bytes sets at (λ K. named bytes relations (at + 4) (λ W. Head (record { rule = rule; names = h; k = K; w = W; next = at + 8 }))))
+      (Head (record { rule = rule; names = h; k = 0; w = 0; next = at }))
 
-  unfoldable pub namesHead : ℕ → ℕ → NodeHead
+  unfoldable pub namesHead : ℕ → ℕ → HeadFound
   namesHead rule at =
       named bytes sets at (λ P. named bytes relations (at + 4) (λ R. named bytes relations (at + 8) (λ G.
-      named bytes relations (at + 12) (λ Q. loopHead rule P R G Q (at + 16)))))
+      named bytes relations (at + 12) (λ Q. loopHead rule (record { p = P; r = R; g = G; q = Q }) (at + 16)))))
 
   -- A node's rule: 20 not there, then 24 the 128th node or the 25th level, then 22 the unused code 7, then its tables.
-  unfoldable pub ruleHead : Bool → ℕ → Field → NodeHead
+  unfoldable pub ruleHead : Bool → ℕ → Field → HeadFound
   ruleHead tooMany at Missing = Fault 20 (bitLength bytes)
   ruleHead tooMany at (Value rule next) = cond tooMany (Fault 24 at) (cond (eqb rule 7) (Fault 22 at) (namesHead rule next))
 
   -- What stands at a node with so many nodes before it, where so many levels are left below it.
-  unfoldable pub nodeHead : ℕ → ℕ → ℕ → NodeHead
+  unfoldable pub nodeHead : ℕ → ℕ → ℕ → HeadFound
   nodeHead below before at = ruleHead (eqb below 0 || leb 127 before) at (fieldAt bytes at 3)
 
--- A derivation with the number of nodes so far and the cursor behind it, or the first fault.
+-- A derivation with the number of nodes so far and the cursor after it, or the first fault.
 pub data NodeRead : Type 0 where
   whole : Derivation → ℕ → ℕ → NodeRead
   fault : ℕ → ℕ → NodeRead
 
-abbrev pub alone : ℕ → Names → Derivation
-alone rule h = cond (eqb rule 0) (skip h) (assignment h)
+abbrev pub alone : NodeHead → Derivation
+alone x = cond (eqb (x .rule) 0) (skip (x .names)) (assignment (x .names))
 
-abbrev pub overTwo : ℕ → Names → Derivation → Derivation → Derivation
-overTwo rule h l r = cond (eqb rule 2) (sequence h l r) (parallel h l r)
+abbrev pub overTwo : NodeHead → Derivation → Derivation → Derivation
+overTwo x l r = cond (eqb (x .rule) 2) (sequence (x .names) l r) (parallel (x .names) l r)
 
-abbrev pub overOne : ℕ → Names → ℕ → ℕ → Derivation → Derivation
-overOne rule h K W d = cond (eqb rule 4) (conditional h d) (cond (eqb rule 5) (iteration h K W d) (weaken h d))
+abbrev pub overOne : NodeHead → Derivation → Derivation
+overOne x d =
+    cond (eqb (x .rule) 4) (conditional (x .names) d) (cond (eqb (x .rule) 5) (iteration (x .names) (x .k) (x .w) d) (weaken (x .names) d))
 
 abbrev pub onChild : (Derivation → Derivation) → NodeRead → NodeRead
 onChild f (fault k place) = fault k place
@@ -73,13 +76,11 @@ onLeft f (fault k place) right = fault k place
 onLeft f (whole l before next) right = onChild (f l) (right before next)
 
 -- Its child nodes: none for skip and assignment, two for sequence and parallel, one for if, while and weaken.
-abbrev pub onNodeHead : NodeHead → ℕ → (ℕ → ℕ → NodeRead) → NodeRead
+abbrev pub onNodeHead : HeadFound → ℕ → (ℕ → ℕ → NodeRead) → NodeRead
 onNodeHead (Fault k place) before node = fault k place
-onNodeHead (Node rule P R G Q K W next) before node =
-    let h : Names = record { p = P; r = R; g = G; q = Q } in
-    cond (ltb rule 2) (whole (alone rule h) (suc before) next)
-    (cond (ltb rule 4) (onLeft (overTwo rule h) (node (suc before) next) node)
-    (onChild (overOne rule h K W) (node (suc before) next)))
+onNodeHead (Head x) before node =
+    cond (ltb (x .rule) 2) (whole (alone x) (suc before) (x .next))
+    (cond (ltb (x .rule) 4) (onLeft (overTwo x) (node (suc before) (x .next)) node) (onChild (overOne x) (node (suc before) (x .next))))
 
 -- The derivation at a cursor; the levels to go are one more than the 24 that can be there, so their end is never met.
 unfoldable pub nodeAt : ℕ → List ℕ → ℕ → ℕ → ℕ → ℕ → NodeRead

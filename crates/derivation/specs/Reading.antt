@@ -1,16 +1,19 @@
 -- Document 01, "Order": the proof file front to back.
 use Prim.Native.Nat.{ℕ}
 use mathlib.Core.List.{List}
+use lib.ListN.{replicate}
 use Rattle.bits.specs.Fields.{fillAt}
 use Rattle.bits.specs.declared.Fill.{Fill}
 use Rattle.bits.specs.declared.Fill.the-variants.{Ends, Wrong}
-use Rattle.semantics.specs.Derivations.{Derivation}
+use Rattle.semantics.specs.Derivations.{Derivation, nodes}
 use Rattle.derivation.specs.declared.Tables.{Tables}
 use Rattle.derivation.specs.declared.Tables.the-variants.{Counts, Fault}
+use Rattle.derivation.specs.declared.ProofFound.{ProofFound}
+use Rattle.derivation.specs.declared.ProofFound.the-variants as Found
 use Rattle.derivation.specs.declared.ProofFile.{ProofFile}
-use Rattle.derivation.specs.declared.ProofFile.the-variants as File
 use Rattle.derivation.specs.Tables.{tablesAt, tableWord, written}
 use Rattle.derivation.specs.Nodes.{NodeRead, whole, fault, wholeNode}
+use Rattle.derivation.specs.NodeTable.{nodeTable}
 
 -- A proof file: how many sets and relations, the root's first bit and the derivation; or its first fault.
 pub data ProofRead : Type 0 where
@@ -35,9 +38,17 @@ unfoldable pub readProof : List ℕ → ℕ → ProofRead
 readProof bytes n = onTables bytes (tablesAt bytes n)
 
 -- What the code answers of a proof file.
+abbrev pub foundOf : ProofRead → ProofFound
+foundOf (proof sets relations at d) = Found.Proof (record { sets = sets; relations = relations; nodes = nodes d; root = at })
+foundOf (refused k place) = Found.Fault k place
+
+-- The table of its nodes, or 0 after a fault.
+abbrev pub tableOf : ProofRead → List ℕ
+tableOf (proof sets relations at d) = nodeTable at d
+tableOf (refused k place) = replicate 127 0
+
 abbrev pub fileOf : ProofRead → ProofFile
-fileOf (proof sets relations at d) = File.Proof sets relations at
-fileOf (refused k place) = File.Fault k place
+fileOf r = record { found = foundOf r; nodes = tableOf r }
 
 -- The table words that a proof file leaves: its tables, or 0 after a fault.
 abbrev pub wordsOf : List ℕ → ℕ → ProofRead → ℕ → ℕ

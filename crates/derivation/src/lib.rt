@@ -1,12 +1,32 @@
-// The proof file, read from its bits: the tables go into the caller's work words, and a node is the number of its first bit.
+// The proof file, read from its bits once: the tables go into the caller's work words, and the nodes into a table, a word each.
 use semantics::Names;
 
 pub mod header;
-pub mod nodes;
+mod nodes;
 pub mod reading;
 pub mod table;
 mod wide;
 pub mod words;
+
+// The rules by their codes.
+pub const SKIP: u32 = 0;
+
+pub const ASSIGNMENT: u32 = 1;
+
+pub const SEQUENCE: u32 = 2;
+
+pub const PARALLEL: u32 = 3;
+
+pub const IF: u32 = 4;
+
+pub const WHILE: u32 = 5;
+
+pub const WEAKEN: u32 = 6;
+
+// At most 127 nodes and 24 levels.
+pub const MOST_NODES: usize = 127;
+
+pub const MOST_LEVELS: u32 = 24;
 
 // What the head of the file finds over N states: how many sets and relations, and the root node's first bit; or a fault.
 pub enum Tables {
@@ -14,28 +34,30 @@ pub enum Tables {
     Fault(u32, usize),
 }
 
-// What stands at a node: its rule, the tables P, R, G, Q, K and W by number (K and W are 0 but at a while), and the cursor
-// behind; or a fault.
-pub enum NodeHead {
-    Node(u32, u32, u32, u32, u32, u32, u32, usize),
+// What stands at a node: its rule, the tables that it names (K and W are 0 but at a while), and the bit after it.
+struct NodeHead {
+    rule: u32,
+    names: Names,
+    k: u32,
+    w: u32,
+    next: usize,
+}
+
+// What stands at a node, or a fault.
+enum HeadFound {
+    Head(NodeHead),
     Fault(u32, usize),
 }
 
-// Two tables that a node names one after the other, with the cursor behind them; or a fault.
+// Two tables that a node names one after the other, and the bit after them; or a fault.
 enum TwoNames {
     Pair(u32, u32, usize),
     Fault(u32, usize),
 }
 
-// Where the derivation at a node ends: how many nodes the file has so far, and the cursor behind it; or the first fault.
-pub enum NodeEnd {
+// Where the derivation at a node ends: how many nodes the file has so far, and the bit after it; or the first fault.
+enum NodeEnd {
     Ends(u32, usize),
-    Fault(u32, usize),
-}
-
-// A whole proof file: how many sets and relations, and the root node's first bit; or the first fault.
-pub enum ProofFile {
-    Proof(u32, u32, usize),
     Fault(u32, usize),
 }
 
@@ -48,4 +70,24 @@ pub struct Node {
     pub w: u32,
     pub after: u32,
     pub bit: usize,
+}
+
+// What a proof file without fault holds: how many sets, relations and nodes, and the bit at which the root node begins.
+pub struct ProofHead {
+    pub sets: u32,
+    pub relations: u32,
+    pub nodes: u32,
+    pub root: usize,
+}
+
+// What a proof file without fault holds, or its first fault.
+pub enum ProofFound {
+    Proof(ProofHead),
+    Fault(u32, usize),
+}
+
+// A whole proof file: what was found, and the table of its nodes, which is 0 after a fault.
+pub struct ProofFile {
+    pub found: ProofFound,
+    pub nodes: [u64; MOST_NODES],
 }

@@ -1,17 +1,33 @@
 // The nodes of the proof file, by their first bits: what stands at one, and where the derivation at it ends.
+use super::HeadFound;
+use super::IF;
+use super::MOST_LEVELS;
+use super::MOST_NODES;
+use super::Node;
 use super::NodeEnd;
 use super::NodeHead;
+use super::SEQUENCE;
 use super::TwoNames;
+use super::WHILE;
+use super::table::node_word;
 use bits::Field;
+use semantics::Names;
 ghost use mathlib.Core.Path.{_≡_};
 ghost use mathlib.Core.Bool.{_&&_};
-ghost use Prim.Native.Nat.{ℕ, _+_};
+ghost use Prim.Native.Nat.{ℕ, _+_, _*_, _^_, _≤_, _<_};
 ghost use lib.Dec.{ltb};
-ghost use Rattle.derivation.specs.Nodes.{named, onPair, loopHead, namesHead, nodeHead, nodeAt, wholeNode, endOf};
+ghost use lib.ListN.{set};
+ghost use lib.Seq.{sets as stored};
+ghost use Rattle.semantics.specs.Derivations.{Derivation};
+ghost use Rattle.derivation.specs.Nodes.{named, onPair, loopHead, namesHead, nodeHead, whole, nodeAt, wholeNode, endOf};
+ghost use Rattle.derivation.specs.NodeTable.{Fits, nodeWord, nodeWords, recordOf};
 
-// The two tables named at a cursor, each below its limit. The promise is over whatever is read behind them.
+// The code that is no rule.
+const NO_RULE: u64 = 7;
+
+// The two tables named at a cursor, each below its limit. The promise is over whatever is read after them.
 fn names_at(src: &[u8], first: u32, second: u32, at: usize) -> TwoNames
-    ensures { λ r. ⌜ ((f : ℕ → ℕ → ℕ → NodeHead) →
+    ensures { λ r. ⌜ ((f : ℕ → ℕ → ℕ → HeadFound) →
         named (now (src .entry)) first at (λ i. named (now (src .entry)) second (at + 4) (λ j. f i j (at + 8))) ≡ onPair r f) ⌝ }
 {
     let Field::Value(i, next) = bits::read(src, at, 4) else {
@@ -30,117 +46,183 @@ fn names_at(src: &[u8], first: u32, second: u32, at: usize) -> TwoNames
 }
 
 // K and W of a while, which are 0 at any other rule.
-fn loop_head(
-    src: &[u8],
-    sets: u32,
-    relations: u32,
-    rule: u32,
-    p: u32,
-    r: u32,
-    g: u32,
-    q: u32,
-    at: usize,
-) -> NodeHead
-    ensures { λ head. ⌜ head ≡ loopHead (now (src .entry)) sets relations rule p r g q at ⌝ }
+fn loop_head(src: &[u8], sets: u32, relations: u32, rule: u32, names: Names, at: usize) -> HeadFound
+    ensures { λ r. ⌜ r ≡ loopHead (now (src .entry)) sets relations rule names at ⌝ }
 {
-    if rule != 5 {
-        return NodeHead::Node(rule, p, r, g, q, 0, 0, at);
+    if rule != WHILE {
+        return HeadFound::Head(NodeHead {
+            rule,
+            names,
+            k: 0,
+            w: 0,
+            next: at,
+        });
     }
     match names_at(src, sets, relations, at) {
-        TwoNames::Fault(fault, place) => NodeHead::Fault(fault, place),
-        TwoNames::Pair(k, w, next) => NodeHead::Node(rule, p, r, g, q, k, w, next),
+        TwoNames::Fault(fault, place) => HeadFound::Fault(fault, place),
+        TwoNames::Pair(k, w, next) => HeadFound::Head(NodeHead {
+            rule,
+            names,
+            k,
+            w,
+            next,
+        }),
     }
 }
 
-// The tables that a node of a rule names, from the cursor behind its rule, pair by pair: so that the first fault is met first.
-fn names_in_turn(src: &[u8], sets: u32, relations: u32, rule: u32, at: usize) -> NodeHead
+// The tables that a node of a rule names, from the bit after its rule, pair by pair: so that the first fault is met first.
+fn names_in_turn(src: &[u8], sets: u32, relations: u32, rule: u32, at: usize) -> HeadFound
     ensures { λ r. ⌜ r ≡ namesHead (now (src .entry)) sets relations rule at ⌝ }
 {
     match names_at(src, sets, relations, at) {
-        TwoNames::Fault(fault, place) => NodeHead::Fault(fault, place),
+        TwoNames::Fault(fault, place) => HeadFound::Fault(fault, place),
         TwoNames::Pair(p, r, middle) => match names_at(src, relations, relations, middle) {
-            TwoNames::Fault(fault, place) => NodeHead::Fault(fault, place),
-            TwoNames::Pair(g, q, next) => loop_head(src, sets, relations, rule, p, r, g, q, next),
+            TwoNames::Fault(fault, place) => HeadFound::Fault(fault, place),
+            TwoNames::Pair(g, q, next) => {
+                loop_head(src, sets, relations, rule, Names { p, r, g, q }, next)
+            }
         },
     }
 }
 
 // Whether there are such tables.
-fn all_there(sets: u32, relations: u32, p: u32, r: u32, g: u32, q: u32) -> bool
-    ensures { λ there. ⌜ there ≡ (ltb p sets && ltb r relations && ltb g relations && ltb q relations) ⌝ }
+fn all_there(sets: u32, relations: u32, names: Names) -> bool
+    ensures { λ there. ⌜ there ≡ (ltb (names .p) sets && ltb (names .r) relations && ltb (names .g) relations && ltb (names .q) relations) ⌝ }
 {
-    (p < sets) & (r < relations) & (g < relations) & (q < relations)
+    (names.p < sets) & (names.r < relations) & (names.g < relations) & (names.q < relations)
 }
 
 // The same tables, read at once where they are all there.
-fn names_head(src: &[u8], sets: u32, relations: u32, rule: u32, at: usize) -> NodeHead
+fn names_head(src: &[u8], sets: u32, relations: u32, rule: u32, at: usize) -> HeadFound
     ensures { λ r. ⌜ r ≡ namesHead (now (src .entry)) sets relations rule at ⌝ }
 {
-    let Field::Value(names, next) = bits::read(src, at, 16) else {
+    let Field::Value(four, next) = bits::read(src, at, 16) else {
         return names_in_turn(src, sets, relations, rule, at);
     };
-    let p = (names / 4096 % 16) as u32;
-    let r = (names / 256 % 16) as u32;
-    let g = (names / 16 % 16) as u32;
-    let q = (names % 16) as u32;
-    if all_there(sets, relations, p, r, g, q) {
-        return loop_head(src, sets, relations, rule, p, r, g, q, next);
+    let names = Names {
+        p: (four / 4096 % 16) as u32,
+        r: (four / 256 % 16) as u32,
+        g: (four / 16 % 16) as u32,
+        q: (four % 16) as u32,
+    };
+    if all_there(sets, relations, names) {
+        return loop_head(src, sets, relations, rule, names, next);
     }
     names_in_turn(src, sets, relations, rule, at)
 }
 
 // What stands at a node with `before` nodes before it, where `below` levels are left below it.
-pub fn node_head_at(
+fn node_head_at(
     src: &[u8],
     sets: u32,
     relations: u32,
     below: u32,
     before: u32,
     at: usize,
-) -> NodeHead
+) -> HeadFound
     ensures { λ r. ⌜ r ≡ nodeHead (now (src .entry)) sets relations below before at ⌝ }
 {
     let Field::Value(rule, next) = bits::read(src, at, 3) else {
-        return NodeHead::Fault(20, bits::bit_length(src));
+        return HeadFound::Fault(20, bits::bit_length(src));
     };
-    if below == 0 || before >= 127 {
-        return NodeHead::Fault(24, at);
+    if below == 0 || before >= MOST_NODES as u32 {
+        return HeadFound::Fault(24, at);
     }
-    if rule == 7 {
-        return NodeHead::Fault(22, at);
+    if rule == NO_RULE {
+        return HeadFound::Fault(22, at);
     }
     names_head(src, sets, relations, rule as u32, next)
 }
 
-// Where the derivation at a node ends, that of its children first.
-fn node_walk(src: &[u8], sets: u32, relations: u32, levels: u32, before: u32, at: usize) -> NodeEnd
-    ensures { λ r. ⌜ r ≡ endOf (nodeAt levels (now (src .entry)) sets relations before at) ⌝ }
+// Whether a rule has no child: skip and assignment.
+fn has_no_child(rule: u32) -> bool
+    ensures { λ r. ⌜ r ≡ ltb rule 2 ⌝ }
+{
+    rule < SEQUENCE
+}
+
+// Whether a rule that has a child has two: sequence and parallel.
+fn has_two_children(rule: u32) -> bool
+    ensures { λ r. ⌜ r ≡ ltb rule 4 ⌝ }
+{
+    rule < IF
+}
+
+// Stores node i, which begins at a bit, with the number of the node after its first child.
+fn store(table: &mut [u64; MOST_NODES], i: u32, head: NodeHead, after: u32, bit: usize)
+    requires { ⌜ (i < 127) × Fits (recordOf head after bit) × (bit < 2 ^ 30) ⌝ }
+    ensures { λ _. ⌜ now (table .exit) ≡ set (now (table .entry)) i (nodeWord (recordOf head after bit)) ⌝ }
+{
+    let rule = head.rule;
+    let names = head.names;
+    let k = head.k;
+    let w = head.w;
+    table[i as usize] = node_word(Node {
+        rule,
+        names,
+        k,
+        w,
+        after,
+        bit,
+    });
+}
+
+// Where the derivation at a node ends, that of its children first; its nodes go into the table, each as soon as it is known
+// where its first child ends.
+fn node_walk(
+    src: &[u8],
+    sets: u32,
+    relations: u32,
+    levels: u32,
+    before: u32,
+    at: usize,
+    table: &mut [u64; MOST_NODES],
+) -> NodeEnd
+    requires { ⌜ (sets ≤ 16) × (relations ≤ 16) × (at ≤ 2 ^ 20 + 27 * before) ⌝ }
+    ensures ends { λ r. ⌜ r ≡ endOf (nodeAt levels (now (src .entry)) sets relations before at) ⌝ }
+    ensures filled { λ _. ⌜ ((d : Derivation) (after next : ℕ) → nodeAt levels (now (src .entry)) sets relations before at ≡ whole d after next
+        → now (table .exit) ≡ stored (now (table .entry)) before (nodeWords before at d)) ⌝ }
 {
     if levels == 0 {
         return NodeEnd::Fault(24, at);
     }
-    match node_head_at(src, sets, relations, levels - 1, before, at) {
-        NodeHead::Fault(fault, place) => NodeEnd::Fault(fault, place),
-        NodeHead::Node(rule, _, _, _, _, _, _, next) => {
-            if rule < 2 {
-                return NodeEnd::Ends(before + 1, next);
+    let below = levels - 1;
+    match node_head_at(src, sets, relations, below, before, at) {
+        HeadFound::Fault(fault, place) => NodeEnd::Fault(fault, place),
+        HeadFound::Head(head) => {
+            let rule = head.rule;
+            let next = head.next;
+            let first = before + 1;
+            if has_no_child(rule) {
+                store(table, before, head, first, at);
+                return NodeEnd::Ends(first, next);
             }
-            match node_walk(src, sets, relations, levels - 1, before + 1, next) {
+            match node_walk(src, sets, relations, below, first, next, table) {
                 NodeEnd::Fault(fault, place) => NodeEnd::Fault(fault, place),
-                NodeEnd::Ends(so_far, end) => {
-                    if rule < 4 {
-                        return node_walk(src, sets, relations, levels - 1, so_far, end);
+                NodeEnd::Ends(after, end) => {
+                    store(table, before, head, after, at);
+                    if has_two_children(rule) {
+                        return node_walk(src, sets, relations, below, after, end, table);
                     }
-                    NodeEnd::Ends(so_far, end)
+                    NodeEnd::Ends(after, end)
                 }
             }
         }
     }
 }
 
-// Where the derivation at a root node ends: 24 levels, and one more whose node is at fault.
-pub fn node_end(src: &[u8], sets: u32, relations: u32, at: usize) -> NodeEnd
-    ensures { λ r. ⌜ r ≡ endOf (wholeNode (now (src .entry)) sets relations at) ⌝ }
+// Where the derivation at a root node ends; its nodes go into the table.
+pub(crate) fn read_nodes(
+    src: &[u8],
+    sets: u32,
+    relations: u32,
+    at: usize,
+    table: &mut [u64; MOST_NODES],
+) -> NodeEnd
+    requires { ⌜ (sets ≤ 16) × (relations ≤ 16) × (at ≤ 2 ^ 20) ⌝ }
+    ensures ends { λ r. ⌜ r ≡ endOf (wholeNode (now (src .entry)) sets relations at) ⌝ }
+    ensures filled { λ _. ⌜ ((d : Derivation) (after next : ℕ) → wholeNode (now (src .entry)) sets relations at ≡ whole d after next
+        → now (table .exit) ≡ stored (now (table .entry)) 0 (nodeWords 0 at d)) ⌝ }
 {
-    node_walk(src, sets, relations, 25, 0, at)
+    node_walk(src, sets, relations, MOST_LEVELS + 1, 0, at, table)
 }

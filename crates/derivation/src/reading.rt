@@ -1,27 +1,60 @@
-// The whole proof file, front to back, and its tables in the caller's work words.
+// The whole proof file, front to back, with the table of its nodes and its tables in the caller's work words.
+use super::MOST_NODES;
 use super::NodeEnd;
 use super::ProofFile;
+use super::ProofFound;
+use super::ProofHead;
 use super::Tables;
 use super::header;
 use super::nodes;
 use super::words;
 use bits::Fill;
 ghost use mathlib.Core.Path.{_≡_};
+ghost use Prim.Native.Nat.{ℕ};
+ghost use lib.Seq.{sets as stored};
+ghost use Rattle.semantics.specs.Derivations.{Derivation};
 ghost use Rattle.derivation.specs.Tables.{written};
-ghost use Rattle.derivation.specs.Reading.{readProof, fileOf, wordsOf};
+ghost use Rattle.derivation.specs.NodeTable.{nodeWords};
+ghost use Rattle.derivation.specs.Reading.{proof, readProof, foundOf, fileOf, wordsOf};
 
-// A proof file over n states, or its first fault.
+// What a proof file over n states holds, or its first fault; the words of its nodes go into the table.
+fn read_into(src: &[u8], n: u32, table: &mut [u64; MOST_NODES]) -> ProofFound
+    ensures answer { λ r. ⌜ r ≡ foundOf (readProof (now (src .entry)) n) ⌝ }
+    ensures filled { λ _. ⌜ ((sets relations at : ℕ) (d : Derivation) → readProof (now (src .entry)) n ≡ proof sets relations at d
+        → now (table .exit) ≡ stored (now (table .entry)) 0 (nodeWords 0 at d)) ⌝ }
+{
+    match header::read_tables(src, n) {
+        Tables::Fault(fault, place) => ProofFound::Fault(fault, place),
+        Tables::Counts(sets, relations, root) => {
+            match nodes::read_nodes(src, sets, relations, root, table) {
+                NodeEnd::Fault(fault, place) => ProofFound::Fault(fault, place),
+                NodeEnd::Ends(nodes, next) => match bits::read_fill(src, next) {
+                    Fill::Wrong(place) => ProofFound::Fault(25, place),
+                    Fill::Ends => ProofFound::Proof(ProofHead {
+                        sets,
+                        relations,
+                        nodes,
+                        root,
+                    }),
+                },
+            }
+        }
+    }
+}
+
+// A proof file over n states with the table of its nodes, or its first fault.
 pub fn read_proof(src: &[u8], n: u32) -> ProofFile
     ensures { λ r. ⌜ r ≡ fileOf (readProof (now (src .entry)) n) ⌝ }
 {
-    match header::read_tables(src, n) {
-        Tables::Fault(fault, place) => ProofFile::Fault(fault, place),
-        Tables::Counts(sets, relations, root) => match nodes::node_end(src, sets, relations, root) {
-            NodeEnd::Fault(fault, place) => ProofFile::Fault(fault, place),
-            NodeEnd::Ends(_, next) => match bits::read_fill(src, next) {
-                Fill::Wrong(place) => ProofFile::Fault(25, place),
-                Fill::Ends => ProofFile::Proof(sets, relations, root),
-            },
+    let mut table = [0u64; MOST_NODES];
+    match read_into(src, n, &mut table) {
+        ProofFound::Fault(fault, place) => ProofFile {
+            found: ProofFound::Fault(fault, place),
+            nodes: [0; MOST_NODES],
+        },
+        ProofFound::Proof(head) => ProofFile {
+            found: ProofFound::Proof(head),
+            nodes: table,
         },
     }
 }
@@ -31,14 +64,19 @@ pub fn load(src: &[u8], n: u32, work: &mut [u64]) -> ProofFile
     ensures answer { λ r. ⌜ r ≡ fileOf (readProof (now (src .entry)) n) ⌝ }
     ensures tables { λ _. ⌜ now (work .exit) ≡ written (wordsOf (now (src .entry)) n (readProof (now (src .entry)) n)) (now (work .entry)) ⌝ }
 {
-    match read_proof(src, n) {
-        ProofFile::Fault(fault, place) => {
-            words::clear(work);
-            ProofFile::Fault(fault, place)
-        }
-        ProofFile::Proof(sets, relations, root) => {
-            words::fill(src, n as usize, sets as usize, relations as usize, work);
-            ProofFile::Proof(sets, relations, root)
+    let file = read_proof(src, n);
+    let found = file.found;
+    match found {
+        ProofFound::Fault(_, _) => words::clear(work),
+        ProofFound::Proof(head) => {
+            words::fill(
+                src,
+                n as usize,
+                head.sets as usize,
+                head.relations as usize,
+                work,
+            );
         }
     }
+    file
 }

@@ -2,7 +2,20 @@
 use super::Node;
 use semantics::Names;
 ghost use mathlib.Core.Path.{_≡_};
-ghost use Rattle.derivation.specs.NodeTable.{nodeOf, nodeIn};
+ghost use Prim.Native.Nat.{_^_, _<_};
+ghost use Rattle.derivation.specs.NodeTable.{Fits, nodeWord, nodeOf, nodeIn};
+
+// The word of a node.
+pub(crate) fn node_word(node: Node) -> u64
+    requires { ⌜ Fits node × (node .bit < 2 ^ 30) ⌝ }
+    ensures { λ r. ⌜ r ≡ nodeWord node ⌝ }
+{
+    let place = node.after as u64 + 128 * node.bit as u64;
+    let loop_names = node.k as u64 + 16 * node.w as u64;
+    let names = node.names;
+    let four = names.p as u64 + 16 * (names.r as u64 + 16 * (names.g as u64 + 16 * names.q as u64));
+    node.rule as u64 + 8 * (four + 65536 * (loop_names + 256 * place))
+}
 
 // The node that a word of the table holds.
 fn node_of(word: u64) -> Node

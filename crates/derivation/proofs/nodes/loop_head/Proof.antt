@@ -1,8 +1,8 @@
--- A while reads two more names; what is read behind them is the node itself.
+-- A while reads two more names; what is read after them is the node itself.
 use mathlib.Core.Path.{_≡_, sym}
 use borrow.Author.Needs.{needs}
 use borrow.Author.Tests.{eq-eqb, ne-eqb}
-use Rattle.derivation.specs.declared.NodeHead.the-variants.{Node}
+use Rattle.derivation.specs.declared.HeadFound.the-variants.{Head}
 use Rattle.derivation.specs.Nodes.{onPair, loopHead}
 use Rattle.derivation.proofs.nodes.loop_head.Statement.{statement}
 use Rattle.derivation.proofs.nodes.loop_head.Tie as tie
@@ -11,11 +11,11 @@ returns : tie.Need-returns
 unfolding loopHead
 returns c = rw (ne-eqb _ 5 (c .if1 .taken))
 
--- The pair, read with the node behind it.
+-- The pair, read with the node after it.
 pair : (c : tie.After-names-at) →
     let a = c .before .before .before .args in
-    loopHead (a .src .now) (a .sets) (a .relations) (a .rule) (a .p) (a .r) (a .g) (a .q) (a .at)
-    ≡ onPair (c .names-at .result) (Node (a .rule) (a .p) (a .r) (a .g) (a .q))
+    loopHead (a .src .now) (a .sets) (a .relations) (a .rule) (a .names) (a .at)
+    ≡ onPair (c .names-at .result) (λ K W next. Head (record { rule = a .rule; names = a .names; k = K; w = W; next = next }))
 unfolding loopHead
 pair c = rw (eq-eqb _ 5 (c .before .if1 .left)) (c .names-at .ensures _)
 

@@ -1,7 +1,7 @@
 -- Each way out is one case of the first name or, behind it, of the second; the next cursor is 4 bits on.
 use mathlib.Core.Path.{sym, _∙_}
 use borrow.Author.Needs.{needs}
-use Rattle.bits.proofs.Laws.{There, there}
+use Rattle.bits.proofs.Laws.{there}
 use Rattle.derivation.specs.Nodes.{onPair}
 use Rattle.derivation.proofs.Heads.{named-missing, named-over, named-there, second-name}
 use Rattle.derivation.proofs.nodes.names_at.Statement.{statement}

@@ -13,7 +13,7 @@ returns-2 c =
     let field = c .before .before .before .before in
     let tests = simp and-eq-true-iff at (sym (c .before .before .all-there .ensures) ∙ c .before .if1 .taken) in
     c .loop-head .ensures
-    ∙ sym (four-names _ _ _ _ _ _ _ (sym (field .before .before .read .ensures) ∙ field .names .given .1)
+    ∙ sym (four-names _ _ _ _ _ _ _ (sym (field .before .before .read .ensures) ∙ field .four .given .1)
     (omega (arith, ltb-true)) (omega (arith, ltb-true)) (omega (arith, ltb-true)) (omega (arith, ltb-true)))
 
 pub names-head-spec : {M : Type 1} → statement M

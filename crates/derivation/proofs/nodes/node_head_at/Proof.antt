@@ -1,12 +1,11 @@
 -- Each way out is one case of the definition, at the rule that was read and the tests that led there.
-use Prim.Native.Nat.{_≤_}
 use mathlib.Core.Bool.{or-true}
 use mathlib.Core.Logic.{⊎-elim}
 use mathlib.Core.Path.{sym, _∙_}
 use native.Mathlib.Omega.{arith}
 use borrow.Author.Needs.{needs}
 use borrow.Author.Tests.{eq-eqb, ne-eqb}
-use Rattle.bits.proofs.Laws.{There, there}
+use Rattle.bits.proofs.Laws.{there}
 use Rattle.derivation.specs.Nodes.{ruleHead, nodeHead}
 use Rattle.derivation.proofs.nodes.node_head_at.Statement.{statement}
 use Rattle.derivation.proofs.nodes.node_head_at.Tie as tie
@@ -48,6 +47,7 @@ node-head-at-spec =
     (tie.spec
     (λ c κs. search needs) (λ c. search needs) (λ c. search needs) (λ c κs. search needs)
     returns
+    (λ c. search needs)
     returns-2
     returns-3
     cast-names-head

@@ -1,39 +1,41 @@
 -- The answer says which words the definition has: the tables' after a proof, 0 after a fault.
-use mathlib.Core.Path.{_≡_, sym, _∙_}
+use mathlib.Core.Path.{_≡_, sym, _∙_, ap}
 use native.Mathlib.Omega.{arith}
 use borrow.Author.Needs.{needs}
 use Rattle.semantics.specs.Derivations.{Derivation}
 use Rattle.derivation.specs.Reading.{proof, readProof}
 use Rattle.derivation.proofs.Buffers.{written-same}
-use Rattle.derivation.proofs.Files.{Counted, counted, Stages, stages, answered, no-words}
+use Rattle.derivation.proofs.Files.{counted, stages, answered, no-words}
 use Rattle.derivation.proofs.reading.load.Statement.{statement}
 use Rattle.derivation.proofs.reading.load.Tie as tie
 
 -- The file that was read, where the answer is a proof.
-read : (c : tie.After-sets) →
+read : (c : tie.After-found) →
     let a = c .before .before .before .before .before .args in
-    (d : Derivation) × (readProof (a .src .now) (a .n) ≡ proof (c .sets .given .0 .0) (c .sets .given .0 .1 .0) (c .sets .given .0 .1 .1 .0) d)
-read c = answered _ _ _ _ (sym (c .before .before .read-proof .ensures) ∙ c .sets .given .1)
+    let x = c .found .given .0 .0 in
+    (d : Derivation) × (readProof (a .src .now) (a .n) ≡ proof (x .sets) (x .relations) (x .root) d)
+read c = answered _ _ (sym (ap (λ f. f .found) (c .before .before .read-proof .ensures)) ∙ c .found .given .1)
 
 fill-requires : tie.Need-fill-requires
 fill-requires c κs =
-    let file = read (c .before .before) in
+    let file = read (c .before .before .before .before) in
     omega (arith, counted _ _ _ _ _ (stages _ _ _ _ _ (file .0) (file .1) .tables))
 
 returns : tie.Need-returns
 returns c =
-    let file = c .before .before .before .before .before in
-    let a = file .before .before .before .before .before .args in
-    let answer = sym (file .before .before .read-proof .ensures) ∙ file .fault .given .1 in (
-      sym answer,
+    let told = c .before .before .before .before in
+    let file = told .before .before in
+    let a = file .before .before .before .args in (
+      file .read-proof .ensures,
       c .before .before .clear .ensures
-          ∙ written-same _ _ _ (λ j. sym (no-words (a .src .now) (a .n) (readProof (a .src .now) (a .n)) _ _ answer j)),
+          ∙ written-same _ _ _ (λ j. sym (no-words (a .src .now) (a .n) (readProof (a .src .now) (a .n)) _ _
+          (sym (ap (λ f. f .found) (file .read-proof .ensures)) ∙ told .enum-told .given .1) j)),
     )
 
 returns-2 : tie.Need-returns-2
 returns-2 c =
-    let file = c .before .before .before .before .before in
-    (sym (sym (file .before .before .read-proof .ensures) ∙ file .sets .given .1), rw (read file .1) (c .before .before .fill .ensures))
+    let file = c .before .before .before .before .before .before .before in
+    (file .before .before .read-proof .ensures, rw (read file .1) (c .before .before .fill .ensures))
 
 pub load-spec : {M : Type 1} → statement M
 load-spec =

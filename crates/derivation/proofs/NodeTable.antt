@@ -1,0 +1,148 @@
+-- Laws of the table of nodes: a word gives back its node, and the words of a derivation are as many as its nodes.
+use Prim.Native.Nat.{ℕ, suc, _+_, _*_, _/_, _%_, _^_, _≤_, _<_}
+use mathlib.Core.List.{List, _++_}
+use mathlib.Core.Path.{_≡_, refl, _∙_, ap}
+use native.Mathlib.Omega.{arith}
+use lib.ListN.{length, getD, drop, length-append}
+use lib.Seq.{getD-drop}
+use Rattle.semantics.specs.Derivations.{Derivation, skip, assignment, sequence, parallel, conditional, iteration, weaken, namesOf, nodes}
+use Rattle.derivation.specs.declared.Node.{Node}
+use Rattle.derivation.specs.declared.NodeHead.{NodeHead}
+use Rattle.derivation.specs.NodeTable.{Fits, nodeWord, nodeOf, nodeIn, recordOf, ruleOf, kOf, wOf, firstNodes, nodeBits, nodeRecord, nodeWords}
+use Rattle.derivation.proofs.Heads.{Named, Within, plain, loop}
+
+module _ (rule P R G Q K W after bit : ℕ) (rule-fits : rule < 8) (P-fits : P < 16) (R-fits : R < 16) (G-fits : G < 16)
+    (Q-fits : Q < 16) (K-fits : K < 16) (W-fits : W < 16) (after-fits : after < 128) where
+  abbrev word : ℕ
+  word = rule + 8 * (P + 16 * (R + 16 * (G + 16 * (Q + 16 * (K + 16 * (W + 16 * (after + 128 * bit)))))))
+
+  rule-back : word % 8 ≡ rule
+  rule-back = omega arith
+
+  P-back : word / 2 ^ 3 % 16 ≡ P
+  P-back = omega arith
+
+  R-back : word / 2 ^ 7 % 16 ≡ R
+  R-back = omega arith
+
+  G-back : word / 2 ^ 11 % 16 ≡ G
+  G-back = omega arith
+
+  Q-back : word / 2 ^ 15 % 16 ≡ Q
+  Q-back = omega arith
+
+  K-back : word / 2 ^ 19 % 16 ≡ K
+  K-back = omega arith
+
+  W-back : word / 2 ^ 23 % 16 ≡ W
+  W-back = omega arith
+
+  after-back : word / 2 ^ 27 % 128 ≡ after
+  after-back = omega arith
+
+  bit-back : word / 2 ^ 34 ≡ bit
+  bit-back = omega arith
+
+  fields-back : nodeOf word ≡ record { rule = rule; names = record { p = P; r = R; g = G; q = Q }; k = K; w = W; after = after; bit = bit }
+  unfolding nodeOf
+  fields-back = rw (rule-back, P-back, R-back, G-back, Q-back, K-back, W-back, after-back, bit-back)
+
+pub node-back : (x : Node) → Fits x → nodeOf (nodeWord x) ≡ x
+unfolding nodeWord
+node-back x f = fields-back _ _ _ _ _ _ _ _ _ (f .rule-fits) (f .P-fits) (f .R-fits) (f .G-fits) (f .Q-fits) (f .K-fits) (f .W-fits) (f .after-fits)
+
+-- Every node of a derivation names tables that there are.
+module _ (sets relations : ℕ) where
+  abbrev pub Known : Derivation → Type 0
+  Known (skip h) = Named sets relations h
+  Known (assignment h) = Named sets relations h
+  Known (sequence h l r) = Named sets relations h × Known l × Known r
+  Known (parallel h l r) = Named sets relations h × Known l × Known r
+  Known (conditional h d) = Named sets relations h × Known d
+  Known (iteration h K W d) = Named sets relations h × (K < sets) × (W < relations) × Known d
+  Known (weaken h d) = Named sets relations h × Known d
+
+  pub names-known : (d : Derivation) → Known d → Named sets relations (namesOf d)
+  names-known (skip h) known = known
+  names-known (assignment h) known = known
+  names-known (sequence h l r) known = known .0
+  names-known (parallel h l r) known = known .0
+  names-known (conditional h d) known = known .0
+  names-known (iteration h K W d) known = known .0
+  names-known (weaken h d) known = known .0
+
+  loop-known : (d : Derivation) → Known d → sets ≤ 16 → relations ≤ 16 → (kOf d < 16) × (wOf d < 16)
+  loop-known (skip h) known few few′ = (omega arith, omega arith)
+  loop-known (assignment h) known few few′ = (omega arith, omega arith)
+  loop-known (sequence h l r) known few few′ = (omega arith, omega arith)
+  loop-known (parallel h l r) known few few′ = (omega arith, omega arith)
+  loop-known (conditional h d) known few few′ = (omega arith, omega arith)
+  loop-known (iteration h K W d) known few few′ = (omega arith, omega arith)
+  loop-known (weaken h d) known few few′ = (omega arith, omega arith)
+
+rule-small : (d : Derivation) → ruleOf d < 8
+rule-small (skip h) = omega arith
+rule-small (assignment h) = omega arith
+rule-small (sequence h l r) = omega arith
+rule-small (parallel h l r) = omega arith
+rule-small (conditional h d) = omega arith
+rule-small (iteration h K W d) = omega arith
+rule-small (weaken h d) = omega arith
+
+first-inside : (d : Derivation) → suc (firstNodes d) ≤ nodes d
+first-inside (skip h) = omega arith
+first-inside (assignment h) = omega arith
+first-inside (sequence h l r) = omega arith
+first-inside (parallel h l r) = omega arith
+first-inside (conditional h d) = omega arith
+first-inside (iteration h K W d) = omega arith
+first-inside (weaken h d) = omega arith
+
+pub length-nodeWords : (i bit : ℕ) (d : Derivation) → length (nodeWords i bit d) ≡ nodes d
+length-nodeWords i bit (skip h) = refl
+length-nodeWords i bit (assignment h) = refl
+length-nodeWords i bit (sequence h l r) =
+    rw (length-append, length-nodeWords (suc i) (bit + 19) l, length-nodeWords (suc i + nodes l) (bit + 19 + nodeBits l) r)
+length-nodeWords i bit (parallel h l r) =
+    rw (length-append, length-nodeWords (suc i) (bit + 19) l, length-nodeWords (suc i + nodes l) (bit + 19 + nodeBits l) r)
+length-nodeWords i bit (conditional h d) = ap suc (length-nodeWords (suc i) (bit + 19) d)
+length-nodeWords i bit (iteration h K W d) = ap suc (length-nodeWords (suc i) (bit + 27) d)
+length-nodeWords i bit (weaken h d) = ap suc (length-nodeWords (suc i) (bit + 19) d)
+
+first-word : (i bit : ℕ) (d : Derivation) (rest : List ℕ) → getD (nodeWords i bit d ++ rest) 0 0 ≡ nodeWord (nodeRecord i bit d)
+first-word i bit (skip h) rest = refl
+first-word i bit (assignment h) rest = refl
+first-word i bit (sequence h l r) rest = refl
+first-word i bit (parallel h l r) rest = refl
+first-word i bit (conditional h d) rest = refl
+first-word i bit (iteration h K W d) rest = refl
+first-word i bit (weaken h d) rest = refl
+
+-- A node that names tables that there are has room in a word.
+module _ (sets relations : ℕ) (few-sets : sets ≤ 16) (few-relations : relations ≤ 16) where
+  fits : (x : Node) → Named sets relations (x .names) → x .rule < 8 → x .k < 16 → x .w < 16 → x .after < 128 → Fits x
+  fits x n rule k w after = record {
+    rule-fits = rule;
+    P-fits = omega (arith, n .P-below);
+    R-fits = omega (arith, n .R-below);
+    G-fits = omega (arith, n .G-below);
+    Q-fits = omega (arith, n .Q-below);
+    K-fits = k;
+    W-fits = w;
+    after-fits = after;
+  }
+
+  -- So it is with what stands at a node.
+  pub head-fits : (at : ℕ) (x : NodeHead) → Within sets relations at x → (after bit : ℕ) → after < 128 → Fits (recordOf x after bit)
+  head-fits at _ (plain rule h under other n) after bit few = fits _ n (omega arith) (omega arith) (omega arith) few
+  head-fits at _ (loop h K W n k w) after bit few = fits _ n (omega arith) (omega arith) (omega arith) few
+
+  -- Where the words of a derivation stand in a table, its root's word gives back its root.
+  pub node-held : (table rest : List ℕ) (i bit : ℕ) (d : Derivation) → Known sets relations d → i + nodes d ≤ 127
+      → drop i table ≡ nodeWords i bit d ++ rest → nodeIn table i ≡ nodeRecord i bit d
+  unfolding nodeIn
+  node-held table rest i bit d known inside here =
+      let looping = loop-known sets relations d known few-sets few-relations in
+      let same : i + 0 ≡ i = omega arith in
+      ap nodeOf (rw (getD-drop, same) at (ap (λ (l : List ℕ). getD l 0 0) here) ∙ first-word i bit d rest)
+      ∙ node-back (nodeRecord i bit d) (fits _ (names-known sets relations d known) (rule-small d) (looping .0) (looping .1) (omega (arith, first-inside d)))

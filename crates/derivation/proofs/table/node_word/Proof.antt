@@ -1,0 +1,20 @@
+-- The sum by parts is the sum of the definition, and each part has room.
+use native.Mathlib.Omega.{arith}
+use borrow.Author.Needs.{needs}
+use Rattle.derivation.specs.NodeTable.{nodeWord}
+use Rattle.derivation.proofs.table.node_word.Statement.{statement}
+use Rattle.derivation.proofs.table.node_word.Tie as tie
+
+returns : tie.Need-returns
+unfolding nodeWord
+returns c = omega arith
+
+pub node-word-spec : {M : Type 1} → statement M
+node-word-spec =
+    tie.close
+    (tie.spec
+    (λ c. search needs) (λ c. search needs) (λ c. search needs) (λ c. search needs) (λ c. search needs) (λ c. search needs)
+    (λ c. search needs) (λ c. search needs) (λ c. search needs) (λ c. search needs) (λ c. search needs) (λ c. search needs)
+    (λ c. search needs) (λ c. search needs) (λ c. search needs) (λ c. search needs) (λ c. search needs) (λ c. search needs)
+    (λ c. search needs) (λ c. search needs) (λ c. search needs) (λ c. search needs) (λ c. search needs) (λ c. search needs)
+    returns)
