@@ -1,5 +1,5 @@
--- A node that is built from what stands at it and its children: how many nodes and bits it has, the tables that it names, and its
--- words in the table of nodes.
+-- A node that is built from its head and its children: how many nodes and bits it has, the tables that it names, and its words in
+-- the table of nodes.
 use Prim.Native.Nat.{ℕ, suc, _+_, _≤_, _<_}
 use mathlib.Core.List.{[], _∷_, _++_}
 use mathlib.Core.Logic.{⊎-elim}
@@ -9,12 +9,13 @@ use native.Mathlib.Omega.{arith}
 use Rattle.semantics.specs.Derivations.{Derivation, nodes}
 use Rattle.derivation.specs.declared.NodeHead.{NodeHead}
 use Rattle.derivation.specs.Nodes.{alone, overTwo, overOne}
-use Rattle.derivation.specs.NodeTable.{nodeWord, recordOf, nodeBits, nodeWords}
+use Rattle.derivation.specs.NodeTable.{nodeWord, nodeBits, nodeWords}
+use Rattle.derivation.specs.Storing.{recordOf}
 use Rattle.derivation.proofs.Heads.{Within, plain, loop}
 use Rattle.derivation.proofs.NodeTable.{Known}
 
 module _ (sets relations at : ℕ) where
-  -- A node d at a bit, by what stands there and the derivations below it.
+  -- A node d at a bit, by its head and the derivations below it.
   pub record Leaf (x : NodeHead) (d : Derivation) : Type 0 where
     pub size : nodes d ≡ 1
     pub bits : x .next ≡ at + nodeBits d

@@ -87,28 +87,30 @@ module _ (bytes : List ℕ) (n : ℕ) where
     pub nodes-read : wholeNode bytes sets relations at ≡ whole d count next
     pub ends : fillAt bytes next ≡ Ends
 
-  pub stages : (sets relations at : ℕ) (d : Derivation) → readProof bytes n ≡ proof sets relations at d → Stages sets relations at d
+  abbrev StagesIn : ProofRead → Type 0
+  StagesIn (proof sets relations at d) = Stages sets relations at d
+  StagesIn (refused k place) = Unit {0}
+
+  file-stages : StagesIn (readProof bytes n)
   unfolding readProof
-  stages sets relations at d = head (tablesAt bytes n) refl
+  file-stages = head (tablesAt bytes n) refl
     where
-      fill : (s r a count next : ℕ) (e : Derivation) (f : Fill) → tablesAt bytes n ≡ Counts s r a → wholeNode bytes s r a ≡ whole e count next → fillAt bytes next ≡ f
-          → onFill s r a e f ≡ proof sets relations at d → Stages sets relations at d
-      fill s r a count next e Ends t w f eq =
-          let same-s : s ≡ sets = cc in
-          let same-r : r ≡ relations = cc in
-          let same-a : a ≡ at = cc in
-          let same-d : e ≡ d = cc in
-          record { tables = cc; count = count; next = next; nodes-read = rw (same-s, same-r, same-a, same-d) at w; ends = f }
-      fill s r a count next e (Wrong place) t w f eq = absurd (let z : _≡_ {A = ℕ} 0 1 = cc in omega arith)
+      fill : (sets relations at count next : ℕ) (d : Derivation) → tablesAt bytes n ≡ Counts sets relations at
+          → wholeNode bytes sets relations at ≡ whole d count next → (f : Fill) → fillAt bytes next ≡ f → StagesIn (onFill sets relations at d f)
+      fill sets relations at count next d t w Ends f = record { tables = t; count = count; next = next; nodes-read = w; ends = f }
+      fill sets relations at count next d t w (Wrong place) f = tt
 
-      root : (s r a : ℕ) (w : NodeRead) → tablesAt bytes n ≡ Counts s r a → wholeNode bytes s r a ≡ w
-          → onNodes bytes s r a w ≡ proof sets relations at d → Stages sets relations at d
-      root s r a (fault k place) t w eq = absurd (let z : _≡_ {A = ℕ} 0 1 = cc in omega arith)
-      root s r a (whole e count next) t w eq = fill s r a count next e (fillAt bytes next) t w refl eq
+      root : (sets relations at : ℕ) → tablesAt bytes n ≡ Counts sets relations at → (r : NodeRead) → wholeNode bytes sets relations at ≡ r
+          → StagesIn (onNodes bytes sets relations at r)
+      root sets relations at t (fault k place) w = tt
+      root sets relations at t (whole d count next) w = fill sets relations at count next d t w (fillAt bytes next) refl
 
-      head : (t : Tables) → tablesAt bytes n ≡ t → onTables bytes t ≡ proof sets relations at d → Stages sets relations at d
-      head (Fault k place) t eq = absurd (let z : _≡_ {A = ℕ} 0 1 = cc in omega arith)
-      head (Counts s r a) t eq = root s r a (wholeNode bytes s r a) t refl eq
+      head : (t : Tables) → tablesAt bytes n ≡ t → StagesIn (onTables bytes t)
+      head (Fault k place) t = tt
+      head (Counts sets relations at) t = root sets relations at t (wholeNode bytes sets relations at) refl
+
+  pub stages : (sets relations at : ℕ) (d : Derivation) → readProof bytes n ≡ proof sets relations at d → Stages sets relations at d
+  stages sets relations at d e = rw e at file-stages
 
   -- What is known of such a file: its counts, and that its nodes name tables that there are.
   pub record Shown (sets relations : ℕ) (d : Derivation) : Type 0 where
@@ -125,7 +127,7 @@ module _ (bytes : List ℕ) (n : ℕ) where
       let c = counted sets relations at (s .tables) in
       record { sets-most = c .sets-most; relations-most = c .relations-most; nodes-most = omega (arith, r .counted, r .room); known = r .known }
 
-  -- What is owed of reading into a table: the answer, and where there is a derivation the table has its words.
+  -- What reading into a table gives: the answer, and where there is a derivation the table has its words.
   module _ (table exit : List ℕ) where
     abbrev pub FileDone : ProofFound → Type 0
     FileDone r =
@@ -188,11 +190,12 @@ module _ (bytes : List ℕ) (n : ℕ) where
             λ i. record { found = f i; nodes = table i }
         by (refused k place) is f = absurd (let z : _≡_ {A = ℕ} 0 1 = cc in omega arith)
 
--- The code's answer tells whether the file was read without fault, and what its words are.
-pub answered : (r : ProofRead) (x : ProofHead) → foundOf r ≡ Found.Proof x → (d : Derivation) × (r ≡ proof (x .sets) (x .relations) (x .root) d)
+-- The code's answer tells whether the file was read without fault, how many nodes it has, and what its words are.
+pub answered : (r : ProofRead) (x : ProofHead) → foundOf r ≡ Found.Proof x
+    → (d : Derivation) × (r ≡ proof (x .sets) (x .relations) (x .root) d) × (x .nodes ≡ nodes d)
 answered (proof sets relations at d) x e =
     let same : record { sets = sets; relations = relations; nodes = nodes d; root = at } ≡ x = cc in
-    (d, λ i. proof (same i .sets) (same i .relations) (same i .root) d)
+    (d, (λ i. proof (same i .sets) (same i .relations) (same i .root) d), sym (ap (λ h. h .nodes) same))
 answered (refused k place) x e = absurd (let z : _≡_ {A = ℕ} 0 1 = cc in omega arith)
 
 pub no-words : (bytes : List ℕ) (n : ℕ) (r : ProofRead) (k place : ℕ) → foundOf r ≡ Found.Fault k place → (j : ℕ) → wordsOf bytes n r j ≡ 0

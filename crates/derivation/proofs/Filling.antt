@@ -1,11 +1,14 @@
 -- The table of nodes as the walk fills it: a node's own word is stored between its first child's words and its second's, and what is
 -- stored is what the definition has in file order.
 use Prim.Native.Nat.{ℕ, zero, suc, _+_, _-_, _*_, _≤_, _<_}
+use mathlib.Core.Bool.{Bool, true, false, cond}
 use mathlib.Core.List.{List, [], _∷_, _++_}
 use mathlib.Core.Path.{_≡_, refl, sym, _∙_, ap}
 use native.Mathlib.Nat.{add-zero, zero-add, add-suc, suc-add, sub-zero, zero-sub, suc-sub-suc}
 use native.Mathlib.Numerals.{add-one}
 use native.Mathlib.Omega.{arith}
+use borrow.Author.Tests.{lt-ltb, le-ltb}
+use lib.Dec.{ltb}
 use lib.ListN.{length, set, drop, replicate, length-replicate}
 use lib.Seq.{sets, sets-eq, set-comm}
 use Rattle.semantics.specs.Derivations.{Derivation, nodes}
@@ -13,12 +16,13 @@ use Rattle.derivation.specs.declared.NodeHead.{NodeHead}
 use Rattle.derivation.specs.declared.HeadFound.the-variants as Found
 use Rattle.derivation.specs.declared.NodeEnd.{NodeEnd}
 use Rattle.derivation.specs.declared.NodeEnd.the-variants.{Ends, Fault}
-use Rattle.derivation.specs.Nodes.{NodeRead, whole, overTwo, overOne, onNodeHead, nodeHead, nodeAt, endOf}
-use Rattle.derivation.specs.NodeTable.{nodeWord, recordOf, nodeBits, nodeWords, padded}
+use Rattle.derivation.specs.Nodes.{NodeRead, whole, fault, alone, overTwo, overOne, onChild, onNodeHead, nodeHead, nodeAt, endOf}
+use Rattle.derivation.specs.NodeTable.{nodeWord, nodeBits, nodeWords, padded}
+use Rattle.derivation.specs.Storing.{recordOf}
 use Rattle.derivation.proofs.Heads.{Within, next-near, node-within}
 use Rattle.derivation.proofs.NodeTable.{length-nodeWords}
 use Rattle.derivation.proofs.Built.{leaf, over-one, over-two}
-use Rattle.derivation.proofs.NodesRead.{Read, ended-whole, no-fault, leaf-end, two-end, one-end, first-fault, leaf-parts, two-parts, one-parts, bits-most, unrolled, read}
+use Rattle.derivation.proofs.NodesRead.{ended-whole, ended-faulty, bits-most, unrolled, Read, read}
 
 -- A store before a run of stores, and two runs one after the other.
 set-stored : (vs l : List ℕ) (i j a : ℕ) → i < j → set (sets l j vs) i a ≡ sets (set l i a) j vs
@@ -61,7 +65,7 @@ module _ (sets-count relations at : ℕ) (x : NodeHead) (w : Within sets-count r
   two-stored over few c r after end is ends =
       rw (own-stored c after is, over-two sets-count relations at x w over few c r .words before, stored-append, length-nodeWords, is, ends)
 
--- What is owed of a walk: the answer is where the derivation ends, and where there is one the table has its words.
+-- What a walk gives: the answer is where the derivation ends, and where there is one the table has its words.
 module _ (bytes : List ℕ) (sets-count relations : ℕ) where
   abbrev pub Done : ℕ → ℕ → ℕ → List ℕ → NodeEnd → List ℕ → Type 0
   Done levels before at table r exit =
@@ -69,21 +73,39 @@ module _ (bytes : List ℕ) (sets-count relations : ℕ) where
       × ((d : Derivation) (after next : ℕ) → nodeAt levels bytes sets-count relations before at ≡ whole d after next
       → exit ≡ sets table before (nodeWords before at d))
 
-  fault-done : (levels before at : ℕ) (table exit : List ℕ) (k place : ℕ) → endOf (nodeAt levels bytes sets-count relations before at) ≡ Fault k place
-      → Done levels before at table (Fault k place) exit
-  fault-done levels before at table exit k place e = (sym e, λ d after next w. absurd (no-fault _ k place e d after next w))
+  -- The same by what was read.
+  abbrev Filled : ℕ → ℕ → List ℕ → NodeEnd → List ℕ → NodeRead → Type 0
+  Filled before at table r exit (whole d after next) = (r ≡ Ends after next) × (exit ≡ sets table before (nodeWords before at d))
+  Filled before at table r exit (fault k place) = r ≡ Fault k place
+
+  module _ (levels before at : ℕ) (table : List ℕ) (r : NodeEnd) (exit : List ℕ) where
+    done : (v : NodeRead) → nodeAt levels bytes sets-count relations before at ≡ v → Filled before at table r exit v → Done levels before at table r exit
+    unfolding endOf
+    done (whole d after next) e f = (
+      f .0 ∙ sym (ap endOf e),
+      λ d′ after′ next′ e′.
+          let same : d ≡ d′ = cc in
+          f .1 ∙ ap (λ (k : Derivation). sets table before (nodeWords before at k)) same,
+    )
+    done (fault k place) e f =
+        (f ∙ sym (ap endOf e), λ d′ after′ next′ e′. absurd (let z : _≡_ {A = ℕ} 0 1 = cc in omega arith))
+
+    found : Done levels before at table r exit → (v : NodeRead) → nodeAt levels bytes sets-count relations before at ≡ v → Filled before at table r exit v
+    unfolding endOf
+    found f (whole d after next) e = (f .0 ∙ ap endOf e, f .1 d after next e)
+    found f (fault k place) e = f .0 ∙ ap endOf e
 
   pub no-level : (levels before at : ℕ) (table exit : List ℕ) → levels ≡ 0 → Done levels before at table (Fault 24 at) exit
-  unfolding nodeAt endOf
-  no-level levels before at table exit e = fault-done levels before at table exit 24 at (rw e)
+  unfolding nodeAt
+  no-level levels before at table exit e = done levels before at table (Fault 24 at) exit (fault 24 at) (rw e) refl
 
   module _ (levels before at : ℕ) (some : levels ≡ 0 → ⊥) (table : List ℕ) where
     pub no-head : (k place : ℕ) (exit : List ℕ) → nodeHead bytes sets-count relations (levels - 1) before at ≡ Found.Fault k place
         → Done levels before at table (Fault k place) exit
-    unfolding endOf
-    no-head k place exit e = fault-done levels before at table exit k place (rw (unrolled bytes sets-count relations levels before at some, e))
+    no-head k place exit e =
+        done levels before at table (Fault k place) exit (fault k place) (rw (unrolled bytes sets-count relations levels before at some, e)) refl
 
-    -- The node at a bit, with what stands there; `below` reads one level down.
+    -- The node at a bit, with its head; `below` reads one level down.
     module _ (x : NodeHead) (head : nodeHead bytes sets-count relations (levels - 1) before at ≡ Found.Head x) where
       abbrev node : NodeRead
       node = nodeAt levels bytes sets-count relations before at
@@ -99,18 +121,20 @@ module _ (bytes : List ℕ) (sets-count relations : ℕ) where
 
       pub leaf-done : x .rule < 2 → (exit : List ℕ) → exit ≡ set table before (nodeWord (recordOf x (before + 1) at))
           → Done levels before at table (Ends (before + 1) (x .next)) exit
-      leaf-done few exit e = (
-        sym (ap endOf step ∙ leaf-end x before below few),
-        λ d after next r.
-            let p = leaf-parts x before below d after next (sym step ∙ r) few in
-            e ∙ rw (p .0, leaf sets-count relations at x w few .words before, add-one),
-      )
+      leaf-done few exit e =
+          done levels before at table _ exit (whole (alone x) (suc before) (x .next)) (step ∙ rw (lt-ltb (x .rule) 2))
+          (ap (λ (k : ℕ). Ends k (x .next)) (add-one before), e ∙ rw (leaf sets-count relations at x w few .words before, add-one))
 
       -- The first child was walked.
       module _ (first : List ℕ) (r : NodeEnd) (walked : Done (levels - 1) (before + 1) (x .next) table r first) (past : 2 ≤ x .rule) where
         pub first-faulty : (k place : ℕ) (exit : List ℕ) → r ≡ Fault k place → Done levels before at table (Fault k place) exit
         first-faulty k place exit e =
-            fault-done levels before at table exit k place (ap endOf step ∙ first-fault x before below past k place (sym (walked .0) ∙ e))
+            let child = rw add-one at (ended-faulty (below (before + 1) (x .next)) k place (sym (walked .0) ∙ e)) in
+            done levels before at table (Fault k place) exit (fault k place) (step ∙ rw (le-ltb (x .rule) 2, child) (by (ltb (x .rule) 4))) refl
+          where
+            by : (two : Bool) → cond two (fault k place) (fault k place) ≡ fault k place
+            by true = refl
+            by false = refl
 
         -- It ends at a bit.
         module _ (after end : ℕ) (ends : r ≡ Ends after end) where
@@ -123,43 +147,40 @@ module _ (bytes : List ℕ) (sets-count relations : ℕ) where
           c-read : below (suc before) (x .next) ≡ whole c after end
           c-read = rw add-one at (child .1)
 
-          shows : Read bytes sets-count relations (before + 1) (x .next) c after end
-          shows = read bytes sets-count relations (levels - 1) (before + 1) (x .next) c after end (child .1)
-
-          after-is : after ≡ suc before + nodes c
-          after-is = omega (arith, shows .counted)
+          shows : Read bytes sets-count relations (suc before) (x .next) c after end
+          shows = read bytes sets-count relations (levels - 1) (suc before) (x .next) c after end c-read
 
           pub after-few : after ≤ 127
           after-few = shows .room
 
           pub end-near : (start : ℕ) → at ≤ start + 27 * before → end ≤ start + 27 * after
-          end-near start near = omega (arith, shows .ended, after-is, bits-most c, next-near sets-count relations at x w)
+          end-near start near = omega (arith, shows .ended, shows .counted, bits-most c, next-near sets-count relations at x w)
 
-          is-filled : (own : List ℕ) → own ≡ set first before (nodeWord (recordOf x after at)) → own ≡ filled sets-count relations at x w table before c after
+          is-filled : (own : List ℕ) → own ≡ set first before (nodeWord (recordOf x after at))
+              → own ≡ filled sets-count relations at x w table before c after
           is-filled own e = e ∙ ap (λ (l : List ℕ). set l before (nodeWord (recordOf x after at))) (walked .1 c after end (child .1))
 
           pub one-done : 4 ≤ x .rule → (own : List ℕ) → own ≡ set first before (nodeWord (recordOf x after at))
               → Done levels before at table (Ends after end) own
-          one-done over own e = (
-            sym (ap endOf step ∙ one-end x before below over ∙ sym (walked .0) ∙ ends),
-            λ d after′ next r.
-                let p = one-parts x before below d after′ next (sym step ∙ r) over in
-                let same : p .child ≡ c = cc (p .read, c-read) in
-                is-filled own e ∙ one-stored sets-count relations at x w table before over c after after-is
-                ∙ ap (λ (k : Derivation). sets table before (nodeWords before at k)) (sym (p .is ∙ ap (overOne x) same)),
-          )
+          one-done over own e =
+              done levels before at table _ own (whole (overOne x c) after end) (step ∙ rw (le-ltb (x .rule) 2, le-ltb (x .rule) 4, c-read))
+              (refl, is-filled own e ∙ one-stored sets-count relations at x w table before over c after (shows .counted))
 
           pub two-done : x .rule < 4 → (own : List ℕ) → own ≡ set first before (nodeWord (recordOf x after at))
               → (r′ : NodeEnd) (exit : List ℕ) → Done (levels - 1) after end own r′ exit → Done levels before at table r′ exit
-          two-done few own e r′ exit second = (
-            second .0 ∙ sym (ap endOf step ∙ two-end x before below past few after end (sym (walked .0) ∙ ends)),
-            λ d after′ next r.
-                let p = two-parts x before below d after′ next (sym step ∙ r) past few in
-                let same : p .left ≡ c = cc (p .left-read, c-read) in
-                let same-after : p .between ≡ after = cc (p .left-read, c-read) in
-                let same-end : p .middle ≡ end = cc (p .left-read, c-read) in
-                second .1 (p .right) after′ next (rw (same-after, same-end) at (p .right-read))
-                ∙ ap (λ (l : List ℕ). sets l after (nodeWords after end (p .right))) (is-filled own e)
-                ∙ two-stored sets-count relations at x w table before past few c (p .right) after end after-is (shows .ended)
-                ∙ ap (λ (k : Derivation). sets table before (nodeWords before at k)) (sym (p .is ∙ ap (λ (l : Derivation). overTwo x l (p .right)) same)),
-          )
+          two-done few own e r′ exit second = by (below after end) refl
+            where
+              node-is : node ≡ onChild (overTwo x c) (below after end)
+              node-is = step ∙ rw (le-ltb (x .rule) 2, lt-ltb (x .rule) 4, c-read)
+
+              by : (v : NodeRead) → below after end ≡ v → Done levels before at table r′ exit
+              by (fault k place) is =
+                  done levels before at table r′ exit (fault k place) (node-is ∙ ap (onChild (overTwo x c)) is)
+                  (found (levels - 1) after end own r′ exit second (fault k place) is)
+              by (whole d after′ next) is =
+                  let f = found (levels - 1) after end own r′ exit second (whole d after′ next) is in
+                  done levels before at table r′ exit (whole (overTwo x c d) after′ next) (node-is ∙ ap (onChild (overTwo x c)) is) (
+                    f .0,
+                    f .1 ∙ ap (λ (l : List ℕ). sets l after (nodeWords after end d)) (is-filled own e)
+                        ∙ two-stored sets-count relations at x w table before past few c d after end (shows .counted) (shows .ended),
+                  )

@@ -1,4 +1,4 @@
--- Laws of what stands at a node: a name by what its field holds, and what a node that is read without fault shows.
+-- Laws of the head of a node: a name by what its field holds, and what a node that is read without fault shows.
 use Prim.Native.Nat.{ℕ, _+_, _/_, _%_, _^_, _≤_, _<_}
 use mathlib.Core.Bool.{Bool, true, false, cond, _||_}
 use mathlib.Core.List.{List}
@@ -81,7 +81,7 @@ pub record Named (sets relations : ℕ) (h : Names) : Type 0 where
   pub G-below : h .g < relations
   pub Q-below : h .q < relations
 
--- What can stand at a node that begins at a bit: a rule that is not a while, in 19 bits, or a while, in 27.
+-- The head of a node that begins at a bit: a rule that is not a while, in 19 bits, or a while, in 27.
 pub data Within (sets relations at : ℕ) : NodeHead → Type 0 where
   plain : (rule : ℕ) (h : Names) → rule < 7 → (rule ≡ 5 → ⊥) → Named sets relations h
       → Within sets relations at (record { rule = rule; names = h; k = 0; w = 0; next = at + 19 })

@@ -8,9 +8,11 @@ use lib.Seq.{getD-drop}
 use Rattle.semantics.specs.Derivations.{Derivation, skip, assignment, sequence, parallel, conditional, iteration, weaken, namesOf, nodes}
 use Rattle.derivation.specs.declared.Node.{Node}
 use Rattle.derivation.specs.declared.NodeHead.{NodeHead}
-use Rattle.derivation.specs.NodeTable.{Fits, nodeWord, nodeOf, nodeIn, recordOf, ruleOf, kOf, wOf, firstNodes, nodeBits, nodeRecord, nodeWords}
+use Rattle.derivation.specs.NodeTable.{nodeWord, nodeOf, nodeIn, nodeBits, nodeRecord, nodeWords}
+use Rattle.derivation.specs.Storing.{Fits, recordOf}
 use Rattle.derivation.proofs.Heads.{Named, Within, plain, loop}
 
+-- The fields of a word that is made of fields with room.
 module _ (rule P R G Q K W after bit : ℕ) (rule-fits : rule < 8) (P-fits : P < 16) (R-fits : R < 16) (G-fits : G < 16)
     (Q-fits : Q < 16) (K-fits : K < 16) (W-fits : W < 16) (after-fits : after < 128) where
   abbrev word : ℕ
@@ -71,33 +73,6 @@ module _ (sets relations : ℕ) where
   names-known (iteration h K W d) known = known .0
   names-known (weaken h d) known = known .0
 
-  loop-known : (d : Derivation) → Known d → sets ≤ 16 → relations ≤ 16 → (kOf d < 16) × (wOf d < 16)
-  loop-known (skip h) known few few′ = (omega arith, omega arith)
-  loop-known (assignment h) known few few′ = (omega arith, omega arith)
-  loop-known (sequence h l r) known few few′ = (omega arith, omega arith)
-  loop-known (parallel h l r) known few few′ = (omega arith, omega arith)
-  loop-known (conditional h d) known few few′ = (omega arith, omega arith)
-  loop-known (iteration h K W d) known few few′ = (omega arith, omega arith)
-  loop-known (weaken h d) known few few′ = (omega arith, omega arith)
-
-rule-small : (d : Derivation) → ruleOf d < 8
-rule-small (skip h) = omega arith
-rule-small (assignment h) = omega arith
-rule-small (sequence h l r) = omega arith
-rule-small (parallel h l r) = omega arith
-rule-small (conditional h d) = omega arith
-rule-small (iteration h K W d) = omega arith
-rule-small (weaken h d) = omega arith
-
-first-inside : (d : Derivation) → suc (firstNodes d) ≤ nodes d
-first-inside (skip h) = omega arith
-first-inside (assignment h) = omega arith
-first-inside (sequence h l r) = omega arith
-first-inside (parallel h l r) = omega arith
-first-inside (conditional h d) = omega arith
-first-inside (iteration h K W d) = omega arith
-first-inside (weaken h d) = omega arith
-
 pub length-nodeWords : (i bit : ℕ) (d : Derivation) → length (nodeWords i bit d) ≡ nodes d
 length-nodeWords i bit (skip h) = refl
 length-nodeWords i bit (assignment h) = refl
@@ -120,29 +95,37 @@ first-word i bit (weaken h d) rest = refl
 
 -- A node that names tables that there are has room in a word.
 module _ (sets relations : ℕ) (few-sets : sets ≤ 16) (few-relations : relations ≤ 16) where
-  fits : (x : Node) → Named sets relations (x .names) → x .rule < 8 → x .k < 16 → x .w < 16 → x .after < 128 → Fits x
-  fits x n rule k w after = record {
-    rule-fits = rule;
+  fits : (x : Node) → Named sets relations (x .names) → (x .rule < 8) × (x .k < 16) × (x .w < 16) × (x .after < 128) → Fits x
+  fits x n under = record {
+    rule-fits = under .0;
     P-fits = omega (arith, n .P-below);
     R-fits = omega (arith, n .R-below);
     G-fits = omega (arith, n .G-below);
     Q-fits = omega (arith, n .Q-below);
-    K-fits = k;
-    W-fits = w;
-    after-fits = after;
+    K-fits = under .1;
+    W-fits = under .2;
+    after-fits = under .3;
   }
 
-  -- So it is with what stands at a node.
+  -- So have the head of a node and the root of a derivation.
   pub head-fits : (at : ℕ) (x : NodeHead) → Within sets relations at x → (after bit : ℕ) → after < 128 → Fits (recordOf x after bit)
-  head-fits at _ (plain rule h under other n) after bit few = fits _ n (omega arith) (omega arith) (omega arith) few
-  head-fits at _ (loop h K W n k w) after bit few = fits _ n (omega arith) (omega arith) (omega arith) few
+  head-fits at _ (plain rule h under other n) after bit few = fits _ n (omega arith)
+  head-fits at _ (loop h K W n k w) after bit few = fits _ n (omega arith)
 
-  -- Where the words of a derivation stand in a table, its root's word gives back its root.
+  root-fits : (i bit : ℕ) (d : Derivation) → Known sets relations d → i + nodes d ≤ 127 → Fits (nodeRecord i bit d)
+  root-fits i bit (skip h) known inside = fits _ known (omega arith)
+  root-fits i bit (assignment h) known inside = fits _ known (omega arith)
+  root-fits i bit (sequence h l r) known inside = fits _ (known .0) (omega arith)
+  root-fits i bit (parallel h l r) known inside = fits _ (known .0) (omega arith)
+  root-fits i bit (conditional h d) known inside = fits _ (known .0) (omega arith)
+  root-fits i bit (iteration h K W d) known inside = fits _ (known .0) (omega arith)
+  root-fits i bit (weaken h d) known inside = fits _ (known .0) (omega arith)
+
+  -- Where a table has the words of a derivation from i on, node i of the table is its root.
   pub node-held : (table rest : List ℕ) (i bit : ℕ) (d : Derivation) → Known sets relations d → i + nodes d ≤ 127
       → drop i table ≡ nodeWords i bit d ++ rest → nodeIn table i ≡ nodeRecord i bit d
   unfolding nodeIn
   node-held table rest i bit d known inside here =
-      let looping = loop-known sets relations d known few-sets few-relations in
       let same : i + 0 ≡ i = omega arith in
       ap nodeOf (rw (getD-drop, same) at (ap (λ (l : List ℕ). getD l 0 0) here) ∙ first-word i bit d rest)
-      ∙ node-back (nodeRecord i bit d) (fits _ (names-known sets relations d known) (rule-small d) (looping .0) (looping .1) (omega (arith, first-inside d)))
+      ∙ node-back (nodeRecord i bit d) (root-fits i bit d known inside)

@@ -1,11 +1,10 @@
--- What a derivation that was read shows: its parts, how many nodes it added, where it ends, and that it names tables that there are.
+-- What a derivation that was read shows: how many nodes it added, where it ends, and that it names tables that there are.
 use Prim.Native.Nat.{ℕ, zero, suc, _+_, _-_, _*_, _≤_, _<_}
 use mathlib.Core.Bool.{Bool, true, false, cond}
 use mathlib.Core.List.{List}
-use mathlib.Core.Path.{_≡_, refl, _∙_}
-use native.Mathlib.Numerals.{add-one}
+use mathlib.Core.Path.{_≡_, refl}
 use native.Mathlib.Omega.{arith}
-use borrow.Author.Tests.{lt-ltb, le-ltb, ltb-true, ltb-false}
+use borrow.Author.Tests.{ltb-true, ltb-false}
 use lib.Dec.{ltb}
 use Rattle.semantics.specs.Derivations.{Derivation, skip, assignment, sequence, parallel, conditional, iteration, weaken, nodes}
 use Rattle.derivation.specs.declared.NodeHead.{NodeHead}
@@ -18,7 +17,7 @@ use Rattle.derivation.proofs.Heads.{Within, node-within, head-few}
 use Rattle.derivation.proofs.NodeTable.{Known}
 use Rattle.derivation.proofs.Built.{leaf, over-one, over-two}
 
--- The end that the code answers is that of a derivation, or there is none.
+-- The end that the code answers is that of a derivation, and its fault one that was met.
 pub ended-whole : (r : NodeRead) (after next : ℕ) → endOf r ≡ End.Ends after next → (d : Derivation) × (r ≡ whole d after next)
 unfolding endOf
 ended-whole (whole d a n) after next e =
@@ -35,96 +34,6 @@ ended-faulty (fault k′ place′) k place e =
     let same-place : place′ ≡ place = cc in
     rw (same-k, same-place)
 
-pub no-fault : (r : NodeRead) (k place : ℕ) → endOf r ≡ End.Fault k place → (d : Derivation) (after next : ℕ) → r ≡ whole d after next → ⊥
-no-fault r k place e d after next w = let f = ended-faulty r k place e in let z : _≡_ {A = ℕ} 0 1 = cc in omega arith
-
-child-end : (f : Derivation → Derivation) (r : NodeRead) → endOf (onChild f r) ≡ endOf r
-unfolding endOf
-child-end f (whole d after next) = refl
-child-end f (fault k place) = refl
-
-left-end : (f : Derivation → Derivation → Derivation) (r : NodeRead) (node : ℕ → ℕ → NodeRead) (after next : ℕ) → endOf r ≡ End.Ends after next
-    → endOf (onLeft f r node) ≡ endOf (node after next)
-left-end f r node after next e =
-    let w = ended-whole r after next e in
-    rw (w .1) (child-end (f (w .0)) (node after next))
-
-left-fault : (f : Derivation → Derivation → Derivation) (r : NodeRead) (node : ℕ → ℕ → NodeRead) (k place : ℕ) → endOf r ≡ End.Fault k place
-    → endOf (onLeft f r node) ≡ End.Fault k place
-unfolding endOf
-left-fault f r node k place e = rw (ended-faulty r k place e)
-
--- Where a node ends, by its rule and where its children end.
-module _ (x : NodeHead) (before : ℕ) (node : ℕ → ℕ → NodeRead) where
-  abbrev here : NodeRead
-  here = onNodeHead (Head x) before node
-
-  abbrev first : NodeRead
-  first = node (before + 1) (x .next)
-
-  pub leaf-end : x .rule < 2 → endOf here ≡ End.Ends (before + 1) (x .next)
-  unfolding endOf
-  leaf-end few = rw (lt-ltb (x .rule) 2, add-one)
-
-  pub two-end : 2 ≤ x .rule → x .rule < 4 → (after next : ℕ) → endOf first ≡ End.Ends after next → endOf here ≡ endOf (node after next)
-  two-end over few after next e = rw (le-ltb (x .rule) 2, lt-ltb (x .rule) 4) (left-end (overTwo x) _ node after next (rw add-one at e))
-
-  pub one-end : 4 ≤ x .rule → endOf here ≡ endOf first
-  one-end over =
-      let past : 2 ≤ x .rule = omega arith in
-      rw (le-ltb (x .rule) 2, le-ltb (x .rule) 4, add-one) (child-end (overOne x) (node (suc before) (x .next)))
-
-  pub first-fault : 2 ≤ x .rule → (k place : ℕ) → endOf first ≡ End.Fault k place → endOf here ≡ End.Fault k place
-  first-fault over k place e = rw (le-ltb (x .rule) 2, ← add-one before) (by (ltb (x .rule) 4))
-    where
-      by : (two : Bool) → endOf (cond two (onLeft (overTwo x) first node) (onChild (overOne x) first)) ≡ End.Fault k place
-      by true = left-fault (overTwo x) first node k place e
-      by false = child-end (overOne x) first ∙ e
-
--- The child of a node that was read, and its two children, where children are read by `node`.
-pub record Child (f : Derivation → Derivation) (r : NodeRead) (d : Derivation) (after next : ℕ) : Type 0 where
-  pub child : Derivation
-  pub read : r ≡ whole child after next
-  pub is : d ≡ f child
-
-child-of : (f : Derivation → Derivation) (r : NodeRead) (d : Derivation) (after next : ℕ) → onChild f r ≡ whole d after next → Child f r d after next
-child-of f (fault k place) d after next e = absurd (let z : _≡_ {A = ℕ} 0 1 = cc in omega arith)
-child-of f (whole c a n) d after next e =
-    let same-a : a ≡ after = cc in
-    let same-n : n ≡ next = cc in
-    record { child = c; read = rw (same-a, same-n); is = cc }
-
-pub record Children (f : Derivation → Derivation → Derivation) (l : NodeRead) (node : ℕ → ℕ → NodeRead) (d : Derivation)
-    (after next : ℕ) : Type 0 where
-  pub left : Derivation
-  pub right : Derivation
-  pub between : ℕ
-  pub middle : ℕ
-  pub left-read : l ≡ whole left between middle
-  pub right-read : node between middle ≡ whole right after next
-  pub is : d ≡ f left right
-
-children-of : (f : Derivation → Derivation → Derivation) (l : NodeRead) (node : ℕ → ℕ → NodeRead) (d : Derivation) (after next : ℕ)
-    → onLeft f l node ≡ whole d after next → Children f l node d after next
-children-of f (fault k place) node d after next e = absurd (let z : _≡_ {A = ℕ} 0 1 = cc in omega arith)
-children-of f (whole l b m) node d after next e =
-    let c = child-of (f l) (node b m) d after next e in
-    record { left = l; right = c .child; between = b; middle = m; left-read = refl; right-read = c .read; is = c .is }
-
--- The parts of a node by its rule.
-module _ (x : NodeHead) (before : ℕ) (node : ℕ → ℕ → NodeRead) (d : Derivation) (after next : ℕ)
-    (e : onNodeHead (Head x) before node ≡ whole d after next) where
-  pub leaf-parts : x .rule < 2 → (d ≡ alone x) × (after ≡ suc before) × (next ≡ x .next)
-  leaf-parts few = let w = rw (lt-ltb (x .rule) 2) at e in (cc, cc, cc)
-
-  pub two-parts : 2 ≤ x .rule → x .rule < 4 → Children (overTwo x) (node (suc before) (x .next)) node d after next
-  two-parts over few = children-of (overTwo x) (node (suc before) (x .next)) node d after next (rw (le-ltb (x .rule) 2, lt-ltb (x .rule) 4) at e)
-
-  pub one-parts : 4 ≤ x .rule → Child (overOne x) (node (suc before) (x .next)) d after next
-  one-parts over =
-      let past : 2 ≤ x .rule = omega arith in
-      child-of (overOne x) (node (suc before) (x .next)) d after next (rw (le-ltb (x .rule) 2, le-ltb (x .rule) 4) at e)
-
 -- A node takes at most 27 bits.
 pub bits-most : (d : Derivation) → nodeBits d ≤ 27 * nodes d
 bits-most (skip h) = omega arith
@@ -139,12 +48,6 @@ module _ (bytes : List ℕ) (sets relations : ℕ) where
   abbrev node : ℕ → ℕ → ℕ → NodeRead
   node levels = nodeAt levels bytes sets relations
 
-  pub record Read (before at : ℕ) (d : Derivation) (after next : ℕ) : Type 0 where
-    pub counted : after ≡ before + nodes d
-    pub room : after ≤ 127
-    pub ended : next ≡ at + nodeBits d
-    pub known : Known sets relations d
-
   -- One level of reading.
   pub unrolled : (levels before at : ℕ) → (levels ≡ 0 → ⊥)
       → node levels before at ≡ onNodeHead (nodeHead bytes sets relations (levels - 1) before at) before (node (levels - 1))
@@ -152,58 +55,73 @@ module _ (bytes : List ℕ) (sets relations : ℕ) where
   unrolled zero before at some = absurd (some refl)
   unrolled (suc levels) before at some = let down : suc levels - 1 ≡ levels = omega arith in rw down
 
-  module _ (levels before at : ℕ)
-      (below : (before at : ℕ) (d : Derivation) (after next : ℕ) → node levels before at ≡ whole d after next → Read before at d after next)
-      (d : Derivation) (after next : ℕ) where
-    node-read : (x : NodeHead) → nodeHead bytes sets relations levels before at ≡ Head x
-        → onNodeHead (Head x) before (node levels) ≡ whole d after next → Read before at d after next
-    node-read x head e = by (ltb (x .rule) 2) refl (ltb (x .rule) 4) refl
-      where
-        w : Within sets relations at x
-        w = node-within bytes sets relations at levels before x head
+  -- A derivation that was read at a bit, with so many nodes before it.
+  pub record Read (before at : ℕ) (d : Derivation) (after next : ℕ) : Type 0 where
+    pub counted : after ≡ before + nodes d
+    pub room : after ≤ 127
+    pub ended : next ≡ at + nodeBits d
+    pub known : Known sets relations d
 
-        by : (no-child : Bool) → ltb (x .rule) 2 ≡ no-child → (two : Bool) → ltb (x .rule) 4 ≡ two → Read before at d after next
-        by true t two u =
-            let few = ltb-true (x .rule) 2 t in
-            let p = leaf-parts x before (node levels) d after next e few in
-            let b = leaf sets relations at x w few in
-            rw (p .0) (record {
-              counted = omega (arith, b .size, p);
-              room = omega (arith, head-few bytes sets relations at levels before x head, p);
-              ended = p .2 ∙ b .bits;
-              known = b .known;
-            })
-        by false t true u =
-            let over = ltb-false (x .rule) 2 t in
-            let few = ltb-true (x .rule) 4 u in
-            let p = two-parts x before (node levels) d after next e over few in
-            let b = over-two sets relations at x w over few (p .left) (p .right) in
-            let l = below (suc before) (x .next) (p .left) (p .between) (p .middle) (p .left-read) in
-            let r = below (p .between) (p .middle) (p .right) after next (p .right-read) in
-            rw (p .is) (record {
-              counted = omega (arith, b .size, l .counted, r .counted);
-              room = r .room;
-              ended = omega (arith, b .bits, l .ended, r .ended);
-              known = b .known (l .known) (r .known);
-            })
-        by false t false u =
-            let over = ltb-false (x .rule) 4 u in
-            let p = one-parts x before (node levels) d after next e over in
-            let b = over-one sets relations at x w over (p .child) in
-            let c = below (suc before) (x .next) (p .child) after next (p .read) in
-            rw (p .is) (record {
-              counted = omega (arith, b .size, c .counted);
-              room = c .room;
-              ended = omega (arith, b .bits, c .ended);
-              known = b .known (c .known);
-            })
+  abbrev Shows : ℕ → ℕ → NodeRead → Type 0
+  Shows before at (whole d after next) = Read before at d after next
+  Shows before at (fault k place) = Unit {0}
 
-    head-read : (head : HeadFound) → nodeHead bytes sets relations levels before at ≡ head
-        → onNodeHead head before (node levels) ≡ whole d after next → Read before at d after next
-    head-read (Fault k place) head e = absurd (let z : _≡_ {A = ℕ} 0 1 = cc in omega arith)
-    head-read (Head x) head e = node-read x head e
+  -- A node shows it if its children do.
+  module _ (before at : ℕ) (x : NodeHead) (w : Within sets relations at x) where
+    leaf-shows : before < 127 → x .rule < 2 → Read before at (alone x) (suc before) (x .next)
+    leaf-shows free few =
+        let b = leaf sets relations at x w few in
+        record { counted = omega (arith, b .size); room = free; ended = b .bits; known = b .known }
+
+    one-shows : 4 ≤ x .rule → (child : NodeRead) → Shows (suc before) (x .next) child → Shows before at (onChild (overOne x) child)
+    one-shows over (fault k place) c = tt
+    one-shows over (whole d after next) c =
+        let b = over-one sets relations at x w over d in
+        record {
+          counted = omega (arith, b .size, c .counted);
+          room = c .room;
+          ended = omega (arith, b .bits, c .ended);
+          known = b .known (c .known);
+        }
+
+    right-shows : 2 ≤ x .rule → x .rule < 4 → (l : Derivation) (between middle : ℕ) → Read (suc before) (x .next) l between middle
+        → (right : NodeRead) → Shows between middle right → Shows before at (onChild (overTwo x l) right)
+    right-shows over few l between middle c (fault k place) r = tt
+    right-shows over few l between middle c (whole d after next) r =
+        let b = over-two sets relations at x w over few l d in
+        record {
+          counted = omega (arith, b .size, c .counted, r .counted);
+          room = r .room;
+          ended = omega (arith, b .bits, c .ended, r .ended);
+          known = b .known (c .known) (r .known);
+        }
+
+    two-shows : 2 ≤ x .rule → x .rule < 4 → (left : NodeRead) → Shows (suc before) (x .next) left
+        → (right : ℕ → ℕ → NodeRead) → ((before at : ℕ) → Shows before at (right before at)) → Shows before at (onLeft (overTwo x) left right)
+    two-shows over few (fault k place) c right r = tt
+    two-shows over few (whole l between middle) c right r = right-shows over few l between middle c (right between middle) (r between middle)
+
+  head-shows : (levels before at : ℕ) → ((before at : ℕ) → Shows before at (node levels before at))
+      → (head : HeadFound) → nodeHead bytes sets relations levels before at ≡ head → Shows before at (onNodeHead head before (node levels))
+  head-shows levels before at below (Fault k place) head = tt
+  head-shows levels before at below (Head x) head = by (ltb (x .rule) 2) refl (ltb (x .rule) 4) refl
+    where
+      w : Within sets relations at x
+      w = node-within bytes sets relations at levels before x head
+
+      by : (no-child : Bool) → ltb (x .rule) 2 ≡ no-child → (two : Bool) → ltb (x .rule) 4 ≡ two
+          → Shows before at (cond no-child (whole (alone x) (suc before) (x .next))
+          (cond two (onLeft (overTwo x) (node levels (suc before) (x .next)) (node levels)) (onChild (overOne x) (node levels (suc before) (x .next)))))
+      by true t two u = leaf-shows before at x w (head-few bytes sets relations at levels before x head) (ltb-true (x .rule) 2 t)
+      by false t true u =
+          two-shows before at x w (ltb-false (x .rule) 2 t) (ltb-true (x .rule) 4 u) (node levels (suc before) (x .next)) (below (suc before) (x .next))
+          (node levels) below
+      by false t false u = one-shows before at x w (ltb-false (x .rule) 4 u) (node levels (suc before) (x .next)) (below (suc before) (x .next))
+
+  shows : (levels before at : ℕ) → Shows before at (node levels before at)
+  unfolding nodeAt
+  shows zero before at = tt
+  shows (suc levels) before at = head-shows levels before at (shows levels) (nodeHead bytes sets relations levels before at) refl
 
   pub read : (levels before at : ℕ) (d : Derivation) (after next : ℕ) → node levels before at ≡ whole d after next → Read before at d after next
-  unfolding nodeAt
-  read zero before at d after next e = absurd (let z : _≡_ {A = ℕ} 0 1 = cc in omega arith)
-  read (suc levels) before at d after next e = head-read levels before at (read levels) d after next (nodeHead bytes sets relations levels before at) refl e
+  read levels before at d after next e = rw e at (shows levels before at)

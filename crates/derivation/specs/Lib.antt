@@ -3,4 +3,5 @@
 pub mod Tables
 pub mod Nodes
 pub mod NodeTable
+pub mod Storing
 pub mod Reading

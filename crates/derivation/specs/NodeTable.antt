@@ -1,21 +1,9 @@
 -- The table of a derivation's nodes: a word for each node, in file order. Document 01: nodes are numbered from 0 in file order.
-use Prim.Native.Nat.{ℕ, suc, _+_, _-_, _*_, _/_, _%_, _^_, _<_}
+use Prim.Native.Nat.{ℕ, suc, _+_, _-_, _*_, _/_, _%_, _^_}
 use mathlib.Core.List.{List, [], _∷_, _++_}
 use lib.ListN.{length, getD, replicate}
 use Rattle.semantics.specs.Derivations.{Derivation, skip, assignment, sequence, parallel, conditional, iteration, weaken, namesOf, nodes}
 use Rattle.derivation.specs.declared.Node.{Node}
-use Rattle.derivation.specs.declared.NodeHead.{NodeHead}
-
--- A node whose fields have room in a word beside the bit.
-pub record Fits (x : Node) : Type 0 where
-  pub rule-fits : x .rule < 8
-  pub P-fits : x .names .p < 16
-  pub R-fits : x .names .r < 16
-  pub G-fits : x .names .g < 16
-  pub Q-fits : x .names .q < 16
-  pub K-fits : x .k < 16
-  pub W-fits : x .w < 16
-  pub after-fits : x .after < 128
 
 -- A node in a word, lowest first: 3 bits rule, 4 bits each for P, R, G, Q, K and W, 7 bits the number of the node after its
 -- first child; the rest is the bit of the file at which it begins.
@@ -39,10 +27,6 @@ nodeOf word =
 -- Node i of a table; past the end of the table, the node that the word 0 holds.
 unfoldable pub nodeIn : List ℕ → ℕ → Node
 nodeIn table i = nodeOf (getD table i 0)
-
--- A node of which the head was read, with the number of the node after its first child, and the bit at which it begins.
-abbrev pub recordOf : NodeHead → ℕ → ℕ → Node
-recordOf x after bit = record { rule = x .rule; names = x .names; k = x .k; w = x .w; after = after; bit = bit }
 
 -- The rule of a derivation's root, and K and W, which are 0 but at a while.
 abbrev pub ruleOf : Derivation → ℕ

@@ -48,11 +48,11 @@ module _ (bytes : List ℕ) (sets relations : ℕ) where
   ruleHead tooMany at Missing = Fault 20 (bitLength bytes)
   ruleHead tooMany at (Value rule next) = cond tooMany (Fault 24 at) (cond (eqb rule 7) (Fault 22 at) (namesHead rule next))
 
-  -- What stands at a node with so many nodes before it, where so many levels are left below it.
+  -- The head of a node with so many nodes before it, where so many levels are left below it.
   unfoldable pub nodeHead : ℕ → ℕ → ℕ → HeadFound
   nodeHead below before at = ruleHead (eqb below 0 || leb 127 before) at (fieldAt bytes at 3)
 
--- A derivation with the number of nodes so far and the cursor after it, or the first fault.
+-- A derivation with the number of nodes so far and the bit after it, or the first fault.
 pub data NodeRead : Type 0 where
   whole : Derivation → ℕ → ℕ → NodeRead
   fault : ℕ → ℕ → NodeRead
@@ -82,7 +82,7 @@ onNodeHead (Head x) before node =
     cond (ltb (x .rule) 2) (whole (alone x) (suc before) (x .next))
     (cond (ltb (x .rule) 4) (onLeft (overTwo x) (node (suc before) (x .next)) node) (onChild (overOne x) (node (suc before) (x .next))))
 
--- The derivation at a cursor; the levels to go are one more than the 24 that can be there, so their end is never met.
+-- The derivation at a bit; the levels to go are one more than the 24 that can be there, so their end is never met.
 unfoldable pub nodeAt : ℕ → List ℕ → ℕ → ℕ → ℕ → ℕ → NodeRead
 nodeAt zero bytes sets relations before at = fault 24 at
 nodeAt (suc levels) bytes sets relations before at =

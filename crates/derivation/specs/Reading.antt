@@ -11,7 +11,7 @@ use Rattle.derivation.specs.declared.Tables.the-variants.{Counts, Fault}
 use Rattle.derivation.specs.declared.ProofFound.{ProofFound}
 use Rattle.derivation.specs.declared.ProofFound.the-variants as Found
 use Rattle.derivation.specs.declared.ProofFile.{ProofFile}
-use Rattle.derivation.specs.Tables.{tablesAt, tableWord, written}
+use Rattle.derivation.specs.Tables.{tablesAt, tableWord}
 use Rattle.derivation.specs.Nodes.{NodeRead, whole, fault, wholeNode}
 use Rattle.derivation.specs.NodeTable.{nodeTable}
 

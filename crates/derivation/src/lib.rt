@@ -33,7 +33,7 @@ pub enum Tables {
     Fault(u32, usize),
 }
 
-// What stands at a node: its rule, the tables that it names (K and W are 0 but at a while), and the bit after it.
+// The head of a node: its rule, the tables that it names (K and W are 0 but at a while), and the bit after it.
 struct NodeHead {
     rule: u32,
     names: Names,
@@ -42,7 +42,7 @@ struct NodeHead {
     next: usize,
 }
 
-// What stands at a node, or a fault.
+// The head of a node, or a fault.
 enum HeadFound {
     Head(NodeHead),
     Fault(u32, usize),

@@ -1,4 +1,4 @@
-// The nodes of the proof file, by their first bits: what stands at one, and where the derivation at it ends.
+// The nodes of the proof file, by their first bits: the head of one, and where the derivation at it ends.
 use super::HeadFound;
 use super::IF;
 use super::MOST_LEVELS;
@@ -20,12 +20,13 @@ ghost use lib.ListN.{set};
 ghost use lib.Seq.{sets as stored};
 ghost use Rattle.semantics.specs.Derivations.{Derivation};
 ghost use Rattle.derivation.specs.Nodes.{named, onPair, loopHead, namesHead, nodeHead, whole, nodeAt, wholeNode, endOf};
-ghost use Rattle.derivation.specs.NodeTable.{Fits, nodeWord, nodeWords, recordOf};
+ghost use Rattle.derivation.specs.NodeTable.{nodeWord, nodeWords};
+ghost use Rattle.derivation.specs.Storing.{Fits, recordOf};
 
 // The code that is no rule.
 const NO_RULE: u64 = 7;
 
-// The two tables named at a cursor, each below its limit. The promise is over whatever is read after them.
+// The two tables named at a bit, each below its limit. The promise is over whatever is read after them.
 fn names_at(src: &[u8], first: u32, second: u32, at: usize) -> TwoNames
     ensures { λ r. ⌜ ((f : ℕ → ℕ → ℕ → HeadFound) →
         named (now (src .entry)) first at (λ i. named (now (src .entry)) second (at + 4) (λ j. f i j (at + 8))) ≡ onPair r f) ⌝ }
@@ -111,7 +112,7 @@ fn names_head(src: &[u8], sets: u32, relations: u32, rule: u32, at: usize) -> He
     names_in_turn(src, sets, relations, rule, at)
 }
 
-// What stands at a node with `before` nodes before it, where `below` levels are left below it.
+// The head of a node with `before` nodes before it, where `below` levels are left below it.
 fn node_head_at(
     src: &[u8],
     sets: u32,

@@ -69,13 +69,9 @@ pub fn load(src: &[u8], n: u32, work: &mut [u64]) -> ProofFile
     match found {
         ProofFound::Fault(_, _) => words::clear(work),
         ProofFound::Proof(head) => {
-            words::fill(
-                src,
-                n as usize,
-                head.sets as usize,
-                head.relations as usize,
-                work,
-            );
+            let sets = head.sets as usize;
+            let relations = head.relations as usize;
+            words::fill(src, n as usize, sets, relations, work);
         }
     }
     file

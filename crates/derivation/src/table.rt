@@ -3,7 +3,8 @@ use super::Node;
 use semantics::Names;
 ghost use mathlib.Core.Path.{_≡_};
 ghost use Prim.Native.Nat.{_^_, _<_};
-ghost use Rattle.derivation.specs.NodeTable.{Fits, nodeWord, nodeOf, nodeIn};
+ghost use Rattle.derivation.specs.NodeTable.{nodeWord, nodeOf, nodeIn};
+ghost use Rattle.derivation.specs.Storing.{Fits};
 
 // The word of a node.
 pub(crate) fn node_word(node: Node) -> u64

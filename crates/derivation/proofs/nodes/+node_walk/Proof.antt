@@ -100,7 +100,7 @@ module _ (t : ℕ) where
   store-requires-2 c κs =
       let ends = c .before .before in
       let s = seen (ends .before .before) in
-      (few s, head-fits _ _ (start s .pre .1 .0) (start s .pre .1 .1) _ _ (within s) _ _ (omega (arith, few-after ends)), near s)
+      (few s, head-fits _ _ (start s .pre .1 .0) (start s .pre .1 .1) _ _ (within s) _ _ (omega (arith, few s, few-after ends)), near s)
 
   walk-requires-2 : lts.Need-node-walk-requires-2 (callees t) (given t) node-walk.Post
   walk-requires-2 c κs =
@@ -136,7 +136,9 @@ module _ (t : ℕ) where
       (ltb-false _ 4 (sym (c .before .has-two-children .ensures) ∙ c .if3 .left)) _ (own .store2 .ensures)
 
   returns-4 : lts.Need-returns-4 (callees t) (given t) node-walk.Post
-  returns-4 c = no-head _ _ _ _ _ _ (c .before .before .before .before .if1 .left) _ _ _ _ (sym (c .before .before .before .node-head-at .ensures) ∙ c .before .fault .given .1)
+  returns-4 c =
+      let read = c .before .before .before in
+      no-head _ _ _ _ _ _ (read .before .if1 .left) _ _ _ _ (sym (read .node-head-at .ensures) ∙ c .before .fault .given .1)
 
 pub +node-walk-spec : {M : Type 1} → statement M
 +node-walk-spec =

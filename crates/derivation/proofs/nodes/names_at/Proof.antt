@@ -1,4 +1,4 @@
--- Each way out is one case of the first name or, behind it, of the second; the next cursor is 4 bits on.
+-- Each way out is one case of the first name or, after it, of the second; the next bit is 4 on.
 use mathlib.Core.Path.{sym, _∙_}
 use borrow.Author.Needs.{needs}
 use Rattle.bits.proofs.Laws.{there}
@@ -17,7 +17,7 @@ returns-2 : tie.Need-returns-2
 unfolding onPair
 returns-2 c f =
     let field = c .before .before in
-    named-over _ _ _ _ _ _ (sym (field .before .before .read .ensures) ∙ field .i .given .1) (c .if1 .taken)
+    named-over _ (field .before .before .before .before .args .first) _ _ _ _ (sym (field .before .before .read .ensures) ∙ field .i .given .1) (c .if1 .taken)
 
 returns-3 : tie.Need-returns-3
 unfolding onPair

@@ -23,7 +23,7 @@ in-pairs bytes sets relations rule at =
     let end : at + 16 ≡ at + 8 + 8 = omega arith in
     rw (third, end)
 
--- The first pair, read with all that stands after it; then the second.
+-- The first pair, read with all that comes after it; then the second.
 first : (c : tie.After-names-at) →
     let a = c .before .before .args in
     namesHead (a .src .now) (a .sets) (a .relations) (a .rule) (a .at)

@@ -1,10 +1,11 @@
 -- Each way out is one case of the definition, at the rule that was read and the tests that led there.
-use mathlib.Core.Bool.{or-true}
+use mathlib.Core.Bool.{true, or-true}
 use mathlib.Core.Logic.{⊎-elim}
-use mathlib.Core.Path.{sym, _∙_}
+use mathlib.Core.Path.{_≡_, sym, _∙_}
 use native.Mathlib.Omega.{arith}
 use borrow.Author.Needs.{needs}
 use borrow.Author.Tests.{eq-eqb, ne-eqb}
+use lib.Dec.{leb}
 use Rattle.bits.proofs.Laws.{there}
 use Rattle.derivation.specs.Nodes.{ruleHead, nodeHead}
 use Rattle.derivation.proofs.nodes.node_head_at.Statement.{statement}
@@ -19,7 +20,10 @@ unfolding nodeHead ruleHead
 returns-2 c =
     let field = c .before .before in
     rw (← field .before .before .read .ensures, field .rule .given .1)
-    (⊎-elim (λ h. rw (eq-eqb _ 0 (h .taken))) (λ h. simp (h .1 .taken, or-true)) (c .if1 .came))
+    (⊎-elim
+    (λ h. rw (eq-eqb _ 0 (h .taken)))
+    (λ h. let many : leb 127 (field .before .before .before .before .args .before) ≡ true = h .1 .taken in simp (many, or-true))
+    (c .if1 .came))
 
 returns-3 : tie.Need-returns-3
 unfolding nodeHead ruleHead
