@@ -58,8 +58,8 @@ module _ (s : List ℕ) where
   -- k bytes and the w bits after them.
   pub bytes-join : (i k w : ℕ) → bitsAt s (8 * i) (8 * k + w) ≡ bitsAt s (8 * i) (8 * k) * 2 ^ w + bitsAt s (8 * (i + k)) w
   bytes-join i k w =
-      let behind : 8 * (i + k) ≡ 8 * i + 8 * k = omega arith in
-      rw behind (bits-join s (8 * i) (8 * k) w)
+      let after : 8 * (i + k) ≡ 8 * i + 8 * k = omega arith in
+      rw after (bits-join s (8 * i) (8 * k) w)
 
   -- The bits before the cursor are shifted out of the first eight bytes, and bits of the ninth are shifted in.
   pub wide-window : (at : ℕ)

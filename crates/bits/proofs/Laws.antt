@@ -57,7 +57,7 @@ pub number-bits : (s : List ℕ) (at w : ℕ) → w ≤ 64 → numberAt s at w �
 unfolding numberAt
 number-bits s at w most = rw (le-leb w 64 most)
 
--- A number depends only on the bits that write it, wherever they stand.
+-- A number depends only on the bits that write it, wherever they are.
 pub bits-agree : (s t : List ℕ) (a b w : ℕ) → ((k : ℕ) → k < w → bitAt s (a + k) ≡ bitAt t (b + k)) → bitsAt s a w ≡ bitsAt t b w
 unfolding bitsAt
 bits-agree s t a b zero same = refl
@@ -74,7 +74,7 @@ pub record There (s : List ℕ) (at w v next : ℕ) : Type 0 where
   pub most : w ≤ 64
   pub fits : next < 2 ^ 64
 
--- What the test tells.
+-- What the test shows.
 pub in-full : (s : List ℕ) (at w : ℕ) → isThere s at w ≡ true → There s at w (bitsAt s at w) (at + w)
 unfolding isThere
 in-full s at w e =
@@ -91,7 +91,7 @@ module _ (s : List ℕ) (at w : ℕ) (least : 1 ≤ w) (most : w ≤ 64) (inside
   unfolding fieldAt
   found = rw is-there
 
--- What each answer of a read tells.
+-- What each answer of a read shows.
 abbrev OfField : List ℕ → ℕ → ℕ → Field → Type 0
 OfField s at w (Value v next) = There s at w v next
 OfField s at w Missing = isThere s at w ≡ false
@@ -122,7 +122,7 @@ parted s at w k v next least more e =
     let second = found s (at + w) k more (omega (arith, t)) (omega (arith, t)) (omega (arith, t)) in
     (rw (v-is, digits-div (bitsAt s at w) small) first, rw (v-is, digits-mod (bitsAt s at w) small, end) second)
 
--- What a search for the first set bit tells: all are zero, or the one found is not.
+-- What a search for the first set bit shows: all are zero, or the one found is not.
 abbrev OfFirst : List ℕ → ℕ → ℕ → Option ℕ → Type 0
 OfFirst s at n none = (i : ℕ) → at ≤ i → i < at + n → bitAt s i ≡ 0
 OfFirst s at n (some i) = (at ≤ i) × (bitAt s i ≡ 0 → ⊥)
@@ -152,7 +152,7 @@ pub record Misfilled (s : List ℕ) (at i : ℕ) : Type 0 where
   pub after : at ≤ i
   pub inside : i < 8 * length s
 
--- What each answer about the fill tells.
+-- What each answer about the fill shows.
 abbrev OfFill : List ℕ → ℕ → Fill → Type 0
 OfFill s at Ends = Filled s at
 OfFill s at (Wrong i) = Misfilled s at i

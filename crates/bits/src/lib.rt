@@ -14,7 +14,7 @@ pub enum Field {
     Missing,
 }
 
-// What stands after the last field: the end as it must be, or the first bit that is wrong.
+// What follows the last field: the end as it must be, or the first bit that is wrong.
 pub enum Fill {
     Ends,
     Wrong(usize),

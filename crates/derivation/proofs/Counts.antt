@@ -1,4 +1,4 @@
--- Laws of the head of the proof file: where its tables stand, and what its counts can be.
+-- Laws of the head of the proof file: where its tables are, and what its counts can be.
 use Prim.Native.Nat.{ℕ, _+_, _*_, _≤_}
 use mathlib.Core.Bool.{true, and-eq-true-iff}
 use mathlib.Core.Path.{_≡_}

@@ -8,7 +8,7 @@ use native.Mathlib.Omega.{arith}
 use borrow.Author.Tests.{lt-ltb, le-ltb, ltb-true, ltb-false}
 use lib.Dec.{ltb, eqb}
 use lib.ListN.{length, getD, List·getD-eq-default}
-use lib.Pow.{pow-pos, pow-mono, low}
+use lib.Pow.{pow-mono, low}
 use Rattle.bits.specs.Fields.{bitAt}
 use Rattle.bits.proofs.Laws.{bit-below}
 use Rattle.states.specs.Sets.{mem}
@@ -69,19 +69,6 @@ module _ (bytes : List ℕ) where
           let past = ltb-false s 64 u in
           rw (List·getD-eq-default (wordAt bytes at n ∷ []) 0 {n = s / 64} (omega arith), zero-div)
 
-  table-word-below : (n sets relations j : ℕ) → tableWord bytes n sets relations j < 2 ^ n
-  unfolding tableWord
-  table-word-below n sets relations j = by (ltb j 16) (ltb j sets) (ltb ((j - 16) / 64) relations && ltb ((j - 16) % 64) n)
-    where
-      either : (b : Bool) (at : ℕ) → cond b (wordAt bytes at n) 0 < 2 ^ n
-      either true at = word-below at n
-      either false at = pow-pos n
-
-      by : (set inside row : Bool)
-          → cond set (cond inside (wordAt bytes (setAt n j) n) 0) (cond row (wordAt bytes (rowAt n sets ((j - 16) / 64) ((j - 16) % 64)) n) 0) < 2 ^ n
-      by true inside row = either inside (setAt n j)
-      by false inside row = either row (rowAt n sets ((j - 16) / 64) ((j - 16) % 64))
-
 -- A buffer of 1,040 words or more after a proof file was loaded into it.
 module _ (bytes : List ℕ) (n sets relations at : ℕ) (d : Derivation) (read : readProof bytes n ≡ proof sets relations at d)
     (work : List ℕ) (enough : 1040 ≤ length work) where
@@ -93,9 +80,6 @@ module _ (bytes : List ℕ) (n sets relations at : ℕ) (d : Derivation) (read :
 
   word-is : (j : ℕ) → j < 1040 → word j ≡ tableWord bytes n sets relations j
   word-is j table = written-at (wordsOf bytes n (readProof bytes n)) work j table (omega arith) ∙ rw read
-
-  pub loaded-below : (j : ℕ) → j < 1040 → getD (written (wordsOf bytes n (readProof bytes n)) work) j 0 < 2 ^ n
-  loaded-below j table = rw (word-is j table) (table-word-below bytes n sets relations j)
 
   -- State s is in set i as the words hold it iff it is a state and the file has it in the set.
   pub set-member : (i s : ℕ) → i < sets

@@ -22,7 +22,7 @@ rowAt n sets r s = 10 + n * (sets + n * r + s)
 unfoldable pub tablesThere : List ℕ → ℕ → ℕ → ℕ → Bool
 tablesThere bytes n sets relations = leb 1 n && leb n 64 && leb (rowAt n sets relations 0) (8 * length bytes)
 
--- 21: a count is not 1 to 16, each judged where it stands.
+-- 21: a count is not 1 to 16, each judged where it is read.
 unfoldable pub isCount : ℕ → Bool
 isCount k = leb 1 k && leb k 16
 

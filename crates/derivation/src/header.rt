@@ -16,7 +16,7 @@ fn is_count(k: u64) -> bool
     k <= 16
 }
 
-// The first bit of a relation's row; the root node stands where the first relation too many would.
+// The first bit of a relation's row; the root node is where the first relation too many would be.
 pub(crate) fn row_at(n: usize, sets: usize, relation: usize, state: usize) -> usize
     requires { ⌜ (n ≤ 64) × (sets ≤ 16) × (relation ≤ 16) × (state ≤ 64) ⌝ }
     ensures { λ r. ⌜ r ≡ rowAt n sets relation state ⌝ }

@@ -7,7 +7,7 @@ ghost use lib.Bits.{bitAnd, bitOr};
 ghost use Rattle.bits.specs.Fields.{bitsAt};
 ghost use Rattle.derivation.specs.Tables.{wordAt, tableWord, written};
 
-// A word in which the bits that a mask names and those so many places above them have changed places.
+// Swaps the bits selected by `mask` with those `by` places higher.
 fn swapped(word: u64, by: u32, mask: u64) -> u64
     requires { ⌜ by < 64 ⌝ }
     ensures { λ r. ⌜ r ≡ bitOr (bitAnd (word / 2 ^ by) mask) (bitAnd word mask * 2 ^ by % 2 ^ 64) ⌝ }
@@ -57,7 +57,7 @@ fn table_word(src: &[u8], n: usize, sets: usize, relations: usize, j: usize) -> 
     word_at(src, row_at(n, sets, relation, state), n)
 }
 
-// The next word behind word j that a table may have: rows past the n states of a relation have none.
+// The next word after word j that a table may have: rows past the n states of a relation have none.
 fn next_word(n: usize, j: usize) -> usize
     requires { ⌜ (n ≤ 64) × (j < 1040) ⌝ }
     ensures { λ r. ⌜ (j < r) × ((s : List ℕ) (sets relations i : ℕ) → j < i → i < r → tableWord s n sets relations i ≡ 0) ⌝ }

@@ -193,7 +193,7 @@ bit-power zero (suc s) = high-bit 1 0 1 s refl (omega arith) ∙ bit-nought s �
 bit-power (suc n) zero = low-bit (2 ^ suc n) (2 ^ n) 0 (omega (arith, pow-suc 2 n)) (omega arith) ∙ sym (eqb·suc-zero n)
 bit-power (suc n) (suc s) = high-bit (2 ^ suc n) (2 ^ n) 0 s (omega (arith, pow-suc 2 n)) (omega arith) ∙ bit-power n s ∙ sym (eqb·suc-suc n s)
 
--- x & (x - 1) keeps the bits of x that stand above another: up to the lowest the two have none in common, and above it the same.
+-- x & (x - 1) keeps the bits of x that are above another: up to the lowest the two have none in common, and above it the same.
 abbrev Lower : ℕ → ℕ → Type 0
 Lower x s = (bit x s && bit (x - 1) s) ≡ (bit x s && any s (bit x))
 

@@ -1,4 +1,4 @@
-// Sets of at most 64 states by value. No function asks anything of its caller, and each set is told by its members.
+// Sets of at most 64 states by value. No function asks anything of its caller, and each promise of a set is of its members.
 ghost use mathlib.Core.Path.{_≡_};
 ghost use mathlib.Core.Bool.{false, not, _&&_, _||_, Bool·beq};
 ghost use Prim.Native.Nat.{ℕ};

@@ -16,16 +16,16 @@ returns c =
     sym none
 
 -- The number is that of the bits.
-told : (c : tie.Else1) → let a = c .before .before .args in numberAt (a .src .now) (a .at) (a .width) ≡ bitsAt (a .src .now) (a .at) (a .width)
-told c = number-bits _ _ _ (omega arith)
+number : (c : tie.Else1) → let a = c .before .before .args in numberAt (a .src .now) (a .at) (a .width) ≡ bitsAt (a .src .now) (a .at) (a .width)
+number c = number-bits _ _ _ (omega arith)
 
 returns-2 : tie.Need-returns-2
 returns-2 c =
     let whole = c .before .before in
-    rw (told (whole .before), whole .if2 .taken) (c .nine-bytes .ensures)
+    rw (number (whole .before), whole .if2 .taken) (c .nine-bytes .ensures)
 
 returns-3 : tie.Need-returns-3
-returns-3 c = rw (told (c .before .before)) (c .gather .ensures)
+returns-3 c = rw (number (c .before .before)) (c .gather .ensures)
 
 pub number-at-spec : {M : Type 1} → statement M
 number-at-spec = tie.close (tie.spec returns (λ c. search needs) (λ c κs. search needs) returns-2 (λ c κs. search needs) returns-3)

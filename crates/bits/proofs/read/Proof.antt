@@ -8,7 +8,7 @@ use Rattle.bits.proofs.Laws.{There, in-full, found}
 use Rattle.bits.proofs.read.Statement.{statement}
 use Rattle.bits.proofs.read.Tie as tie
 
--- What the test has told.
+-- What the test has shown.
 full : (c : tie.Then1) →
     let a = c .before .before .before .args in
     There (a .src .now) (a .at) (a .width) (bitsAt (a .src .now) (a .at) (a .width)) (a .at + a .width)

@@ -53,7 +53,11 @@ returns-4 : tie.Need-returns-4
 unfolding relationsRead
 returns-4 c =
     let field = c .before .before .before in
+    let a = field .before .before .before .before .args in
+    let fault : relationsRead (a .src .now) (a .n) (a .sets) (fieldAt (a .src .now) 5 5) ≡ Fault 21 5 =
     rw (← field .before .before .read .ensures, field .count .given .1, ← c .before .is-count .ensures, c .if1 .left)
+    in
+    sym fault
 
 pub read-relations-spec : {M : Type 1} → statement M
 read-relations-spec =
