@@ -11,7 +11,8 @@ use Rattle.semantics.proofs.Soundness.{soundness}
 use Rattle.derivation.specs.Tables.{written}
 use Rattle.checker.specs.declared.Verdict.{Verdict}
 use Rattle.checker.specs.Verdicts.{Answer, tablesIn, rootSpec, answer, workAfter, AcceptedIsSound}
-use Rattle.checker.proofs.Stages.{kinds-fit}
+use Rattle.handler.proofs.Fitting.{stmt-fits}
+use Rattle.handler.proofs.Handlers.{known-handler}
 use Rattle.checker.proofs.Acceptance.{accepted-exactly}
 
 pub accepted-is-sound : (hb pb : List ℕ) (words : ℕ) → AcceptedIsSound hb pb (answer hb pb words .verdict)
@@ -19,7 +20,7 @@ accepted-is-sound hb pb words = record {
   sound = λ k e.
       let a = accepted-exactly hb pb words k .0 e in
       let p = a .pair in
-      let kinds = kinds-fit hb (p .sizes) (p .statement-bit) (p .statement) (p .handler-read) in (
+      let kinds = stmt-fits (p .statement-bit) (p .statement) (known-handler hb (p .sizes) (p .statement-bit) (p .statement) (p .handler-read) .fits) in (
         p,
         subst (Promise (machineOf (p .sizes)) (p .statement) (rootSpec p)) (sym (a .number))
             (soundness (tablesIn p) (p .derivation) (p .statement) 0 (a .unbroken) kinds),

@@ -4,6 +4,7 @@ use mathlib.Core.Path.{_≡_, refl, sym, _∙_, ap}
 use mathlib.Core.Bool.{Bool, true, false}
 use mathlib.Core.List.{List}
 use mathlib.Core.Option.{Option, none, some}
+use native.Mathlib.Omega.{arith}
 use lib.ListN.{length}
 use lib.Dec.{ltb}
 use borrow.Author.Tests.{lt-ltb, le-ltb}
@@ -12,19 +13,24 @@ use Rattle.semantics.specs.StepNumber.{steps}
 use Rattle.semantics.specs.Derivations.{Derivation, nodes}
 use Rattle.semantics.specs.Checking.{Broken, firstFault}
 use Rattle.expressions.specs.declared.head.Head.{Head}
-use Rattle.expressions.proofs.Heads.{head-read}
+use Rattle.expressions.proofs.Heads.{Declared, head-read}
 use Rattle.handler.specs.Reading.{HandlerRead, handler, refused, readHandler}
-use Rattle.derivation.specs.NodeTable.{nodeTable}
+use Rattle.handler.specs.StatementTable.{statementTable}
+use Rattle.handler.proofs.Handlers.{KnownHandler, known-handler}
+use Rattle.handler.proofs.StatementTable.{table-held}
+use Rattle.derivation.specs.NodeTable.{padded, nodeTable}
+use Rattle.derivation.proofs.Files.{Shown, read-known}
 use Rattle.derivation.specs.Tables.{tableWord, written}
 use Rattle.derivation.specs.Reading as Proofs
 use Rattle.checker.specs.declared.Place.the-variants.{Bit}
 use Rattle.checker.specs.declared.Fault.{Fault}
-use Rattle.checker.specs.declared.Verdict.{Verdict}
 use Rattle.checker.specs.declared.Verdict.the-variants.{Accepted, Refused}
 use Rattle.checker.specs.Verdicts.{refusedAt, untouched, cleared, tablesOf, onSteps, onFault, onProof, onHandler, answer}
 use Rattle.checker.specs.Nodes.{faultsFrom, firstOf}
 use Rattle.checker.specs.Refinement.{Handled, decided}
-use Rattle.checker.proofs.Stages.{stages, decided-answer, words-kept, words-cleared}
+use Rattle.checker.proofs.Loaded.{set-loaded, relation-loaded}
+use Rattle.checker.proofs.AtHand.{Decoded, NodeAt, StatementAt}
+use Rattle.checker.proofs.Stages.{decided-answer, words-kept, words-cleared}
 use Rattle.checker.proofs.Meaning.{found-in-tables}
 
 module _ (hb pb : List ℕ) (head : Head) (statements : List ℕ) (k : ℕ) (h : Handled hb head statements k) where
@@ -43,13 +49,48 @@ module _ (hb pb : List ℕ) (head : Head) (statements : List ℕ) (k : ℕ) (h :
     on-read = rw (h .reads, e)
 
     -- What the loop finds decides.
-    pub judged : (before work table : List ℕ) → 1040 ≤ length before → work ≡ written (Proofs.wordsOf pb n (Proofs.readProof pb n)) before
-        → table ≡ nodeTable root d
-        → decided (firstOf (faultsFrom hb head work table statements (nodes d) 0 0)) k ≡ onHandler pb (readHandler hb) .verdict
-    judged before work table enough words is =
-        ap (λ o. decided (firstOf o) k) (found-in-tables hb pb before head statements k h sets relations root d e enough work words table is)
-        ∙ ap (decided (firstOf fault)) (h .counted)
-        ∙ decided-answer fault (steps n (h .S)) (tableWord pb n sets relations) ∙ sym (ap (λ a. a .verdict) on-read)
+    module _ (before work table : List ℕ) (enough : 1040 ≤ length before)
+        (words : work ≡ written (Proofs.wordsOf pb n (Proofs.readProof pb n)) before) (is : table ≡ nodeTable root d) where
+      known : KnownHandler hb (h .sizes) (h .place) (h .S)
+      known = known-handler hb (h .sizes) (h .place) (h .S) (h .reads)
+
+      declared : Declared (h .sizes) (h .place)
+      declared = head-read hb (h .sizes) (h .place) (known .head)
+
+      shown : Shown pb n sets relations d
+      shown = read-known pb n sets relations root d e
+
+      env : Decoded
+      env = record {
+        bytes = hb;
+        sizes = h .sizes;
+        work = work;
+        nodeTable = nodeTable root d;
+        statementTable = statementTable (h .place) (h .S);
+        tables = tablesOf pb (h .sizes) sets;
+        sets = sets;
+        relations = relations;
+        few-sizes = declared .few;
+        few-sets = shown .sets-most;
+        few-relations = shown .relations-most;
+        machine-is = declared .machine;
+        set-is = set-loaded pb (h .sizes) before sets relations root d e enough (declared .most) work words;
+        relation-is = relation-loaded pb (h .sizes) before sets relations root d e enough (declared .most) work words;
+      }
+
+      node-at : NodeAt env 0 root d
+      unfolding env nodeTable padded
+      node-at = record { known = shown .known; room = omega (arith, shown .nodes-most); rest = _; words = refl }
+
+      statement-at : StatementAt env 0 (h .place) (h .S)
+      unfolding env
+      statement-at = record { stands = known .stands; targets = known .targets; room = omega (arith, known .few); held = table-held (h .place) (h .S) }
+
+      pub judged : decided (firstOf (faultsFrom hb head work table statements (nodes d) 0 0)) k ≡ onHandler pb (readHandler hb) .verdict
+      unfolding env
+      judged =
+          rw (h .head-is, h .table-is, is, found-in-tables env root (h .place) d (h .S) node-at statement-at, h .counted)
+          (decided-answer fault (steps n (h .S)) (tableWord pb n sets relations) ∙ sym (ap (λ a. a .verdict) on-read))
 
     -- The words that the answer leaves: the tables if it accepts, else 0.
     pub kept-words : (bound : ℕ) → onHandler pb (readHandler hb) .verdict ≡ Accepted bound → onHandler pb (readHandler hb) .words ≡ tableWord pb n sets relations

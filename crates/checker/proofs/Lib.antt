@@ -1,5 +1,6 @@
 -- What the loop finds, demand 2 and demand 3 of the bytes.
 pub mod Stages
+pub mod Turns
 pub mod Loaded
 pub mod AtHand
 pub mod Meaning

@@ -1,5 +1,4 @@
--- The stages of the check: what a handler file that was read says of its head, its statement and its kinds, what the verdict
--- is after the loop, and what the work words are after two writes.
+-- The last stages of the check: what the verdict is after the loop, and what the work words are after two writes.
 use Prim.Native.Nat.{ℕ, _-_, _^_, min}
 use mathlib.Core.Path.{_≡_, refl, sym, _∙_, ap}
 use mathlib.Core.Bool.{Bool, true, false}
@@ -10,62 +9,14 @@ use lib.ListN.{length, drop}
 use lib.Seq.{drop-at}
 use lib.Dec.{ltb}
 use borrow.Author.Tests.{ltb-true, ltb-false}
-use Rattle.bits.specs.Fields.{fillAt}
-use Rattle.bits.specs.declared.Fill.{Fill}
-use Rattle.bits.specs.declared.Fill.the-variants.{Ends, Wrong}
-use Rattle.semantics.specs.Language.{Stmt, kindsFit}
 use Rattle.semantics.specs.Checking.{Broken}
-use Rattle.expressions.specs.Header as Heads
-use Rattle.expressions.specs.Header.{HeadRead, declared, headAt}
-use Rattle.handler.specs.Statements.{StmtRead, whole, fault, wholeStmt}
-use Rattle.handler.specs.Kinds.{stmtKindError}
-use Rattle.handler.specs.Reading.{handler, onKinds, onFill, onStmt, onHead, readHandler}
-use Rattle.handler.proofs.Fitting.{stmt-fits}
 use Rattle.derivation.specs.Tables.{tabulate, written}
 use Rattle.derivation.proofs.Buffers.{length-tabulate, length-written}
 use Rattle.checker.specs.declared.Fault as Fault
 use Rattle.checker.specs.declared.Verdict.the-variants.{Accepted, Refused}
-use Rattle.checker.specs.Verdicts.{Answer, onSteps, onFault}
+use Rattle.checker.specs.Verdicts.{onSteps, onFault}
 use Rattle.checker.specs.Nodes.{firstOf}
 use Rattle.checker.specs.Refinement.{decided}
-
--- What was found on the way to a handler.
-pub record Stages (hb sizes : List ℕ) (at : ℕ) (S : Stmt) : Type 0 where
-  pub header : headAt hb ≡ declared sizes at
-  pub after : ℕ
-  pub next : ℕ
-  pub statement : wholeStmt hb (length sizes) at ≡ whole S after next
-  pub fits : stmtKindError at S ≡ none
-
-module _ (hb sizes : List ℕ) (at : ℕ) (S : Stmt) where
-  by-kinds : (z : List ℕ) (a : ℕ) (T : Stmt) (o : Option ℕ) → onKinds z a T o ≡ handler sizes at S → (o ≡ none) × (handler z a T ≡ handler sizes at S)
-  by-kinds z a T none e = (refl, e)
-  by-kinds z a T (some place) e = absurd (let z : _≡_ {A = ℕ} 0 1 = cc in omega arith)
-
-  by-fill : (z : List ℕ) (a : ℕ) (T : Stmt) (f : Fill) → onFill z a T f ≡ handler sizes at S → (stmtKindError a T ≡ none) × (handler z a T ≡ handler sizes at S)
-  by-fill z a T Ends e = by-kinds z a T (stmtKindError a T) e
-  by-fill z a T (Wrong place) e = absurd (let z : _≡_ {A = ℕ} 0 1 = cc in omega arith)
-
-  by-stmt : (z : List ℕ) (a : ℕ) (r : StmtRead) → headAt hb ≡ declared z a → wholeStmt hb (length z) a ≡ r → onStmt hb z a r ≡ handler sizes at S
-      → Stages hb sizes at S
-  by-stmt z a (fault k place) h w e = absurd (let z : _≡_ {A = ℕ} 0 1 = cc in omega arith)
-  by-stmt z a (whole T after next) h w e =
-      let (fit, is) = by-fill z a T (fillAt hb next) e in
-      let z-is : z ≡ sizes = cc in
-      let a-is : a ≡ at = cc in
-      let T-is : T ≡ S = cc in
-      record { header = rw (z-is, a-is) at h; after = after; next = next; statement = rw (z-is, a-is, T-is) at w; fits = rw (a-is, T-is) at fit }
-
-  by-head : (h : HeadRead) → headAt hb ≡ h → onHead hb h ≡ handler sizes at S → Stages hb sizes at S
-  by-head (Heads.fault k place) h e = absurd (let z : _≡_ {A = ℕ} 0 1 = cc in omega arith)
-  by-head (declared z a) h e = by-stmt z a (wholeStmt hb (length z) a) h refl e
-
-  pub stages : readHandler hb ≡ handler sizes at S → Stages hb sizes at S
-  unfolding readHandler
-  stages e = by-head (headAt hb) refl e
-
-  pub kinds-fit : readHandler hb ≡ handler sizes at S → kindsFit S ≡ true
-  kinds-fit e = stmt-fits at S (stages e .fits)
 
 -- A buffer written twice holds what was written last.
 written-of : (f : ℕ → ℕ) (work : List ℕ) (n : ℕ) → length work ≡ n → written f work ≡ tabulate (min 1040 n) f ++ drop (min 1040 n) work

@@ -1,20 +1,17 @@
 // The loop over the nodes of the proof file, by number. Nodes and statements are both in file order, and every node but a weaken
 // is of the next statement, so that one counter says which statement is at hand.
-use derivation::Node;
+use derivation::WEAKEN;
 use derivation::table::node_at;
 use expressions::head::Head;
 use handler::table::statement_at;
 use rules::NodeVerdict;
 use rules::node_fault;
 ghost use mathlib.Core.Path.{_≡_};
-ghost use Prim.Native.Nat.{_≤_, _<_, _^_};
+ghost use Prim.Native.Nat.{_+_, _^_, _<_};
 ghost use Rattle.derivation.specs.NodeTable.{nodeIn};
 ghost use Rattle.rules.specs.declared.NodeVerdict.the-variants.{Holds};
 ghost use Rattle.rules.specs.Asking.{askedAll};
 ghost use Rattle.checker.specs.Nodes.{statementAfter, obligationsAt, faultsFrom, firstOf};
-
-// The rule code of a weaken.
-const WEAKEN: u32 = 6;
 
 // No fault, or the number and the node of the first condition that is broken.
 pub enum FirstFault {
@@ -35,9 +32,11 @@ fn fault_at(
     ensures { λ r.
         ⌜ r ≡ askedAll Holds (obligationsAt (now (handler .entry)) head (now (work .entry)) (now (nodes .entry)) (now (statements .entry)) i s) ⌝ }
 {
-    let node = node_at(nodes, i as usize);
-    let first = node_at(nodes, i as usize + 1);
-    let second = node_at(nodes, node.after as usize);
+    let at = i as usize;
+    let node = node_at(nodes, at);
+    let first = node_at(nodes, at + 1);
+    let after = node.after as usize;
+    let second = node_at(nodes, after);
     node_fault(
         handler,
         head,
@@ -51,7 +50,7 @@ fn fault_at(
 
 // The statement at hand after node i.
 fn statement_after(nodes: &[u64], i: u32, s: u32) -> u32
-    requires { ⌜ s < 2 ^ 32 ⌝ }
+    requires { ⌜ s + 1 < 2 ^ 32 ⌝ }
     ensures { λ r. ⌜ r ≡ statementAfter (nodeIn (now (nodes .entry)) i .rule) s ⌝ }
 {
     let node = node_at(nodes, i as usize);

@@ -4,6 +4,7 @@ use mathlib.Core.Path.{_≡_, refl, _∙_, ap₂}
 use mathlib.Core.Bool.{Bool, true, false}
 use mathlib.Core.List.{List, [], _∷_}
 use mathlib.Core.Option.{Option, none, some}
+use native.Mathlib.Omega.{arith}
 use Rattle.states.specs.Search.{Search, holds}
 use Rattle.semantics.specs.Checking.{Condition, orNumber, firstBroken}
 use Rattle.rules.specs.declared.NodeVerdict.{NodeVerdict}
@@ -30,3 +31,12 @@ first-asked (c ∷ cs) = by (c .breach) (first-asked cs)
         → askedAll (asked Holds (c .number) (holds s)) cs ≡ verdictOf (orNumber (c .number) s (firstBroken cs))
     by none rest = rest
     by (some found) rest = kept (c .number) cs
+
+-- What a verdict says of the first broken condition.
+pub none-broken : (o : Option ℕ) → verdictOf o ≡ Holds → o ≡ none
+none-broken none e = refl
+none-broken (some k) e = absurd (let z : _≡_ {A = ℕ} 0 1 = cc in omega arith)
+
+pub one-broken : (o : Option ℕ) (k : ℕ) → verdictOf o ≡ Breaks k → o ≡ some k
+one-broken none k e = absurd (let z : _≡_ {A = ℕ} 0 1 = cc in omega arith)
+one-broken (some j) k e = let same : j ≡ k = cc in rw same

@@ -1,71 +1,95 @@
--- The tables are loaded, the nodes judged over them, and the words cleared unless the pair is accepted: each way out is a case
--- of the answer, by the laws of Judging.
-use Prim.Native.Nat.{ℕ}
-use mathlib.Core.Path.{_≡_, refl, sym, _∙_, ap}
 use borrow.Author.Needs.{needs}
-use Rattle.semantics.specs.Derivations.{Derivation}
-use Rattle.derivation.specs.Tables.{written}
-use Rattle.derivation.specs.Reading as Proofs
-use Rattle.derivation.proofs.Files.{answered}
-use Rattle.checker.proofs.Stages.{written-twice}
-use Rattle.checker.proofs.Judging.{refused-proof, on-refused, walkable, judged, kept-words, no-words}
 use Rattle.checker.proofs.check_proof.Statement.{statement}
 use Rattle.checker.proofs.check_proof.Tie as tie
+use Rattle.checker.proofs.check_proof.Reads as reads
+use Rattle.checker.proofs.check_proof.Lts as lts
+use Rattle.checker.proofs.at_bit.Reads as at-bit-reads
+use Rattle.checker.proofs.decide.Reads as decide-reads
+use Rattle.checker.proofs.nodes.first_fault.Reads as first-fault-reads
+use Rattle.derivation.proofs.reading.load.Reads as load-reads
+use Rattle.derivation.proofs.words.clear.Reads as clear-reads
 
--- The proof file that was read.
-read : (c : tie.After-sets) → let a = c .before .before .before .before .before .before .before .before .before .args in
-    (d : Derivation) × (Proofs.readProof (a .proof .now) (a .states) ≡ Proofs.proof (c .sets .given .0 .0) (c .sets .given .0 .1 .0) (c .sets .given .0 .1 .1 .0) d)
-read c = answered _ _ _ _ (sym (c .before .before .before .before .load .ensures .0) ∙ c .sets .given .1)
+-- src/lib.rt:101:9
+load-requires : tie.Need-load-requires
+load-requires c κs = search needs
 
-judge-requires : tie.Need-judge-requires
-judge-requires c κs =
-    let l = c .before .before .before .before .before .before in
-    let s = l .before .before .before .before .before in
-    let r = read (c .before .before) in
-    walkable _ _ _ _ _ _ (s .pre .0) _ _ _ (r .0) (r .1) _ _ (s .pre .1) (l .load .ensures .1)
+-- src/lib.rt:104:27
+enum-known-found : tie.Need-enum-known-found
+enum-known-found c = search needs
 
+-- src/lib.rt:104:45
+at-bit-requires : tie.Need-at-bit-requires
+at-bit-requires c κs = search needs
+
+-- src/lib.rt:105:27
+enum-known-found-2 : tie.Need-enum-known-found-2
+enum-known-found-2 c = search needs
+
+-- src/lib.rt:107:63
+slice-aggregate-first-fault : tie.Need-slice-aggregate-first-fault
+slice-aggregate-first-fault c = search needs
+
+-- src/lib.rt:107:17
+first-fault-requires : tie.Need-first-fault-requires
+first-fault-requires c κs = search needs
+
+-- src/lib.rt:108:19
+decide-requires : tie.Need-decide-requires
+decide-requires c κs = search needs
+
+-- src/lib.rt:109:35
+enum-known-k : tie.Need-enum-known-k
+enum-known-k c = search needs
+
+-- src/lib.rt:110:34
+enum-known-fault : tie.Need-enum-known-fault
+enum-known-fault c = search needs
+
+-- src/lib.rt:111:21
+clear-requires : tie.Need-clear-requires
+clear-requires c κs = search needs
+
+-- src/lib.rt:87:1
+same-length : tie.Need-same-length
+same-length c = search needs
+
+-- src/lib.rt:87:1
 returns : tie.Need-returns
-returns c =
-    let l = c .before .before .before .before .before .before in
-    let s = l .before .before .before .before .before in let a = s .args in
-    let no-proof = refused-proof _ _ _ (sym (l .load .ensures .0) ∙ c .before .before .number .given .1) in
-    let is = on-refused (a .handler .now) (a .proof .now) (a .variables) (a .states) (a .stmt) (a .steps) (s .pre .0) _ _ no-proof in
-    (rw is (c .at-bit .ensures), rw is (rw no-proof at (l .load .ensures .1)))
+returns c = ?
 
+-- src/lib.rt:87:1
+same-length-2 : tie.Need-same-length-2
+same-length-2 c = search needs
+
+-- src/lib.rt:87:1
 returns-2 : tie.Need-returns-2
-returns-2 c =
-    let j = c .before .before .before in
-    let l = j .before .before .before .before .before .before .before in
-    let s = l .before .before .before .before .before in let a = s .args in
-    let r = read (j .before .before .before) in
-    let v = judged (a .handler .now) (a .proof .now) (a .variables) (a .states) (a .stmt) (a .steps) (s .pre .0) _ _ _ (r .0) (r .1) (j .judge .result) (j .judge .ensures) in
-    let accepted = sym (c .before .k .given .1) ∙ v in
-    let kept = kept-words (a .handler .now) (a .proof .now) (a .variables) (a .states) (a .stmt) (a .steps) (s .pre .0) _ _ _ (r .0) (r .1) _ (sym accepted) in
-    (accepted, rw (r .1) at (l .load .ensures .1) ∙ ap (λ f. written f (a .work .now)) (sym kept))
+returns-2 c = ?
 
+-- src/lib.rt:87:1
+same-length-3 : tie.Need-same-length-3
+same-length-3 c = search needs
+
+-- src/lib.rt:87:1
 returns-3 : tie.Need-returns-3
-returns-3 c =
-    let j = c .before .before .before .before .before .before .before in
-    let l = j .before .before .before .before .before .before .before in
-    let s = l .before .before .before .before .before in let a = s .args in
-    let r = read (j .before .before .before) in
-    let v = judged (a .handler .now) (a .proof .now) (a .variables) (a .states) (a .stmt) (a .steps) (s .pre .0) _ _ _ (r .0) (r .1) (j .judge .result) (j .judge .ensures) in
-    let no = sym (c .before .before .before .before .before .fault .given .1) ∙ v in
-    let none-left = no-words (a .handler .now) (a .proof .now) (a .variables) (a .states) (a .stmt) (a .steps) (s .pre .0) _ _ _ (r .0) (r .1) _ (sym no) in (
-      no,
-      c .before .before .clear .ensures ∙ ap (written (λ j. 0)) (l .load .ensures .1) ∙ written-twice (λ j. 0) _ (a .work .now)
-          ∙ ap (λ f. written f (a .work .now)) (sym none-left),
-    )
+returns-3 c = ?
 
 pub check-proof-spec : {M : Type 1} → statement M
 check-proof-spec =
     tie.close
     (tie.spec
-    (λ c κs. search needs) (λ c. search needs) (λ c κs. search needs) (λ c. search needs)
-    judge-requires
-    (λ c. search needs) (λ c. search needs) (λ c κs. search needs) (λ c. search needs)
+    load-requires
+    enum-known-found
+    at-bit-requires
+    enum-known-found-2
+    slice-aggregate-first-fault
+    first-fault-requires
+    decide-requires
+    enum-known-k
+    enum-known-fault
+    clear-requires
+    same-length
     returns
-    (λ c. search needs)
+    same-length-2
     returns-2
-    (λ c. search needs)
+    same-length-3
     returns-3)
