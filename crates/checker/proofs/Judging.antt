@@ -13,11 +13,15 @@ use Rattle.semantics.specs.StepNumber.{steps}
 use Rattle.semantics.specs.Derivations.{Derivation, nodes}
 use Rattle.semantics.specs.Checking.{Broken, firstFault}
 use Rattle.expressions.specs.declared.head.Head.{Head}
+use Rattle.expressions.specs.Header.{headOf}
 use Rattle.expressions.proofs.Heads.{Declared, head-read}
 use Rattle.handler.specs.Reading.{HandlerRead, handler, refused, readHandler}
 use Rattle.handler.specs.StatementTable.{statementTable}
 use Rattle.handler.proofs.Handlers.{KnownHandler, known-handler}
 use Rattle.handler.proofs.StatementTable.{table-held}
+use Rattle.derivation.specs.declared.ProofFile.{ProofFile}
+use Rattle.derivation.specs.declared.ProofHead.{ProofHead}
+use Rattle.derivation.specs.declared.ProofFound.the-variants as Found
 use Rattle.derivation.specs.NodeTable.{padded, nodeTable}
 use Rattle.derivation.proofs.Files.{Shown, read-known}
 use Rattle.derivation.specs.Tables.{tableWord, written}
@@ -33,9 +37,38 @@ use Rattle.checker.proofs.AtHand.{Decoded, NodeAt, StatementAt}
 use Rattle.checker.proofs.Stages.{decided-answer, words-kept, words-cleared}
 use Rattle.checker.proofs.Meaning.{found-in-tables}
 
+proof-inj : (x y : ProofHead) → Found.Proof x ≡ Found.Proof y → x ≡ y
+proof-inj x y e = cc
+
+pub refused-proof : (r : Proofs.ProofRead) (k place : ℕ) → Proofs.foundOf r ≡ Found.Fault k place → r ≡ Proofs.refused k place
+refused-proof (Proofs.proof s r a d) k place f = absurd (let z : _≡_ {A = ℕ} 0 1 = cc in omega arith)
+refused-proof (Proofs.refused j p) k place f =
+    let j-is : j ≡ k = cc in
+    let p-is : p ≡ place = cc in
+    rw (j-is, p-is)
+
+-- A proof file that was read, by what the code found of it.
+pub record ProofIs (r : Proofs.ProofRead) (file : ProofFile) (x : ProofHead) : Type 0 where
+  pub d : Derivation
+  pub read : r ≡ Proofs.proof (x .sets) (x .relations) (x .root) d
+  pub counted : x .nodes ≡ nodes d
+  pub table : file .nodes ≡ nodeTable (x .root) d
+
+pub proof-is : (r : Proofs.ProofRead) (file : ProofFile) (x : ProofHead) → file ≡ Proofs.fileOf r → file .found ≡ Found.Proof x → ProofIs r file x
+proof-is (Proofs.refused k place) file x is found =
+    absurd (let f = sym (ap (λ y. y .found) is) ∙ found in let z : _≡_ {A = ℕ} 0 1 = cc in omega arith)
+proof-is (Proofs.proof sets relations root d) file x is found =
+    let same : _≡_ {A = ProofHead} (record { sets = sets; relations = relations; nodes = nodes d; root = root }) x =
+    proof-inj _ _ (sym (ap (λ y. y .found) is) ∙ found) in
+    rw (← same) (record { d = d; read = refl; counted = refl; table = ap (λ y. y .nodes) is })
+
 module _ (hb pb : List ℕ) (head : Head) (statements : List ℕ) (k : ℕ) (h : Handled hb head statements k) where
   abbrev n : ℕ
   n = product (h .sizes)
+
+  pub states-are : head .states ≡ n
+  unfolding headOf
+  states-are = ap (λ x. x .states) (h .head-is)
 
   -- A proof file at fault.
   pub on-refused : (j place : ℕ) → Proofs.readProof pb n ≡ Proofs.refused j place → onHandler pb (readHandler hb) ≡ cleared (refusedAt j (Bit place))
@@ -49,8 +82,8 @@ module _ (hb pb : List ℕ) (head : Head) (statements : List ℕ) (k : ℕ) (h :
     on-read = rw (h .reads, e)
 
     -- What the loop finds decides.
-    module _ (before work table : List ℕ) (enough : 1040 ≤ length before)
-        (words : work ≡ written (Proofs.wordsOf pb n (Proofs.readProof pb n)) before) (is : table ≡ nodeTable root d) where
+    module _ (before work table : List ℕ) (count : ℕ) (enough : 1040 ≤ length before)
+        (words : work ≡ written (Proofs.wordsOf pb n (Proofs.readProof pb n)) before) (is : table ≡ nodeTable root d) (counts : count ≡ nodes d) where
       known : KnownHandler hb (h .sizes) (h .place) (h .S)
       known = known-handler hb (h .sizes) (h .place) (h .S) (h .reads)
 
@@ -86,10 +119,10 @@ module _ (hb pb : List ℕ) (head : Head) (statements : List ℕ) (k : ℕ) (h :
       unfolding env
       statement-at = record { stands = known .stands; targets = known .targets; room = omega (arith, known .few); held = table-held (h .place) (h .S) }
 
-      pub judged : decided (firstOf (faultsFrom hb head work table statements (nodes d) 0 0)) k ≡ onHandler pb (readHandler hb) .verdict
+      pub judged : decided (firstOf (faultsFrom hb head work table statements count 0 0)) k ≡ onHandler pb (readHandler hb) .verdict
       unfolding env
       judged =
-          rw (h .head-is, h .table-is, is, found-in-tables env root (h .place) d (h .S) node-at statement-at, h .counted)
+          rw (h .head-is, h .table-is, is, counts, found-in-tables env root (h .place) d (h .S) node-at statement-at, h .counted)
           (decided-answer fault (steps n (h .S)) (tableWord pb n sets relations) ∙ sym (ap (λ a. a .verdict) on-read))
 
     -- The words that the answer leaves: the tables if it accepts, else 0.
