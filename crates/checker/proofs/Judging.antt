@@ -15,9 +15,13 @@ use Rattle.semantics.specs.Checking.{Broken, firstFault}
 use Rattle.expressions.specs.declared.head.Head.{Head}
 use Rattle.expressions.specs.Header.{headOf}
 use Rattle.expressions.proofs.Heads.{Declared, head-read}
+use Rattle.handler.specs.declared.HandlerFile.{HandlerFile}
+use Rattle.handler.specs.declared.HandlerSummary.{HandlerSummary}
+use Rattle.handler.specs.declared.HandlerFound.the-variants as HandlerFound
+use Rattle.handler.specs.Shapes.{fileOf}
 use Rattle.handler.specs.Reading.{HandlerRead, handler, refused, readHandler}
 use Rattle.handler.specs.StatementTable.{statementTable}
-use Rattle.handler.proofs.Handlers.{KnownHandler, known-handler}
+use Rattle.handler.proofs.Handlers.{KnownHandler, known-handler, found-handler}
 use Rattle.handler.proofs.StatementTable.{table-held}
 use Rattle.derivation.specs.declared.ProofFile.{ProofFile}
 use Rattle.derivation.specs.declared.ProofHead.{ProofHead}
@@ -36,6 +40,22 @@ use Rattle.checker.proofs.Loaded.{set-loaded, relation-loaded}
 use Rattle.checker.proofs.AtHand.{Decoded, NodeAt, StatementAt}
 use Rattle.checker.proofs.Stages.{decided-answer, words-kept, words-cleared}
 use Rattle.checker.proofs.Meaning.{found-in-tables}
+
+-- A handler file that was read, by what the code found of it.
+pub handled : (hb : List ℕ) (file : HandlerFile) (w : HandlerSummary) → file ≡ fileOf (readHandler hb) → file .found ≡ HandlerFound.Handler w
+    → Handled hb (file .head) (file .statements) (w .steps)
+unfolding fileOf
+handled hb file w made found =
+    let f = found-handler (readHandler hb) w (sym (ap (λ x. x .found) made) ∙ found) in
+    record {
+      sizes = f .sizes;
+      place = w .at;
+      S = f .S;
+      reads = f .read;
+      head-is = ap (λ x. x .head) made ∙ ap (λ r. fileOf r .head) (f .read);
+      table-is = ap (λ x. x .statements) made ∙ ap (λ r. fileOf r .statements) (f .read);
+      counted = f .stepping;
+    }
 
 proof-inj : (x y : ProofHead) → Found.Proof x ≡ Found.Proof y → x ≡ y
 proof-inj x y e = cc

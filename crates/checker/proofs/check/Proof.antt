@@ -1,99 +1,70 @@
+-- Each way out of the check is one of the answer's, so that verdict, words and promise follow together (`promised`).
+use mathlib.Core.Path.{refl, sym, _∙_, ap}
 use borrow.Author.Needs.{needs}
+use Rattle.handler.specs.Reading.{readHandler}
+use Rattle.handler.proofs.Handlers.{found-refused}
+use Rattle.checker.specs.Verdicts.{onHandler}
+use Rattle.checker.proofs.Judging.{handled, few-words, long-handler, long-proof, both-read, writes}
+use Rattle.checker.proofs.Demand.{promised}
 use Rattle.checker.proofs.check.Statement.{statement}
 use Rattle.checker.proofs.check.Tie as tie
-use Rattle.checker.proofs.check.Reads as reads
-use Rattle.checker.proofs.check.Lts as lts
-use Rattle.checker.proofs.at_bit.Reads as at-bit-reads
-use Rattle.checker.proofs.check_proof.Reads as check-proof-reads
-use Rattle.derivation.proofs.words.clear.Reads as clear-reads
-use Rattle.handler.proofs.reading.read_handler.Reads as read-handler-reads
 
--- src/lib.rt:127:9
-at-bit-requires : tie.Need-at-bit-requires
-at-bit-requires c κs = search needs
-
--- src/lib.rt:127:9
 returns : tie.Need-returns
-returns c = ?
+returns c =
+    let a = c .before .before .before .before .before .args in
+    promised (a .handler .now) (a .proof .now) (a .work .now) _ _ _ (few-words _ _ _ (c .before .if1 .taken)) (c .at-bit .ensures) refl
 
--- src/lib.rt:130:9
-at-bit-requires-2 : tie.Need-at-bit-requires-2
-at-bit-requires-2 c κs = search needs
-
--- src/lib.rt:130:9
 returns-2 : tie.Need-returns-2
-returns-2 c = ?
+returns-2 c =
+    let e = c .before .before in
+    let a = e .before .before .before .before .args in
+    promised (a .handler .now) (a .proof .now) (a .work .now) _ _ _ (long-handler _ _ _ (e .if1 .left) (c .before .if2 .taken)) (c .at-bit2 .ensures) refl
 
--- src/lib.rt:133:9
-at-bit-requires-3 : tie.Need-at-bit-requires-3
-at-bit-requires-3 c κs = search needs
-
--- src/lib.rt:133:9
 returns-3 : tie.Need-returns-3
-returns-3 c = ?
+returns-3 c =
+    let e = c .before .before in
+    let a = e .before .before .before .before .before .args in
+    promised (a .handler .now) (a .proof .now) (a .work .now) _ _ _ (long-proof _ _ _ (e .before .if1 .left) (e .if2 .left) (c .before .if3 .taken)) (c .at-bit3 .ensures) refl
 
--- src/lib.rt:135:9
-read-handler-requires : tie.Need-read-handler-requires
-read-handler-requires c κs = search needs
-
--- src/lib.rt:138:29
-enum-known-found : tie.Need-enum-known-found
-enum-known-found c = search needs
-
--- src/lib.rt:139:13
-clear-requires : tie.Need-clear-requires
-clear-requires c κs = search needs
-
--- src/lib.rt:140:13
-at-bit-requires-4 : tie.Need-at-bit-requires-4
-at-bit-requires-4 c κs = search needs
-
--- src/lib.rt:142:31
-enum-known-found-2 : tie.Need-enum-known-found-2
-enum-known-found-2 c = search needs
-
--- src/lib.rt:145:53
-slice-aggregate-check-proof : tie.Need-slice-aggregate-check-proof
-slice-aggregate-check-proof c = search needs
-
--- src/lib.rt:145:13
 check-proof-requires : tie.Need-check-proof-requires
-check-proof-requires c κs = ?
+check-proof-requires c κs =
+    let r = c .before .before .before .before .before .before .before in
+    (handled _ _ _ (r .read-handler .ensures) (c .before .before .before .before .before .found2 .given .1), r .before .before .before .if1 .left)
 
--- src/lib.rt:121:1
-same-length : tie.Need-same-length
-same-length c = search needs
-
--- src/lib.rt:121:1
 returns-4 : tie.Need-returns-4
-returns-4 c = ?
+returns-4 c =
+    let r = c .before .before .before .before .before .before .before .before in
+    let e = r .before .before .before in
+    let a = e .before .before .before .before .args in
+    let no = found-refused (readHandler (a .handler .now)) _ _ (sym (ap (λ f. f .found) (r .read-handler .ensures)) ∙ c .before .before .before .before .before .before .found .given .1) in
+    promised (a .handler .now) (a .proof .now) (a .work .now) _ _ _
+    (both-read _ _ _ (e .if1 .left) (r .before .before .if2 .left) (r .before .if3 .left) ∙ ap (onHandler (a .proof .now)) no)
+    (c .at-bit4 .ensures) (c .before .before .before .clear .ensures)
 
--- src/lib.rt:121:1
-same-length-2 : tie.Need-same-length-2
-same-length-2 c = search needs
-
--- src/lib.rt:121:1
 returns-5 : tie.Need-returns-5
-returns-5 c = ?
+returns-5 c =
+    let p = c .before .before in
+    let r = c .before .before .before .before .before .before .before .before .before .before in
+    let e = r .before .before .before in
+    let a = e .before .before .before .before .args in
+    promised (a .handler .now) (a .proof .now) (a .work .now) _ _ (onHandler (a .proof .now) (readHandler (a .handler .now)))
+    (both-read _ _ _ (e .if1 .left) (r .before .before .if2 .left) (r .before .if3 .left))
+    (p .check-proof .ensures .0) (rw (writes (a .proof .now) (readHandler (a .handler .now))) (p .check-proof .ensures .1))
 
 pub check-spec : {M : Type 1} → statement M
 check-spec =
     tie.close
     (tie.spec
-    at-bit-requires
+    (λ c κs. search needs)
     returns
-    at-bit-requires-2
+    (λ c κs. search needs)
     returns-2
-    at-bit-requires-3
+    (λ c κs. search needs)
     returns-3
-    read-handler-requires
-    enum-known-found
-    clear-requires
-    at-bit-requires-4
-    enum-known-found-2
-    slice-aggregate-check-proof
+    (λ c κs. search needs) (λ c. search needs) (λ c κs. search needs) (λ c κs. search needs) (λ c. search needs)
+    (λ c. search needs)
     check-proof-requires
-    same-length
+    (λ c. search needs)
     returns-4
-    same-length-2
+    (λ c. search needs)
     returns-5)
