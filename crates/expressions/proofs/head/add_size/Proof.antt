@@ -4,11 +4,13 @@ use Prim.Native.Nat.{ℕ, suc, _+_, _-_, _*_, _≤_, _<_}
 use native.Mathlib.Nat.{mul-le-mul}
 use native.Mathlib.Numerals.{add-one}
 use native.Mathlib.Omega.{arith}
+use mathlib.Core.Bool.{true, false}
 use mathlib.Core.List.{List, [], _∷_, _++_, append-assoc}
 use mathlib.Core.Logic.{⊎-elim}
 use mathlib.Core.Path.{_≡_, sym, ap, _∙_}
 use borrow.Author.Needs.{needs}
 use borrow.Author.Tests.{ltb-false, lt-ltb, le-ltb}
+use lib.Dec.{ltb}
 use lib.ListN.{length, set, replicate, length-append}
 use lib.Seq.{set-at}
 use Rattle.bits.specs.Fields.{fieldAt}
@@ -70,12 +72,21 @@ returns-2 c =
     let r = c .before .before .before .before in
     rw (c .faulty .ensures, before-size (r .before) .next-size, ← r .read .ensures, c .before .before .enum-told2 .given .1, c .before .bit-length .ensures)
 
+-- What the second test on the size says.
+too-large : (c : tie.Then2) → ltb 16 (c .before .before .before .size .given .0 .0) ≡ true
+too-large c = c .if2 .taken
+
+small-enough : (c : tie.Else2) → ltb 16 (c .before .before .before .size .given .0 .0) ≡ false
+small-enough c = c .if2 .left
+
 returns-3 : tie.Need-returns-3
 unfolding sizeRead
 returns-3 c =
     let r = c .before .before .before .before .before in
     rw (c .faulty2 .ensures, before-size (r .before) .next-size, ← r .read .ensures, c .before .before .before .size .given .1)
-    (⊎-elim (λ h. rw (lt-ltb _ 2 (h .taken))) (λ h. rw (le-ltb _ 2 (h .0 .left), h .1 .taken)) (c .before .if1 .came))
+    (⊎-elim (λ h. rw (lt-ltb _ 2 (h .taken)))
+    (λ h. rw (le-ltb _ 2 (h .0 .left), too-large (record { before = record { before = c .before .before; if1 = h .0 }; if2 = h .1 })))
+    (c .before .if1 .came))
 
 -- What is known at the test on the product.
 abbrev so-far : (c : tie.After-struct-known) → let a = c .before .before .before .before .before .before .before .before .before .before .before .before .args in
@@ -84,13 +95,14 @@ so-far c = before-size (c .before .before .before .before .before .before .befor
 
 next-is : (c : tie.After-struct-known) → let a = c .before .before .before .before .before .before .before .before .before .before .before .before .args in
     let x = c .before .before .before .before .before .size .given .0 in
-    sizesRead (a .src .now) (a .k + 1) ≡ sizeRead (a .src .now) (so-far c .sizes) (c .before .before .before .before .before .before .before .before .before .end .given .0 .0) (Value (x .0) (x .1 .0))
+    let at = c .before .before .before .before .before .before .before .before .before .end .given .0 .0 in
+    sizesRead (a .src .now) (a .k + 1) ≡ sizeRead (a .src .now) (so-far c .sizes) at (Value (x .0) (x .1 .0))
 next-is c =
     so-far c .next-size
     ∙ ap (sizeRead _ (so-far c .sizes) _) (sym (c .before .before .before .before .before .before .before .read .ensures) ∙ c .before .before .before .before .before .size .given .1)
 
 size-small : (c : tie.After-struct-known) → c .before .before .before .before .before .size .given .0 .0 ≤ 16
-size-small c = ltb-false 16 _ (c .before .before .if2 .left)
+size-small c = ltb-false 16 _ (small-enough (c .before .before))
 
 mul-states : tie.Need-mul-states
 unfolding headOf
@@ -106,7 +118,7 @@ unfolding sizeRead headOf
 returns-4 c =
     let at = c .before .before in
     let over = rw (so-far at .is) at (c .before .if3 .taken) in
-    rw (c .faulty3 .ensures, next-is at, le-ltb _ 2 (at .before .before .before .if1 .left), at .before .before .if2 .left, lt-ltb 64 _ over)
+    rw (c .faulty3 .ensures, next-is at, le-ltb _ 2 (at .before .before .before .if1 .left), small-enough (at .before .before), lt-ltb 64 _ over)
 
 cast-sizes : tie.Need-cast-sizes
 cast-sizes c = omega (arith, size-small (c .before .before))
@@ -123,7 +135,7 @@ unfolding sizeRead headOf
 returns-5 c =
     let at = c .before .before .before in
     let under = rw (so-far at .is) at (c .before .before .if3 .left) in
-    rw (next-is at, le-ltb _ 2 (at .before .before .before .if1 .left), at .before .before .if2 .left, le-ltb 64 _ under)
+    rw (next-is at, le-ltb _ 2 (at .before .before .before .if1 .left), small-enough (at .before .before), le-ltb 64 _ under)
     (grown _ _ _ _ _ _ (search needs) (so-far at))
 
 pub add-size-spec : {M : Type 1} → statement M

@@ -52,6 +52,13 @@ head-found : (c : tie.After-known-told2) → let r = c .before .before .before .
     FoundHead (headAt (r .before .before .args .src .now)) (r .read-head .result) (c .before .end2 .given .0 .0)
 head-found c = found-head _ _ _ (c .before .before .before .before .read-head .ensures) (c .before .end2 .given .1)
 
+-- What the walk answers: all 17 levels are read.
+walked : (c : tie.After-stmt-walk) → let h = c .before .before .before .before .before .before in
+    let a = h .before .before .args in
+    let at = c .before .before .before .end2 .given .0 .0 in
+    c .stmt-walk .result ≡ stmtShape (h .read-head .result .head .states) at (stmtAt 17 (a .src .now) (h .read-head .result .head .count) 0 at)
+walked c = c .stmt-walk .ensures .0
+
 stmt-walk-requires : tie.Need-stmt-walk-requires
 unfolding headOf
 stmt-walk-requires c κs =
@@ -70,14 +77,14 @@ returns-2 : tie.Need-returns-2
 returns-2 c =
     let f = head-found (c .before .before .before .before .before .before .before .before) in
     let w = c .before .before .before .before in
-    let e = rw (w .before .before .stmt-walk .ensures .0) at (w .found-of .ensures) in
+    let e = rw (walked (w .before .before)) at (w .found-of .ensures) in
     c .faulty2 .ensures ∙ sym (ap fileOf (found-refused _ _ _ (sym (e ∙ found-is _ (f .sizes) _ _ (f .read) (f .is)) ∙ c .before .before .found .given .1)))
 
 returns-3 : tie.Need-returns-3
 returns-3 c =
     let f = head-found (c .before .before .before .before .before .before) in
     let w = c .before .before in
-    let e = rw (w .before .before .stmt-walk .ensures .0) at (w .found-of .ensures) in
+    let e = rw (walked (w .before .before)) at (w .found-of .ensures) in
     file-is _ (f .sizes) _ _ (f .read) (f .is) _ _ _ (e ∙ found-is _ (f .sizes) _ _ (f .read) (f .is)) (c .enum-told .given .1) (w .before .before .stmt-walk .ensures .1)
 
 pub read-handler-spec : {M : Type 1} → statement M

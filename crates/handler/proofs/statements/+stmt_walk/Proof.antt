@@ -158,7 +158,8 @@ body-room t c =
 stmt-walk-requires-2 : (t : ℕ) → lts.Need-stmt-walk-requires-2 (callees t) (stmt-walk-at t) stmt-walk.Post
 stmt-walk-requires-2 t c κs =
     let l = c .before .before .before .before .before in
-    omega (arith, left-room t l, c .before .before .table4 .given, l .before .before .before .before .table3 .given, pair-of-left t l .before .before .before .before .before .before .before .pre)
+    let pre = pair-of-left t l .before .before .before .before .before .before .before .pre in
+    omega (arith, left-room t l, c .before .before .table4 .given, l .before .before .before .before .table3 .given, pre)
 
 test-store : (t : ℕ) → lts.Need-store-requires-4 (callees t) (stmt-walk-at t) stmt-walk.Post
 test-store t c κs =

@@ -1,15 +1,20 @@
 -- The word read is that of the table, or 0 past its end.
 use mathlib.Core.Logic.{⊎-elim}
+use mathlib.Core.Path.{_≡_, sym, ap, _∙_}
 use borrow.Author.Needs.{needs}
-use lib.ListN.{List·getD-eq-default}
+use lib.ListN.{getD, List·getD-eq-default}
 use Rattle.handler.specs.StatementTable.{statementOf, statementIn}
 use Rattle.handler.proofs.table.statement_at.Statement.{statement}
 use Rattle.handler.proofs.table.statement_at.Tie as tie
 
+word-is : (c : tie.After-row-known) → let a = c .before .before .args in c .before .if1 .word ≡ getD (a .table .now) (a .j) 0
+word-is c =
+    let a = c .before .before .args in
+    ⊎-elim (λ h. h .2) (λ h. h .1 ∙ sym (List·getD-eq-default (a .table .now) 0 (h .0 .left))) (c .before .if1 .came)
+
 returns : tie.Need-returns
 unfolding statementIn statementOf
-returns c =
-    ⊎-elim (λ h. rw (h .2)) (λ h. rw (h .1, List·getD-eq-default (c .before .before .args .table .now) 0 (h .0 .left))) (c .before .if1 .came)
+returns c = ap statementOf (word-is c)
 
 pub statement-at-spec : {M : Type 1} → statement M
 statement-at-spec =
