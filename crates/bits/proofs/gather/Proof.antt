@@ -1,6 +1,7 @@
 -- After each turn the value is that of the first `done` bits; what is left is at most 8 of the 8 bits that are read last.
 use Prim.Native.Nat.{ℕ, _+_, _-_, _*_, _/_, _%_, _^_, _≤_, _<_}
-use mathlib.Core.Path.{_≡_, refl, ap, _∙_}
+use mathlib.Core.List.{List}
+use mathlib.Core.Path.{_≡_, refl, _∙_}
 use native.Mathlib.Omega.{arith}
 use borrow.Author.Needs.{needs}
 use Rattle.bits.specs.Fields.{bitsAt}
@@ -20,8 +21,8 @@ unfolding bitsAt
 loop-holds c = (search needs, refl, refl)
 
 -- After whole bytes the cursor is at the same bit of a byte.
-here : (at done : ℕ) → done % 8 ≡ 0 → 8 * (at / 8 + done / 8) + at % 8 ≡ at + done
-here at done whole = omega arith
+after-bytes : (s : List ℕ) (at done : ℕ) → done % 8 ≡ 0 → bitsAt s (8 * (at / 8 + done / 8) + at % 8) 8 ≡ bitsAt s (at + done) 8
+after-bytes s at done whole = let here : 8 * (at / 8 + done / 8) + at % 8 ≡ at + done = omega arith in rw here
 
 more : (c : tie.After-byte-from Inv-loop μ-loop) →
     let a = c .before .before .before .before .args in
@@ -31,7 +32,7 @@ more c =
     let a = c .before .before .before .before .args in
     let l = c .before .before .loop in
     let next : c .byte-from .result ≡ bitsAt (a .src .now) (a .at + l .done) 8 =
-    c .byte-from .ensures ∙ ap (λ i. bitsAt (a .src .now) i 8) (here (a .at) (l .done) (l .inv .1))
+    c .byte-from .ensures ∙ after-bytes (a .src .now) (a .at) (l .done) (l .inv .1)
     in
     omega (arith, bits-join (a .src .now) (a .at) (l .done) 8)
 
@@ -50,7 +51,10 @@ whole : (c : tie.After-byte-from2 Inv-loop μ-loop) →
 whole c =
     let a = c .before .before .before .before .args in
     let l = c .before .before .loop in
-    rw (l .inv .2, c .byte-from2 .ensures, here (a .at) (l .done) (l .inv .1))
+    let last : c .byte-from2 .result ≡ bitsAt (a .src .now) (a .at + l .done) 8 =
+    c .byte-from2 .ensures ∙ after-bytes (a .src .now) (a .at) (l .done) (l .inv .1)
+    in
+    rw (l .inv .2, last)
     (bits-left (a .src .now) (a .at) (l .done) (a .width) (search needs) (omega arith) (search needs))
 
 add-result : tie.Need-add-result Inv-loop μ-loop
