@@ -1,4 +1,4 @@
--- The states at which a variable has a given value stand in runs: each starts at a multiple of the weight w and is w states long,
+-- The states at which a variable has a given value are in runs: each starts at a multiple of the weight w and is w states long,
 -- and the next one starts w * z later, for the size z.
 use Prim.Native.Nat.{ℕ, _+_, _*_, _/_, _%_, _≤_, _<_}
 use native.Mathlib.Nat.{div-lt-iff-lt-mul, le-div-iff-mul-le, div-eq-of-lt-le, div-add-mod, mod-lt, mod-self, mod-add-mod, mod-eq-of-lt, add-mod-right, mul-le-mul-right, le-mul-of-pos-right}
@@ -28,7 +28,7 @@ no-more a b = rw (and-false b) (or-false a)
 pub record Starts (w z value from : ℕ) : Type 0 where
   pub place : ℕ
   pub at : from ≡ place * w
-  pub worth : place % z ≡ value
+  pub gives : place % z ≡ value
 
 -- Whether a variable has this value at t, one of 64 states.
 abbrev pub has-value : ℕ → ℕ → ℕ → ℕ → Bool
@@ -36,10 +36,10 @@ has-value w z value t = ltb t 64 && eqb value (t / w % z)
 
 module _ (w z value : ℕ) (weighs : 0 < w) (inside : value < z) where
   pub first-run : Starts w z value (value * w)
-  first-run = record { place = value; at = refl; worth = mod-eq-of-lt inside }
+  first-run = record { place = value; at = refl; gives = mod-eq-of-lt inside }
 
   pub next-run : {from : ℕ} → Starts w z value from → Starts w z value (from + w * z)
-  next-run run = record { place = run .place + z; at = omega (arith, run .at); worth = add-mod-right (run .place) z ∙ run .worth }
+  next-run run = record { place = run .place + z; at = omega (arith, run .at); gives = add-mod-right (run .place) z ∙ run .gives }
 
   earlier : (t : ℕ) → t < value * w → eqb value (t / w % z) ≡ false
   earlier t h = let low = div-lt-iff-lt-mul weighs .1 h in ne-eqb value (t / w % z) (λ e. omega (arith, mod-eq-of-lt {n = t / w} {m = z} (omega arith)))
@@ -48,13 +48,13 @@ module _ (w z value : ℕ) (weighs : 0 < w) (inside : value < z) where
     within : from ≤ t → t < from + w → eqb value (t / w % z) ≡ true
     within low high =
         let here : t / w ≡ run .place = div-eq-of-lt-le w (omega (arith, run .at)) (omega (arith, run .at)) in
-        eq-eqb value (t / w % z) (rw here (sym (run .worth)))
+        eq-eqb value (t / w % z) (rw here (sym (run .gives)))
 
     between : from + w ≤ t → t < from + w * z → eqb value (t / w % z) ≡ false
     between low high =
         let more : run .place + 1 ≤ t / w = le-div-iff-mul-le weighs .1 (omega (arith, run .at)) in
         let less : t / w < run .place + z = div-lt-iff-lt-mul weighs .1 (omega (arith, run .at)) in
-        ne-eqb value (t / w % z) (λ e. apart (run .place) (t / w) z (omega arith) less (run .worth ∙ e))
+        ne-eqb value (t / w % z) (λ e. apart (run .place) (t / w) z (omega arith) less (run .gives ∙ e))
 
   -- The states below the first run, none of which has the value.
   pub no-run : (set : StateSet) → ((t : ℕ) → has set t ≡ false) → Holds (has-value w z value) (value * w) set
