@@ -1,10 +1,9 @@
 -- What the variables of a head and the expression at a cursor are: laws for callers.
-use Prim.Native.Nat.{ℕ, suc, _+_, _/_, _≤_, _<_}
+use Prim.Native.Nat.{ℕ, suc, _/_, _≤_, _<_}
 use native.Mathlib.Nat.{mod-one, mod-lt}
-use native.Mathlib.Decide.{decLt}
 use native.Mathlib.Omega.{arith}
-use borrow.Author.Tests.{leb-true, ltb-true, lt-ltb, le-ltb, le-leb, eqb-true, eq-eqb, ne-eqb}
-use mathlib.Core.Bool.{Bool, true, false, cond, _&&_, _||_, and-false, and-true, or-false, false≢true}
+use borrow.Author.Tests.{leb-true, ltb-true, lt-ltb, le-ltb, le-leb, eqb-true, eq-eqb}
+use mathlib.Core.Bool.{Bool, true, false, cond, _&&_, false≢true}
 use mathlib.Core.List.{List}
 use mathlib.Core.Option.{Option, none, some}
 use mathlib.Core.Path.{_≡_, refl, sym, ap, _∙_}
@@ -12,8 +11,6 @@ use lib.Dec.{leb, ltb, eqb}
 use lib.IntN.{ℤ, pos, negsuc}
 use lib.ListN.{getD}
 use lib.Signed.{mag}
-use Rattle.states.specs.declared.StateSet.{StateSet}
-use Rattle.states.specs.Sets.{has}
 use Rattle.states.proofs.Search.{and-left, and-right, and-both, bool-ext}
 use Rattle.semantics.specs.Language.{Val, int, truth, Expr, eqZ}
 use Rattle.semantics.specs.States.{product, weight, valueOf, stored, machineOf, value, storeOf}
@@ -156,23 +153,3 @@ agree-variable head v s t = by (isHead head) refl
     by : (b : Bool) → isHead head ≡ b → agreeIn (variableIn head v) s t ≡ agree (machineIn head) v s t
     by true h = rw (variable-small head v, h, same-number (valueOf (sizesIn head) s v) (valueOf (sizesIn head) t v))
     by false h = rw (variable-small head v, h, le-ltb s 0 (omega arith))
-
--- The states below k at which p is true: what a loop over the states keeps.
-abbrev pub Holds : (ℕ → Bool) → ℕ → StateSet → Type 0
-Holds p k set = (t : ℕ) → has set t ≡ (ltb t k && p t)
-
-pub holds-none : (p : ℕ → Bool) (set : StateSet) → ((t : ℕ) → has set t ≡ false) → Holds p 0 set
-holds-none p set empty t = rw (le-ltb t 0 (omega arith)) (empty t)
-
-pub holds-more : (p : ℕ → Bool) (k : ℕ) (set more : StateSet) (one : Bool) → k < 64 → one ≡ p k
-    → ((t : ℕ) → has more t ≡ (has set t || one && (ltb t 64 && eqb k t))) → Holds p k set → Holds p (k + 1) more
-holds-more p k set more one small new added old t = added t ∙ rw (old t) (by (decLt t k) (decLt k t))
-  where
-    by : Dec (t < k) → Dec (k < t) → (ltb t k && p t || one && (ltb t 64 && eqb k t)) ≡ (ltb t (k + 1) && p t)
-    by (yes l) g =
-        rw (lt-ltb t k l, lt-ltb t (k + 1) (omega arith), ne-eqb k t (omega arith), and-false (ltb t 64), and-false one) (or-false (p t))
-    by (no l) (yes g) =
-        rw (le-ltb t k (omega arith), le-ltb t (k + 1) (omega arith), ne-eqb k t (omega arith), and-false (ltb t 64)) (and-false one)
-    by (no l) (no g) =
-        let same : k ≡ t = omega arith in
-        rw (← same, le-ltb k k (omega arith), lt-ltb k (k + 1) (omega arith), lt-ltb k 64 small, eq-eqb k k refl, and-true one) new

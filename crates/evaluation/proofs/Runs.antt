@@ -1,5 +1,5 @@
--- The states at which a variable has a given value are in runs: each starts at a multiple of the weight w and is w states long,
--- and the next one starts w * z later, for the size z.
+-- Sets that loops over the states build. The states at which a variable has a given value are in runs: each starts at a multiple
+-- of the weight w and is w states long, and the next one starts w * z later, for the size z.
 use Prim.Native.Nat.{ℕ, _+_, _*_, _/_, _%_, _≤_, _<_}
 use native.Mathlib.Nat.{div-lt-iff-lt-mul, le-div-iff-mul-le, div-eq-of-lt-le, div-add-mod, mod-lt, mod-self, mod-add-mod, mod-eq-of-lt, add-mod-right, mul-le-mul-right, le-mul-of-pos-right}
 use native.Mathlib.Decide.{decLt}
@@ -10,7 +10,26 @@ use mathlib.Core.Path.{_≡_, refl, sym, _∙_}
 use lib.Dec.{ltb, eqb}
 use Rattle.states.specs.declared.StateSet.{StateSet}
 use Rattle.states.specs.Sets.{has}
-use Rattle.evaluation.proofs.Laws.{Holds}
+
+-- The states below k at which p is true: what a loop over the states keeps.
+abbrev pub Holds : (ℕ → Bool) → ℕ → StateSet → Type 0
+Holds p k set = (t : ℕ) → has set t ≡ (ltb t k && p t)
+
+pub holds-none : (p : ℕ → Bool) (set : StateSet) → ((t : ℕ) → has set t ≡ false) → Holds p 0 set
+holds-none p set empty t = rw (le-ltb t 0 (omega arith)) (empty t)
+
+pub holds-more : (p : ℕ → Bool) (k : ℕ) (set more : StateSet) (one : Bool) → k < 64 → one ≡ p k
+    → ((t : ℕ) → has more t ≡ (has set t || one && (ltb t 64 && eqb k t))) → Holds p k set → Holds p (k + 1) more
+holds-more p k set more one small new added old t = added t ∙ rw (old t) (by (decLt t k) (decLt k t))
+  where
+    by : Dec (t < k) → Dec (k < t) → (ltb t k && p t || one && (ltb t 64 && eqb k t)) ≡ (ltb t (k + 1) && p t)
+    by (yes l) g =
+        rw (lt-ltb t k l, lt-ltb t (k + 1) (omega arith), ne-eqb k t (omega arith), and-false (ltb t 64), and-false one) (or-false (p t))
+    by (no l) (yes g) =
+        rw (le-ltb t k (omega arith), le-ltb t (k + 1) (omega arith), ne-eqb k t (omega arith), and-false (ltb t 64)) (and-false one)
+    by (no l) (no g) =
+        let same : k ≡ t = omega arith in
+        rw (← same, le-ltb k k (omega arith), lt-ltb k (k + 1) (omega arith), lt-ltb k 64 small, eq-eqb k k refl, and-true one) new
 
 -- Two numbers less than z apart have different remainders.
 apart : (p q z : ℕ) → p < q → q < p + z → p % z ≡ q % z → ⊥

@@ -249,7 +249,8 @@ pub fn truths_at(src: &[u8], head: Head, at: usize) -> Truths
             fails: none,
         };
     }
-    let states = StateSet::below(states_in(head));
+    let n = states_in(head);
+    let states = StateSet::below(n);
     let truths = row.truths;
     Truths {
         holds: states.meet(truths),

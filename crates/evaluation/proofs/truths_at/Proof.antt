@@ -71,10 +71,9 @@ returns-2 c =
     let l = c .before .before .before in
     let k = l .before .before in
     let known = k .before .before .values-at in
-    let truths = known .result .truths in
     let all = l .before .states-in .ensures in (
-      λ s. c .before .meet .ensures s ∙ ap (λ b. b && has truths s) (l .below .ensures s) ∙ held _ _ _ _ (known .ensures) (k .if1 .left) s _ all,
-      λ s. c .narrow .ensures s ∙ ap (λ b. b && not (has truths s)) (l .below .ensures s) ∙ failed _ _ _ _ (known .ensures) (k .if1 .left) s _ all,
+      λ s. rw (c .before .meet .ensures s, l .below .ensures s) (held _ _ _ _ (known .ensures) (k .if1 .left) s _ all),
+      λ s. rw (c .narrow .ensures s, l .below .ensures s) (failed _ _ _ _ (known .ensures) (k .if1 .left) s _ all),
     )
 
 pub truths-at-spec : {M : Type 1} → statement M

@@ -12,7 +12,7 @@ use mir.Syntax.{w64}
 use mir.Facts.{toZ-ofZ}
 use Rattle.semantics.specs.Language.{truth, ofIntegers}
 use Rattle.semantics.specs.States.{isTruth}
-use Rattle.evaluation.proofs.Laws.{Holds, holds-none, holds-more}
+use Rattle.evaluation.proofs.Runs.{Holds, holds-none, holds-more}
 use Rattle.evaluation.proofs.pointwise.compared.Statement.{statement}
 use Rattle.evaluation.proofs.pointwise.compared.Tie as tie
 
