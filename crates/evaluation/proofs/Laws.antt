@@ -1,21 +1,17 @@
 -- What the variables of a head and the expression at a cursor are: laws for callers.
-use Prim.Native.Nat.{ℕ, suc, _+_, _/_, _≤_, _<_}
-use native.Mathlib.Numerals.{add-one}
+use Prim.Native.Nat.{ℕ, suc, _/_, _≤_, _<_}
 use native.Mathlib.Nat.{mod-one, mod-lt}
 use native.Mathlib.Omega.{arith}
 use borrow.Author.Tests.{leb-true, ltb-true, lt-ltb, le-ltb, le-leb, eqb-true, eq-eqb}
-use mathlib.Core.Bool.{Bool, true, false, cond, _&&_, _||_, false≢true}
+use mathlib.Core.Bool.{Bool, true, false, cond, _&&_, false≢true}
 use mathlib.Core.List.{List}
-use mathlib.Core.Logic.{⊎-elim}
 use mathlib.Core.Option.{Option, none, some}
 use mathlib.Core.Path.{_≡_, refl, sym, ap, _∙_}
 use lib.Dec.{leb, ltb, eqb}
 use lib.IntN.{ℤ, pos, negsuc}
 use lib.ListN.{getD}
 use lib.Signed.{mag}
-use Rattle.states.specs.declared.StateSet.{StateSet}
-use Rattle.states.specs.Sets.{has}
-use Rattle.states.proofs.Search.{and-left, and-right, and-both, or-left, or-right, or-cases, bool-ext, below-cases}
+use Rattle.states.proofs.Search.{and-left, and-right, and-both, bool-ext}
 use Rattle.semantics.specs.Language.{Val, int, truth, Expr, eqZ}
 use Rattle.semantics.specs.States.{product, weight, valueOf, stored, machineOf, value, storeOf}
 use Rattle.semantics.specs.Conditions.{afterStore}
@@ -127,6 +123,14 @@ variable-small head v = by (isHead head) refl
         )
     by false h = rw h
 
+pub variable-states : (head : Head) (v : ℕ) → variableIn head v .states ≡ machineIn head .states
+unfolding variableIn machineIn
+variable-states head v = by (isHead head) refl
+  where
+    by : (b : Bool) → isHead head ≡ b → variableIn head v .states ≡ machineIn head .states
+    by true h = rw h
+    by false h = rw h
+
 pub variable-values : (head : Head) (v n : ℕ) (x : Variable) (values : List ℤ) → x ≡ variableIn head v → n ≡ machineIn head .states
     → ((s : ℕ) → s < n → getD values s (pos 0) ≡ pos (valueBy x s))
     → (s : ℕ) → s < n → (getD values s (pos 0) ≡ machineIn head .get s v) × (mag (getD values s (pos 0)) < 128)
@@ -149,30 +153,3 @@ agree-variable head v s t = by (isHead head) refl
     by : (b : Bool) → isHead head ≡ b → agreeIn (variableIn head v) s t ≡ agree (machineIn head) v s t
     by true h = rw (variable-small head v, h, same-number (valueOf (sizesIn head) s v) (valueOf (sizesIn head) t v))
     by false h = rw (variable-small head v, h, le-ltb s 0 (omega arith))
-
--- The states below k at which p is true: what a loop over the states keeps.
-abbrev pub Holds : (ℕ → Bool) → ℕ → StateSet → Type 0
-Holds p k set = (t : ℕ) → has set t ≡ (ltb t k && p t)
-
-pub holds-none : (p : ℕ → Bool) (set : StateSet) → ((t : ℕ) → has set t ≡ false) → Holds p 0 set
-holds-none p set empty t = rw (le-ltb t 0 (omega arith)) (empty t)
-
-pub holds-more : (p : ℕ → Bool) (k : ℕ) (set more : StateSet) (one : Bool) → k < 64 → one ≡ p k
-    → ((t : ℕ) → has more t ≡ (has set t || one && (ltb t 64 && eqb k t))) → Holds p k set → Holds p (k + 1) more
-holds-more p k set more one small new added old t = added t ∙ bool-ext _ _ there back
-  where
-    there : (has set t || one && (ltb t 64 && eqb k t)) ≡ true → (ltb t (k + 1) && p t) ≡ true
-    there h =
-        ⊎-elim
-        (λ in-set. let both = sym (old t) ∙ in-set in
-        and-both _ _ (lt-ltb t (k + 1) (omega (arith, ltb-true t k (and-left (ltb t k) _ both)))) (and-right (ltb t k) _ both))
-        (λ is-one. let same = eqb-true k t (and-right (ltb t 64) _ (and-right one _ is-one)) in
-        and-both _ _ (lt-ltb t (k + 1) (omega arith)) (rw (← same) (sym new ∙ and-left one _ is-one)))
-        (or-cases (has set t) _ h)
-
-    back : (ltb t (k + 1) && p t) ≡ true → (has set t || one && (ltb t 64 && eqb k t)) ≡ true
-    back h =
-        below-cases (λ i. p i ≡ true → (has set i || one && (ltb i 64 && eqb k i)) ≡ true) k t (rw add-one at (ltb-true t (k + 1) (and-left (ltb t (k + 1)) _ h)))
-        (λ holds. or-right (has set k) _ (and-both _ _ (new ∙ holds) (and-both _ _ (lt-ltb k 64 small) (eq-eqb k k refl))))
-        (λ low holds. or-left _ _ (old t ∙ and-both _ _ (lt-ltb t k low) holds))
-        (and-right (ltb t (k + 1)) _ h)

@@ -1,5 +1,5 @@
--- The states at which a variable has a given value stand in runs: each starts at a multiple of the weight w and is w states long,
--- and the next one starts w * z later, for the size z.
+-- Sets that loops over the states build. The states at which a variable has a given value are in runs: each starts at a multiple
+-- of the weight w and is w states long, and the next one starts w * z later, for the size z.
 use Prim.Native.Nat.{ℕ, _+_, _*_, _/_, _%_, _≤_, _<_}
 use native.Mathlib.Nat.{div-lt-iff-lt-mul, le-div-iff-mul-le, div-eq-of-lt-le, div-add-mod, mod-lt, mod-self, mod-add-mod, mod-eq-of-lt, add-mod-right, mul-le-mul-right, le-mul-of-pos-right}
 use native.Mathlib.Decide.{decLt}
@@ -10,7 +10,26 @@ use mathlib.Core.Path.{_≡_, refl, sym, _∙_}
 use lib.Dec.{ltb, eqb}
 use Rattle.states.specs.declared.StateSet.{StateSet}
 use Rattle.states.specs.Sets.{has}
-use Rattle.evaluation.proofs.Laws.{Holds}
+
+-- The states below k at which p is true: what a loop over the states keeps.
+abbrev pub Holds : (ℕ → Bool) → ℕ → StateSet → Type 0
+Holds p k set = (t : ℕ) → has set t ≡ (ltb t k && p t)
+
+pub holds-none : (p : ℕ → Bool) (set : StateSet) → ((t : ℕ) → has set t ≡ false) → Holds p 0 set
+holds-none p set empty t = rw (le-ltb t 0 (omega arith)) (empty t)
+
+pub holds-more : (p : ℕ → Bool) (k : ℕ) (set more : StateSet) (one : Bool) → k < 64 → one ≡ p k
+    → ((t : ℕ) → has more t ≡ (has set t || one && (ltb t 64 && eqb k t))) → Holds p k set → Holds p (k + 1) more
+holds-more p k set more one small new added old t = added t ∙ rw (old t) (by (decLt t k) (decLt k t))
+  where
+    by : Dec (t < k) → Dec (k < t) → (ltb t k && p t || one && (ltb t 64 && eqb k t)) ≡ (ltb t (k + 1) && p t)
+    by (yes l) g =
+        rw (lt-ltb t k l, lt-ltb t (k + 1) (omega arith), ne-eqb k t (omega arith), and-false (ltb t 64), and-false one) (or-false (p t))
+    by (no l) (yes g) =
+        rw (le-ltb t k (omega arith), le-ltb t (k + 1) (omega arith), ne-eqb k t (omega arith), and-false (ltb t 64)) (and-false one)
+    by (no l) (no g) =
+        let same : k ≡ t = omega arith in
+        rw (← same, le-ltb k k (omega arith), lt-ltb k (k + 1) (omega arith), lt-ltb k 64 small, eq-eqb k k refl, and-true one) new
 
 -- Two numbers less than z apart have different remainders.
 apart : (p q z : ℕ) → p < q → q < p + z → p % z ≡ q % z → ⊥
@@ -28,7 +47,7 @@ no-more a b = rw (and-false b) (or-false a)
 pub record Starts (w z value from : ℕ) : Type 0 where
   pub place : ℕ
   pub at : from ≡ place * w
-  pub worth : place % z ≡ value
+  pub gives : place % z ≡ value
 
 -- Whether a variable has this value at t, one of 64 states.
 abbrev pub has-value : ℕ → ℕ → ℕ → ℕ → Bool
@@ -36,10 +55,10 @@ has-value w z value t = ltb t 64 && eqb value (t / w % z)
 
 module _ (w z value : ℕ) (weighs : 0 < w) (inside : value < z) where
   pub first-run : Starts w z value (value * w)
-  first-run = record { place = value; at = refl; worth = mod-eq-of-lt inside }
+  first-run = record { place = value; at = refl; gives = mod-eq-of-lt inside }
 
   pub next-run : {from : ℕ} → Starts w z value from → Starts w z value (from + w * z)
-  next-run run = record { place = run .place + z; at = omega (arith, run .at); worth = add-mod-right (run .place) z ∙ run .worth }
+  next-run run = record { place = run .place + z; at = omega (arith, run .at); gives = add-mod-right (run .place) z ∙ run .gives }
 
   earlier : (t : ℕ) → t < value * w → eqb value (t / w % z) ≡ false
   earlier t h = let low = div-lt-iff-lt-mul weighs .1 h in ne-eqb value (t / w % z) (λ e. omega (arith, mod-eq-of-lt {n = t / w} {m = z} (omega arith)))
@@ -48,13 +67,13 @@ module _ (w z value : ℕ) (weighs : 0 < w) (inside : value < z) where
     within : from ≤ t → t < from + w → eqb value (t / w % z) ≡ true
     within low high =
         let here : t / w ≡ run .place = div-eq-of-lt-le w (omega (arith, run .at)) (omega (arith, run .at)) in
-        eq-eqb value (t / w % z) (rw here (sym (run .worth)))
+        eq-eqb value (t / w % z) (rw here (sym (run .gives)))
 
     between : from + w ≤ t → t < from + w * z → eqb value (t / w % z) ≡ false
     between low high =
         let more : run .place + 1 ≤ t / w = le-div-iff-mul-le weighs .1 (omega (arith, run .at)) in
         let less : t / w < run .place + z = div-lt-iff-lt-mul weighs .1 (omega (arith, run .at)) in
-        ne-eqb value (t / w % z) (λ e. apart (run .place) (t / w) z (omega arith) less (run .worth ∙ e))
+        ne-eqb value (t / w % z) (λ e. apart (run .place) (t / w) z (omega arith) less (run .gives ∙ e))
 
   -- The states below the first run, none of which has the value.
   pub no-run : (set : StateSet) → ((t : ℕ) → has set t ≡ false) → Holds (has-value w z value) (value * w) set

@@ -30,7 +30,7 @@ both-none f (some a) = refl
 
 module _ (n : ℕ) (m : Machine) where
   -- What is known of a row with values.
-  record Stands (nodes : ℕ) (row : Values) (x : ExprRead) : Type 0 where
+  pub record Valued (nodes : ℕ) (row : Values) (x : ExprRead) : Type 0 where
     pub expr : Expr
     pub read : x ≡ good expr (row .nodes) (row .next)
     pub values : (s : ℕ) → s < n → valueIn row s ≡ value m expr s
@@ -38,9 +38,9 @@ module _ (n : ℕ) (m : Machine) where
     pub room : row .nodes ≤ 31
     pub small : (s : ℕ) → s < n → mag (integerIn row s) < 128 * (row .nodes - nodes)
 
-  stands : (nodes : ℕ) (row : Values) → row .kind < 2 → (x : ExprRead) → Walked n m nodes row x → Stands nodes row x
-  stands nodes row valued (bad k place) w = absurd (omega arith)
-  stands nodes row valued (good e after next) w =
+  as-valued : (nodes : ℕ) (row : Values) → row .kind < 2 → (x : ExprRead) → Walked n m nodes row x → Valued nodes row x
+  as-valued nodes row valued (bad k place) w = absurd (omega arith)
+  as-valued nodes row valued (good e after next) w =
       let k = w .1 valued in
       rw (← k .0, ← k .1)
       (record { expr = e; read = refl; values = w .0; more = rw (k .0) (k .2); room = rw (k .0) (k .3); small = λ s l. rw (k .0) (k .4 s l) })
@@ -52,13 +52,13 @@ module _ (n : ℕ) (m : Machine) where
     where
       right : (y : ExprRead) → Walked n m above row (joined o l y)
       right (bad k place) = past
-      right (good r last behind) =
+      right (good r last end) =
           (λ s h. no-value row past s ∙ rw (sym (w .0 s h) ∙ no-value row past s), λ valued. absurd (omega arith))
 
   right-none : (o nodes above : ℕ) (l : Expr) (row : Values) → 2 ≤ row .kind → (y : ExprRead) → Walked n m nodes row y
       → Walked n m above row (joined o l y)
   right-none o nodes above l row past (bad k place) w = past
-  right-none o nodes above l row past (good r last behind) w =
+  right-none o nodes above l row past (good r last end) w =
       (λ s h. no-value row past s ∙ rw (sym (w .0 s h) ∙ no-value row past s, both-none (apply o) (value m l s)), λ valued. absurd (omega arith))
 
   in-whole : (nodes : ℕ) (row : Values) (x : ExprRead) → Walked n m nodes row x → (s : ℕ) → s < n → valueIn row s ≡ value m (exprRead x) s
@@ -135,50 +135,57 @@ pub walked-out : (bytes : List ℕ) (count n : ℕ) (m : Machine) (levels nodes 
 unfolding exprAt
 walked-out bytes count n m levels nodes at row none-left nothing = rw none-left (omega arith)
 
--- An operation, whose left operand is at `first`.
-module _ (p : Place) (o first : ℕ) (e : headAt p ≡ head.Operation o first) (left : Values) (l : OperandAt p (p .nodes + 1) first left) where
-  below : ℕ → ℕ → ExprRead
+-- An operation whose left operand, at `first`, is walked.
+pub record Operation : Type 0 where
+  pub place : Place
+  pub o : ℕ
+  pub first : ℕ
+  pub is : headAt place ≡ head.Operation o first
+  pub left : Values
+  pub walked : OperandAt place (place .nodes + 1) first left
+
+module _ (q : Operation) where
+  abbrev p : Place
+  p = q .place
+
+  abbrev below : ℕ → ℕ → ExprRead
   below = exprAt (p .levels - 1) (p .bytes) (p .count)
 
-  inner : exprAt (p .levels) (p .bytes) (p .count) (p .nodes) (p .at) ≡ operands o (below (p .nodes + 1) first) below
-  unfolding below
-  inner = inner-step (p .bytes) (p .count) (p .levels) (p .nodes) (p .at) o first (p .more) e
+  inner : exprAt (p .levels) (p .bytes) (p .count) (p .nodes) (p .at) ≡ operands (q .o) (below (p .nodes + 1) (q .first)) below
+  inner = inner-step (p .bytes) (p .count) (p .levels) (p .nodes) (p .at) (q .o) (q .first) (p .more) (q .is)
 
-  pub walked-left : 2 ≤ left .kind → RowAt p left
-  unfolding below
-  walked-left past = rw inner (left-none (p .n) (p .m) o (p .nodes + 1) (p .nodes) left past (below (p .nodes + 1) first) l below)
+  pub walked-left : 2 ≤ q .left .kind → RowAt p (q .left)
+  walked-left past = rw inner (left-none (p .n) (p .m) (q .o) (p .nodes + 1) (p .nodes) (q .left) past (below (p .nodes + 1) (q .first)) (q .walked) below)
 
   -- The right operand is after the left, which has values.
-  module _ (valued : left .kind < 2) (right : Values) (r : OperandAt p (left .nodes) (left .next) right) where
-    known : Stands (p .n) (p .m) (p .nodes + 1) left (below (p .nodes + 1) first)
-    unfolding below
-    known = stands (p .n) (p .m) (p .nodes + 1) left valued (below (p .nodes + 1) first) l
+  module _ (valued : q .left .kind < 2) where
+    pub known-left : Valued (p .n) (p .m) (p .nodes + 1) (q .left) (below (p .nodes + 1) (q .first))
+    known-left = as-valued (p .n) (p .m) (p .nodes + 1) (q .left) valued (below (p .nodes + 1) (q .first)) (q .walked)
 
-    pub walked-right : 2 ≤ right .kind → RowAt p right
-    unfolding below
-    walked-right past = rw (inner, known .read) (right-none (p .n) (p .m) o (left .nodes) (p .nodes) (known .expr) right past (below (left .nodes) (left .next)) r)
+    module _ (right : Values) (r : OperandAt p (q .left .nodes) (q .left .next) right) where
+      pub walked-right : 2 ≤ right .kind → RowAt p right
+      walked-right past =
+          rw (inner, known-left .read) (right-none (p .n) (p .m) (q .o) (q .left .nodes) (p .nodes) (known-left .expr) right past (below (q .left .nodes) (q .left .next)) r)
 
-    module _ (also : right .kind < 2) where
-      known-too : Stands (p .n) (p .m) (left .nodes) right (below (left .nodes) (left .next))
-      unfolding below
-      known-too = stands (p .n) (p .m) (left .nodes) right also (below (left .nodes) (left .next)) r
+      module _ (also : right .kind < 2) where
+        known-right : Valued (p .n) (p .m) (q .left .nodes) right (below (q .left .nodes) (q .left .next))
+        known-right = as-valued (p .n) (p .m) (q .left .nodes) right also (below (q .left .nodes) (q .left .next)) r
 
-      pub operands-small : (s : ℕ) → s < p .n → mag (integerIn left s) + mag (integerIn right s) < 8192
-      operands-small s h = omega (arith, known, known-too, known .small s h, known-too .small s h)
+        pub operands-small : (s : ℕ) → s < p .n → mag (integerIn (q .left) s) + mag (integerIn right s) < 8192
+        operands-small s h = omega (arith, known-left, known-right, known-left .small s h, known-right .small s h)
 
-      pub walked-both : (row : Values) → Applied (p .n) (λ s. both (apply o) (valueIn left s) (valueIn right s)) left right row → RowAt p row
-      unfolding below
-      walked-both row made =
-          rw (inner, known .read, known-too .read) (
-            λ s h. made .2 s h .0 ∙ rw (known .values s h, known-too .values s h),
-            λ valued. (
-              made .0,
-              made .1,
-              omega (arith, known, known-too),
-              known-too .room,
-              λ s h. omega (arith, known, known-too, known .small s h, known-too .small s h, made .2 s h .1),
-            ),
-          )
+        pub walked-both : (row : Values) → Applied (p .n) (λ s. both (apply (q .o)) (valueIn (q .left) s) (valueIn right s)) (q .left) right row → RowAt p row
+        walked-both row made =
+            rw (inner, known-left .read, known-right .read) (
+              λ s h. made .2 s h .0 ∙ rw (known-left .values s h, known-right .values s h),
+              λ valued. (
+                made .0,
+                made .1,
+                omega (arith, known-left, known-right),
+                known-right .room,
+                λ s h. omega (arith, known-left, known-right, known-left .small s h, known-right .small s h, made .2 s h .1),
+              ),
+            )
 
 -- The whole expression at a cursor, from the row of a walk with all its levels.
 pub whole-value : (bytes : List ℕ) (count n : ℕ) (m : Machine) (at : ℕ) (row : Values) → Walked n m 0 row (exprAt 32 bytes count 0 at)

@@ -32,12 +32,14 @@ leadsTo (some s′) t = eqb s′ t
 unfoldable pub agree : Machine → ℕ → ℕ → ℕ → Bool
 agree m v s t = ltb s (m .states) && ltb t (m .states) && eqZ (m .get s v) (m .get t v)
 
--- A variable as a state's number counts it; one that is not declared has one value. There is no state where the head is none.
+-- A variable as a state's number counts it; one that is not declared has one value. For numbers that are not a head's there is no
+-- state.
 unfoldable pub variableIn : Head → ℕ → Variable
 variableIn head v =
     cond (isHead head) (record { states = head .states; weight = weight (sizesIn head) v; size = getD (sizesIn head) v 1 })
     (record { states = 0; weight = 1; size = 1 })
 
+-- Its value at a state.
 abbrev pub valueBy : Variable → ℕ → ℕ
 valueBy x s = s / x .weight % x .size
 
@@ -45,6 +47,6 @@ valueBy x s = s / x .weight % x .size
 unfoldable pub isSmall : Variable → Bool
 isSmall x = leb (x .states) 64 && ltb 0 (x .weight) && leb (x .weight) 64 && ltb 0 (x .size) && leb (x .size) 64
 
--- Whether s and t are states with the same value of such a variable; none are of another.
+-- Whether s and t are states with the same value of such a variable; with other numbers no states are.
 unfoldable pub agreeIn : Variable → ℕ → ℕ → Bool
 agreeIn x s t = isSmall x && ltb s (x .states) && ltb t (x .states) && eqb (valueBy x s) (valueBy x t)

@@ -34,13 +34,25 @@ ghost use Rattle.expressions.specs.Header.{isHead, sizesIn, machineIn};
 ghost use Rattle.expressions.specs.Expressions.{exprAt};
 ghost use Rattle.expressions.specs.Shapes.{inMask};
 ghost use Rattle.evaluation.specs.Values.{exprIn, leadsTo, variableIn, isSmall, agreeIn};
-ghost use Rattle.evaluation.specs.Refinement.{integerIn, valueIn, Applied, Walked, storedBy};
+ghost use Rattle.evaluation.specs.Refinement.{integerIn, valueIn, Applied, Walked, Evaluated, storedBy};
 
 // An expression is read to 32 levels, one more than it can have nodes.
 const LEVELS: u32 = 32;
 
-// The value of an expression at each state: of kind 0 an integer, of kind 1 a truth value, of kind 2 none, as where the kinds of
-// its operands do not fit; with the number of the expression's nodes so far and the cursor after it.
+// The kinds of a row: an integer at each state, a truth value at each state, or no value.
+const INTEGERS: u32 = 0;
+
+const TRUTHS: u32 = 1;
+
+const NOTHING: u32 = 2;
+
+// The operations are + − < = > ∧ ∨, from 0: the first that compares, and the first of truth values.
+const LESS: u32 = 2;
+
+const AND: u32 = 5;
+
+// The value of an expression at each state, by its kind; it has none where the kinds of its operands do not fit. With it go the
+// number of the expression's nodes so far and the cursor after it.
 struct Values {
     kind: u32,
     nodes: u32,
@@ -104,7 +116,7 @@ fn nothing(nodes: u32, next: usize) -> Values
     ensures { λ r. ⌜ (r .kind ≡ 2) × (r .nodes ≡ nodes) × (r .next ≡ next) × ((s : ℕ) → integerIn r s ≡ pos 0) ⌝ }
 {
     Values {
-        kind: 2,
+        kind: NOTHING,
         nodes,
         next,
         integers: [0; 64],
@@ -117,7 +129,7 @@ fn integers_of(nodes: u32, next: usize, integers: [i64; 64]) -> Values
     ensures { λ r. ⌜ (r .kind ≡ 0) × (r .nodes ≡ nodes) × (r .next ≡ next) × (r .integers ≡ integers) ⌝ }
 {
     Values {
-        kind: 0,
+        kind: INTEGERS,
         nodes,
         next,
         integers,
@@ -131,7 +143,7 @@ fn truths_of(nodes: u32, next: usize, truths: StateSet) -> Values
         ⌜ (r .kind ≡ 1) × (r .nodes ≡ nodes) × (r .next ≡ next) × (r .truths ≡ truths) × ((s : ℕ) → integerIn r s ≡ pos 0) ⌝ }
 {
     Values {
-        kind: 1,
+        kind: TRUTHS,
         nodes,
         next,
         integers: [0; 64],
@@ -146,9 +158,9 @@ fn of_integers(n: u32, o: u32, left: Values, right: Values) -> Values
 {
     let a = left.integers;
     let b = right.integers;
-    if o < 2 {
+    if o < LESS {
         integers_of(right.nodes, right.next, sum_row(n, o, a, b))
-    } else if o < 5 {
+    } else if o < AND {
         truths_of(right.nodes, right.next, compared(n, o, a, b))
     } else {
         nothing(right.nodes, right.next)
@@ -175,7 +187,7 @@ fn apply_op(n: u32, o: u32, left: Values, right: Values) -> Values
     ensures { λ r. ⌜ Applied n (λ s. both (apply o) (valueIn left s) (valueIn right s)) left right r ⌝ }
 {
     if left.kind == right.kind {
-        if left.kind == 0 {
+        if left.kind == INTEGERS {
             of_integers(n, o, left, right)
         } else {
             of_truths(n, o, left, right)
@@ -188,7 +200,7 @@ fn apply_op(n: u32, o: u32, left: Values, right: Values) -> Values
 // The values at n states of the expression at a cursor, where `nodes` of its nodes are before it. A node adds at most 128 to what
 // an integer can be, so that sums of 31 nodes fit. What has no value ends the walk: the whole has none either.
 fn values_walk(src: &[u8], head: Head, n: u32, levels: u32, nodes: u32, at: usize) -> Values
-    requires { ⌜ n ≡ machineIn head .states ⌝ }
+    requires { ⌜ (n ≡ machineIn head .states) × (nodes ≤ 31) ⌝ }
     ensures { λ r. ⌜ Walked n (machineIn head) nodes r (exprAt levels (now (src .entry)) (head .count) nodes at) ⌝ }
 {
     if levels == 0 {
@@ -204,11 +216,11 @@ fn values_walk(src: &[u8], head: Head, n: u32, levels: u32, nodes: u32, at: usiz
         }
         ExprHead::Operation(o, next) => {
             let left = values_walk(src, head, n, levels - 1, nodes + 1, next);
-            if left.kind >= 2 {
+            if left.kind >= NOTHING {
                 return left;
             }
             let right = values_walk(src, head, n, levels - 1, left.nodes, left.next);
-            if right.kind >= 2 {
+            if right.kind >= NOTHING {
                 return right;
             }
             apply_op(n, o, left, right)
@@ -217,20 +229,27 @@ fn values_walk(src: &[u8], head: Head, n: u32, levels: u32, nodes: u32, at: usiz
     }
 }
 
+// The values of the whole expression at a cursor.
+fn values_at(src: &[u8], head: Head, at: usize) -> Values
+    ensures { λ r. ⌜ Evaluated head (now (src .entry)) at r ⌝ }
+{
+    values_walk(src, head, states_in(head), LEVELS, 0, at)
+}
+
 // The states at which the expression at a cursor is true, and those at which it is false.
 pub fn truths_at(src: &[u8], head: Head, at: usize) -> Truths
     ensures holding { λ r. ⌜ ((s : ℕ) → has (r .holds) s ≡ isTrue (machineIn head) (exprIn (now (src .entry)) (head .count) at) s) ⌝ }
     ensures failing { λ r. ⌜ ((s : ℕ) → has (r .fails) s ≡ isFalse (machineIn head) (exprIn (now (src .entry)) (head .count) at) s) ⌝ }
 {
-    let n = states_in(head);
-    let row = values_walk(src, head, n, LEVELS, 0, at);
-    if row.kind != 1 {
+    let row = values_at(src, head, at);
+    if row.kind != TRUTHS {
         let none = StateSet::empty();
         return Truths {
             holds: none,
             fails: none,
         };
     }
+    let n = states_in(head);
     let states = StateSet::below(n);
     let truths = row.truths;
     Truths {
@@ -272,28 +291,20 @@ pub fn agreeing(x: Variable, s: u32) -> StateSet
     }
 }
 
-// The one state after a store of n at state s, or none where the value is out of range.
-fn store_natural(x: Variable, s: u32, n: u64) -> StateSet
+// The one state after a store of z at state s, or none where the value is out of range.
+fn store(x: Variable, s: u32, z: i64) -> StateSet
     requires { ⌜ (isSmall x ≡ true) × (s < 64) ⌝ }
-    ensures { λ r. ⌜ ((t : ℕ) → has r t ≡ (ltb t 64 && leadsTo (storedBy x s (pos n)) t)) ⌝ }
+    ensures { λ r. ⌜ ((t : ℕ) → has r t ≡ (ltb t 64 && leadsTo (storedBy x s z) t)) ⌝ }
 {
+    if z < 0 {
+        return StateSet::empty();
+    }
+    let n = z as u64;
     if n >= x.size as u64 {
         return StateSet::empty();
     }
     let value = s / x.weight % x.size;
     StateSet::single(s - value * x.weight + n as u32 * x.weight)
-}
-
-// The one state after a store of z, or none; no variable holds a negative number.
-fn store_integer(x: Variable, s: u32, z: i64) -> StateSet
-    requires { ⌜ (isSmall x ≡ true) × (s < 64) ⌝ }
-    ensures { λ r. ⌜ ((t : ℕ) → has r t ≡ (ltb t 64 && leadsTo (storedBy x s z) t)) ⌝ }
-{
-    if z < 0 {
-        StateSet::empty()
-    } else {
-        store_natural(x, s, z as u64)
-    }
 }
 
 // Where a store in variable v of the expression at a cursor leads: in row s the one state after it at s, or none.
@@ -302,15 +313,14 @@ pub fn successors(src: &[u8], head: Head, v: u32, at: usize) -> [u64; 64]
         ≡ (ltb s (machineIn head .states) && leadsTo (afterStore (machineIn head) v (exprIn (now (src .entry)) (head .count) at) s) t)) ⌝ }
 {
     let mut rows = [0u64; 64];
-    let n = states_in(head);
-    let row = values_walk(src, head, n, LEVELS, 0, at);
-    if row.kind != 0 {
+    let row = values_at(src, head, at);
+    if row.kind != INTEGERS {
         return rows;
     }
     let integers = row.integers;
     let x = variable_of(head, v);
-    for s in 0..n {
-        let end = store_integer(x, s, integers[s as usize]);
+    for s in 0..x.states {
+        let end = store(x, s, integers[s as usize]);
         rows[s as usize] = end.bits;
     }
     rows

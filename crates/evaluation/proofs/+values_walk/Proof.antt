@@ -2,18 +2,19 @@
 use Prim.Native.Nat.{ℕ, _<_}
 use native.Mathlib.Nat.{pos-of-ne-zero}
 use native.Mathlib.Omega.{arith}
-use mathlib.Core.Path.{_≡_, sym, ap, _∙_}
+use mathlib.Core.Path.{_≡_, ap, _∙_}
 use lib.ListN.{replicate}
 use mir.Syntax.{w64}
 use mir.Facts.{toZ-ofZ}
 use borrow.Author.Needs.{needs}
 use borrow.Fn.Kinds.{In}
 use borrow.Fn.PlainCycle.{Measures, is, falls, and}
+use Rattle.expressions.specs.declared.ExprHead.{ExprHead}
 use Rattle.expressions.specs.Header.{machineIn}
 use Rattle.expressions.proofs.Folds.{Headed}
 use Rattle.evaluation.specs.Values.{isSmall}
 use Rattle.evaluation.proofs.Laws.{states-most, small, variable-small, variable-values}
-use Rattle.evaluation.proofs.Walking.{Place, known-at, walked-out, walked-integer, walked-truth, walked-variable, walked-fault, walked-left, walked-right, operands-small, walked-both}
+use Rattle.evaluation.proofs.Walking.{Place, Operation, headAt, known-at, walked-out, walked-integer, walked-truth, walked-variable, walked-fault, known-left, walked-left, walked-right, operands-small, walked-both}
 use Rattle.evaluation.proofs.values_walk.Reads as values-walk
 use Rattle.evaluation.proofs.values_walk.Kinds as values-walk-kinds
 use Rattle.evaluation.proofs.+values_walk.Lts-values_walk as lts
@@ -69,109 +70,97 @@ place t b =
       levels = a .levels;
       nodes = a .nodes;
       at = a .at;
-      most = rw (k .pre .1) (states-most (a .head));
+      most = rw (k .pre .1 .0) (states-most (a .head));
       more = pos-of-ne-zero (b .before .if1 .left);
+    }
+
+node-is : (t : ℕ) (b : lts.After-expr-head-at (callees t) (now-at t) values-walk.Post) (h : ExprHead) → b .expr-head-at .result ≡ h → headAt (place t b) ≡ h
+node-is t b h e = rw (← b .expr-head-at .ensures) e
+
+-- Where the left operand is walked.
+abbrev operation : (t : ℕ) → lts.After-values-walk (callees t) (now-at t) values-walk.Post → Operation
+operation t w =
+    let k = w .before in
+    let b = k .before .before .before in
+    record {
+      place = place t b;
+      o = k .before .node4 .given .0 .0;
+      first = k .before .node4 .given .0 .1 .0;
+      is = node-is t b _ (k .before .node4 .given .1);
+      left = w .values-walk .result;
+      walked = w .values-walk .ensures;
     }
 
 returns : (t : ℕ) → lts.Need-returns (callees t) (now-at t) values-walk.Post
 returns t c = walked-out _ _ _ _ _ _ _ _ (c .before .if1 .taken) (c .nothing .ensures .0)
 
-add-integers-of : (t : ℕ) → lts.Need-add-integers-of (callees t) (now-at t) values-walk.Post
+values-walk-requires : (t : ℕ) → lts.Need-values-walk-requires (callees t) (now-at t) values-walk.Post
 unfolding Headed
-add-integers-of t c =
+values-walk-requires t c κs =
     let b = c .before .before .before in
-    omega (arith, known-at (place t b) _ (sym (b .expr-head-at .ensures) ∙ c .before .node .given .1))
+    (search needs, (b .before .before .before .pre .1 .0, omega (arith, known-at (place t b) _ (node-is t b _ (c .before .node4 .given .1)))))
 
-add-truths-of : (t : ℕ) → lts.Need-add-truths-of (callees t) (now-at t) values-walk.Post
-unfolding Headed
-add-truths-of t c =
-    let b = c .before .before .before in
-    omega (arith, known-at (place t b) _ (sym (b .expr-head-at .ensures) ∙ c .before .node2 .given .1))
-
-add-integers-of-2 : (t : ℕ) → lts.Need-add-integers-of-2 (callees t) (now-at t) values-walk.Post
-unfolding Headed
-add-integers-of-2 t c =
-    let b = c .before .before .before .before in
-    omega (arith, known-at (place t b) _ (sym (b .expr-head-at .ensures) ∙ c .before .before .node3 .given .1))
-
-add-values-walk : (t : ℕ) → lts.Need-add-values-walk (callees t) (now-at t) values-walk.Post
-unfolding Headed
-add-values-walk t c =
-    let b = c .before .before .before in
-    omega (arith, known-at (place t b) _ (sym (b .expr-head-at .ensures) ∙ c .before .node4 .given .1))
+values-walk-requires-2 : (t : ℕ) → lts.Need-values-walk-requires-2 (callees t) (now-at t) values-walk.Post
+values-walk-requires-2 t c κs =
+    let w = c .before .before in
+    (search needs, (w .before .before .before .before .before .before .before .pre .1 .0, known-left (operation t w) (c .if2 .left) .room))
 
 variable-row-requires : (t : ℕ) → lts.Need-variable-row-requires (callees t) (now-at t) values-walk.Post
 variable-row-requires t c κs =
-    let b = c .before .before .before .before in
     let known = small _ (ap isSmall (c .variable-of .ensures) ∙ variable-small _ _) in
-    (place t b .most, known .weighs, known .sized)
-
-returns-2 : (t : ℕ) → lts.Need-returns-2 (callees t) (now-at t) values-walk.Post
-returns-2 t c =
-    let k = c .before .before .before in
-    let b = k .before .before .before in
-    walked-left (place t b) _ _ (sym (b .expr-head-at .ensures) ∙ k .before .node4 .given .1) _ (c .before .before .values-walk .ensures) (c .if2 .taken)
-
-returns-3 : (t : ℕ) → lts.Need-returns-3 (callees t) (now-at t) values-walk.Post
-returns-3 t c =
-    let l = c .before .before .before in
-    let k = l .before .before .before in
-    let b = k .before .before .before in
-    walked-right (place t b) _ _ (sym (b .expr-head-at .ensures) ∙ k .before .node4 .given .1) _ (l .before .before .values-walk .ensures) (l .if2 .left)
-    _ (c .before .before .values-walk2 .ensures) (c .if3 .taken)
+    (place t (c .before .before .before .before) .most, known .weighs, known .sized)
 
 apply-op-requires : (t : ℕ) → lts.Need-apply-op-requires (callees t) (now-at t) values-walk.Post
 apply-op-requires t c κs =
     let l = c .before .before .before in
-    let k = l .before .before .before in
-    let b = k .before .before .before in (
-      place t b .most,
-      l .if2 .left,
-      c .if3 .left,
-      operands-small (place t b) _ _ (sym (b .expr-head-at .ensures) ∙ k .before .node4 .given .1) _ (l .before .before .values-walk .ensures) (l .if2 .left)
-          _ (c .before .before .values-walk2 .ensures) (c .if3 .left),
-    )
+    let q = operation t (l .before .before) in
+    (q .place .most, l .if2 .left, c .if3 .left, operands-small q (l .if2 .left) _ (c .before .before .values-walk2 .ensures) (c .if3 .left))
+
+returns-2 : (t : ℕ) → lts.Need-returns-2 (callees t) (now-at t) values-walk.Post
+returns-2 t c = walked-left (operation t (c .before .before)) (c .if2 .taken)
+
+returns-3 : (t : ℕ) → lts.Need-returns-3 (callees t) (now-at t) values-walk.Post
+returns-3 t c =
+    let l = c .before .before .before in
+    walked-right (operation t (l .before .before)) (l .if2 .left) _ (c .before .before .values-walk2 .ensures) (c .if3 .taken)
 
 returns-4 : (t : ℕ) → lts.Need-returns-4 (callees t) (now-at t) values-walk.Post
 returns-4 t c =
     let k = c .before in
     let b = k .before .before .before in
     let made = c .integers-of .ensures in
-    walked-integer (place t b) _ _ (sym (b .expr-head-at .ensures) ∙ k .before .node .given .1) _
+    walked-integer (place t b) _ _ (node-is t b _ (k .before .node .given .1)) _
     (made .0, made .1, made .2, made .3 ∙ ap (λ z. replicate 64 z) (toZ-ofZ {w = w64} {z = k .before .node .given .0 .0} (record { sfits = k .known-told .given .0 .1 })))
 
 returns-5 : (t : ℕ) → lts.Need-returns-5 (callees t) (now-at t) values-walk.Post
 returns-5 t c =
     let k = c .before .before in
     let b = k .before .before .before in
-    walked-truth (place t b) _ _ (sym (b .expr-head-at .ensures) ∙ k .before .node2 .given .1) _ _ (c .truths-of .ensures) (c .before .always .ensures)
+    walked-truth (place t b) _ _ (node-is t b _ (k .before .node2 .given .1)) _ _ (c .truths-of .ensures) (c .before .always .ensures)
 
 returns-6 : (t : ℕ) → lts.Need-returns-6 (callees t) (now-at t) values-walk.Post
 returns-6 t c =
     let k = c .before .before .before in
     let b = k .before .before .before in
-    walked-variable (place t b) _ _ (sym (b .expr-head-at .ensures) ∙ k .before .node3 .given .1) _ _
-    (variable-values _ _ _ _ (c .before .variable-row .result) (c .before .before .variable-of .ensures) (b .before .before .before .pre .1) (c .before .variable-row .ensures)) (c .integers-of2 .ensures)
+    walked-variable (place t b) _ _ (node-is t b _ (k .before .node3 .given .1)) _ _
+    (variable-values _ _ _ _ (c .before .variable-row .result) (c .before .before .variable-of .ensures) (b .before .before .before .pre .1 .0) (c .before .variable-row .ensures)) (c .integers-of2 .ensures)
 
 returns-7 : (t : ℕ) → lts.Need-returns-7 (callees t) (now-at t) values-walk.Post
 returns-7 t c =
     let r = c .before in
     let l = r .before .before .before in
-    let k = l .before .before .before in
-    let b = k .before .before .before in
-    walked-both (place t b) _ _ (sym (b .expr-head-at .ensures) ∙ k .before .node4 .given .1) _ (l .before .before .values-walk .ensures) (l .if2 .left)
-    _ (r .before .before .values-walk2 .ensures) (r .if3 .left) _ (c .apply-op .ensures)
+    walked-both (operation t (l .before .before)) (l .if2 .left) _ (r .before .before .values-walk2 .ensures) (r .if3 .left) _ (c .apply-op .ensures)
 
 returns-8 : (t : ℕ) → lts.Need-returns-8 (callees t) (now-at t) values-walk.Post
 returns-8 t c =
     let k = c .before in
     let b = k .before .before .before in
-    walked-fault (place t b) _ _ (sym (b .expr-head-at .ensures) ∙ k .before .node5 .given .1) _ (c .nothing2 .ensures .0)
+    walked-fault (place t b) _ _ (node-is t b _ (k .before .node5 .given .1)) _ (c .nothing2 .ensures .0)
 
 pub +values-walk-spec : {M : Type 1} → statement M
 +values-walk-spec = close μ-values-walk λ t. lts.spec (callees t) (now-at t) values-walk.Post
-    (λ c κs. search needs) (returns t) (λ c κs. search needs) (λ c. search needs) (add-integers-of t) (λ c κs. search needs)
-    (λ c. search needs) (add-truths-of t) (λ c κs. search needs) (λ c κs. search needs) (λ c. search needs) (λ c κs. search needs)
-    (add-integers-of-2 t) (variable-row-requires t) (λ c κs. search needs) (λ c. search needs) (λ c. search needs) (add-values-walk t)
-    (λ c κs. search needs) (returns-2 t) (λ c. search needs) (λ c κs. search needs) (returns-3 t) (apply-op-requires t)
+    (λ c κs. search needs) (returns t) (λ c κs. search needs) (λ c. search needs) (λ c. search needs) (λ c κs. search needs)
+    (λ c. search needs) (λ c. search needs) (λ c κs. search needs) (λ c κs. search needs) (λ c. search needs) (λ c κs. search needs)
+    (λ c. search needs) (variable-row-requires t) (λ c κs. search needs) (λ c. search needs) (λ c. search needs) (λ c. search needs)
+    (values-walk-requires t) (returns-2 t) (λ c. search needs) (values-walk-requires-2 t) (returns-3 t) (apply-op-requires t)
     (λ c. search needs) (λ c κs. search needs) (returns-4 t) (returns-5 t) (returns-6 t) (returns-7 t) (returns-8 t)

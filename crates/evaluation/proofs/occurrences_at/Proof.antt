@@ -1,10 +1,8 @@
 -- The shape counts the occurrences; where no expression can be read, there are none.
-use Prim.Native.Nat.{ℕ, _%_, _^_}
+use Prim.Native.Nat.{ℕ, _^_}
 use native.Mathlib.Nat.{zero-div}
-use mathlib.Core.Bool.{Bool, false}
 use mathlib.Core.Path.{_≡_, refl, sym, ap, _∙_}
 use borrow.Author.Needs.{needs}
-use lib.Dec.{eqb}
 use Rattle.semantics.specs.declared.Kind.{Kind}
 use Rattle.semantics.specs.Language.{Expr, lit, var, op}
 use Rattle.semantics.specs.Conditions.{occurrences}

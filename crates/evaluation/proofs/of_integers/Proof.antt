@@ -4,7 +4,7 @@ use mathlib.Core.Option.{none}
 use mathlib.Core.Path.{sym}
 use borrow.Author.Needs.{needs}
 use lib.ListN.{List·getD-eq-default}
-use Rattle.semantics.specs.Language.{truth, ofIntegers}
+use Rattle.semantics.specs.Language.{ofIntegers}
 use Rattle.evaluation.specs.Refinement.{integerIn}
 use Rattle.evaluation.proofs.of_integers.Statement.{statement}
 use Rattle.evaluation.proofs.of_integers.Tie as tie

@@ -1,10 +1,10 @@
--- A row of truth values says where the test is true; of the n states, the others are those where it is false. Any other row has
+-- A row of truth values says where the test is true; of the N states, the others are those where it is false. Any other row has
 -- no truth value at any state.
-use Prim.Native.Nat.{ℕ, zero, suc, _≤_, _<_}
+use Prim.Native.Nat.{ℕ, zero, suc, _<_}
 use native.Mathlib.Decide.{decLt}
 use native.Mathlib.Omega.{arith}
 use mathlib.Core.Bool.{Bool, true, false, not, _&&_, and-false}
-use mathlib.Core.List.{[], _∷_}
+use mathlib.Core.List.{List, [], _∷_}
 use mathlib.Core.Option.{none, some}
 use mathlib.Core.Path.{_≡_, refl, sym, ap, _∙_}
 use borrow.Author.Needs.{needs}
@@ -13,81 +13,71 @@ use lib.Dec.{ltb}
 use lib.IntN.{ℤ}
 use lib.ListN.{getD}
 use Rattle.states.specs.Sets.{has}
-use Rattle.semantics.specs.Language.{int, truth, Expr}
-use Rattle.semantics.specs.States.{Machine, value, isTruth}
+use Rattle.semantics.specs.Language.{int, truth}
+use Rattle.semantics.specs.States.{value, isTruth}
 use Rattle.semantics.specs.Conditions.{isTrue, isFalse}
+use Rattle.expressions.specs.declared.head.Head.{Head}
 use Rattle.expressions.specs.Header.{machineIn}
 use Rattle.evaluation.specs.declared.Values.{Values}
 use Rattle.evaluation.specs.Values.{exprIn}
-use Rattle.evaluation.specs.Refinement.{integerIn, valueIn}
+use Rattle.evaluation.specs.Refinement.{integerIn, valueIn, Evaluated}
 use Rattle.evaluation.proofs.Laws.{states-most}
-use Rattle.evaluation.proofs.Walking.{whole-value}
 use Rattle.evaluation.proofs.truths_at.Statement.{statement}
 use Rattle.evaluation.proofs.truths_at.Tie as tie
 
-no-truth : (wanted : Bool) (k : ℕ) (z : ℤ) (b : Bool) → (k ≡ 1 → ⊥) → isTruth wanted (getD (some (int z) ∷ some (truth b) ∷ []) k none) ≡ false
+no-truth : (wanted : Bool) (k : ℕ) (z : ℤ) (b : Bool) → (k ≡ 1 → ⊥) → false ≡ isTruth wanted (getD (some (int z) ∷ some (truth b) ∷ []) k none)
 no-truth wanted zero z b other = refl
 no-truth wanted (suc zero) z b other = absurd (other refl)
 no-truth wanted (suc (suc k)) z b other = refl
-
-as-truth : (wanted : Bool) (row : Values) (s : ℕ) → row .kind ≡ 1 → isTruth wanted (some (truth (has (row .truths) s))) ≡ isTruth wanted (valueIn row s)
-as-truth wanted row s is = rw is
 
 not-as : (b : Bool) → not b ≡ isTruth false (some (truth b))
 not-as true = refl
 not-as false = refl
 
--- Whether s is a state at which a test is the wanted truth value.
-abbrev test : Bool → Machine → Expr → ℕ → Bool
-test wanted m e s = ltb s (m .states) && isTruth wanted (value m e s)
+-- A set of states by a row, and the test at these states.
+module _ (head : Head) (bytes : List ℕ) (at : ℕ) (row : Values) (known : Evaluated head bytes at row) where
+  unfoldable test : Bool → ℕ → Bool
+  test wanted s = ltb s (machineIn head .states) && isTruth wanted (value (machineIn head) (exprIn bytes (head .count) at) s)
 
-tested : (n : ℕ) (m : Machine) (e : Expr) (row : Values) → n ≡ m .states → n ≤ 64 → ((s : ℕ) → s < n → valueIn row s ≡ value m e s)
-    → (wanted : Bool) (s : ℕ) (b : Bool) → b ≡ isTruth wanted (valueIn row s) → (ltb s 64 && ltb s n && b) ≡ test wanted m e s
-tested n m e row all most each wanted s b is = rw (← all) (by (decLt s n))
-  where
-    by : Dec (s < n) → (ltb s 64 && ltb s n && b) ≡ (ltb s n && isTruth wanted (value m e s))
-    by (yes l) = rw (lt-ltb s n l, lt-ltb s 64 (omega arith)) (is ∙ ap (isTruth wanted) (each s l))
-    by (no l) = rw (le-ltb s n (omega arith), and-false (ltb s 64))
+  tested : (wanted : Bool) (s n : ℕ) (b : Bool) → n ≡ machineIn head .states → b ≡ isTruth wanted (valueIn row s)
+      → (ltb s 64 && ltb s n && b) ≡ test wanted s
+  unfolding test
+  tested wanted s n b all is = by (decLt s n)
+    where
+      by : Dec (s < n) → (ltb s 64 && ltb s n && b) ≡ test wanted s
+      by (yes l) = rw (← all, lt-ltb s n l, lt-ltb s 64 (omega (arith, states-most head))) (is ∙ ap (isTruth wanted) (known .each s (rw (← all) l)))
+      by (no l) = rw (← all, le-ltb s n (omega arith), and-false (ltb s 64))
 
--- What a set says once the row is worked out.
-module _ (w : tie.After-values-walk) where
-  abbrev row : Values
-  row = w .values-walk .result
+  none-true : (row .kind ≡ 1 → ⊥) → (wanted : Bool) (s : ℕ) → false ≡ test wanted s
+  none-true other wanted s =
+      sym (and-false (ltb s 64 && ltb s (machineIn head .states)))
+      ∙ tested wanted s _ false refl (no-truth wanted (row .kind) (integerIn row s) (has (row .truths) s) other)
 
-  abbrev here : Bool → ℕ → Bool
-  here wanted = let a = w .before .before .before .args in test wanted (machineIn (a .head)) (exprIn (a .src .now) (a .head .count) (a .at))
+  held : row .kind ≡ 1 → (s n : ℕ) → n ≡ machineIn head .states → (ltb s 64 && ltb s n && has (row .truths) s) ≡ test true s
+  held is s n all = tested true s n (has (row .truths) s) all (rw is)
 
-  known : (wanted : Bool) (s : ℕ) (b : Bool) → b ≡ isTruth wanted (valueIn row s) → (ltb s 64 && ltb s (w .before .states-in .result) && b) ≡ here wanted s
-  known =
-      let a = w .before .before .before .args in
-      let all = w .before .states-in .ensures in
-      tested _ (machineIn (a .head)) (exprIn (a .src .now) (a .head .count) (a .at)) row all (rw all (states-most (a .head)))
-      (whole-value _ _ _ (machineIn (a .head)) (a .at) row (w .values-walk .ensures))
-
-  nowhere : (row .kind ≡ 1 → ⊥) → (wanted : Bool) (s : ℕ) → false ≡ here wanted s
-  nowhere other wanted s =
-      sym (and-false (ltb s 64 && ltb s (w .before .states-in .result)))
-      ∙ known wanted s false (sym (no-truth wanted (row .kind) (integerIn row s) (has (row .truths) s) other))
+  failed : row .kind ≡ 1 → (s n : ℕ) → n ≡ machineIn head .states → (ltb s 64 && ltb s n && not (has (row .truths) s)) ≡ test false s
+  failed is s n all = tested false s n (not (has (row .truths) s)) all (rw is (not-as (has (row .truths) s)))
 
 returns : tie.Need-returns
-unfolding isTrue isFalse
+unfolding isTrue isFalse test
 returns c =
-    let none = nowhere (c .before .before .before) (c .before .if1 .taken) in
+    let none = none-true _ _ _ _ (c .before .before .before .values-at .ensures) (c .before .if1 .taken) in
     (λ s. c .empty .ensures s ∙ none true s, λ s. c .empty .ensures s ∙ none false s)
 
 returns-2 : tie.Need-returns-2
-unfolding isTrue isFalse
+unfolding isTrue isFalse test
 returns-2 c =
     let l = c .before .before .before in
-    let w = l .before .before .before in
-    let held = row w .truths in
-    let is = l .before .if1 .left in (
-      λ s. c .before .meet .ensures s ∙ ap (λ b. b && has held s) (l .below .ensures s) ∙ known w true s (has held s) (as-truth true (row w) s is),
-      λ s. c .narrow .ensures s ∙ ap (λ b. b && not (has held s)) (l .below .ensures s) ∙ known w false s (not (has held s)) (not-as (has held s) ∙ as-truth false (row w) s is),
+    let k = l .before .before in
+    let known = k .before .before .values-at in
+    let all = l .before .states-in .ensures in (
+      λ s. rw (c .before .meet .ensures s, l .below .ensures s) (held _ _ _ _ (known .ensures) (k .if1 .left) s _ all),
+      λ s. rw (c .narrow .ensures s, l .below .ensures s) (failed _ _ _ _ (known .ensures) (k .if1 .left) s _ all),
     )
 
 pub truths-at-spec : {M : Type 1} → statement M
 truths-at-spec =
     tie.close
-    (tie.spec (λ c κs. search needs) (λ c κs. search needs) (λ c κs. search needs) returns (λ c κs. search needs) (λ c κs. search needs)
+    (tie.spec (λ c κs. search needs) (λ c κs. search needs) returns (λ c κs. search needs) (λ c κs. search needs) (λ c κs. search needs)
     (λ c κs. search needs) returns-2)

@@ -1,5 +1,5 @@
 -- The definition's two cases.
-use mathlib.Core.Path.{_≡_, sym, _∙_}
+use mathlib.Core.Path.{sym, _∙_}
 use borrow.Author.Needs.{needs}
 use Rattle.evaluation.specs.Values.{variableIn}
 use Rattle.evaluation.proofs.variable_of.Statement.{statement}

@@ -12,7 +12,7 @@ use mir.Syntax.{w64}
 use mir.Facts.{toZ-ofZ}
 use Rattle.semantics.specs.Language.{truth, ofIntegers}
 use Rattle.semantics.specs.States.{isTruth}
-use Rattle.evaluation.proofs.Laws.{Holds, holds-none, holds-more}
+use Rattle.evaluation.proofs.Runs.{Holds, holds-none, holds-more}
 use Rattle.evaluation.proofs.pointwise.compared.Statement.{statement}
 use Rattle.evaluation.proofs.pointwise.compared.Tie as tie
 
@@ -24,13 +24,13 @@ abbrev μ-loop : tie.MeasureT-loop
 μ-loop n o left right found₀ s₀ found s = n - s
 
 -- What a comparison makes of two integers is a truth value.
-told : (o : ℕ) (a b : ℤ) → 1 < o → o < 5 → some (truth (isTruth true (getD (ofIntegers a b) o none))) ≡ getD (ofIntegers a b) o none
-told zero a b more less = absurd (omega arith)
-told (suc zero) a b more less = absurd (omega arith)
-told (suc (suc zero)) a b more less = refl
-told (suc (suc (suc zero))) a b more less = refl
-told (suc (suc (suc (suc zero)))) a b more less = refl
-told (suc (suc (suc (suc (suc o))))) a b more less = absurd (omega arith)
+is-truth : (o : ℕ) (a b : ℤ) → 1 < o → o < 5 → some (truth (isTruth true (getD (ofIntegers a b) o none))) ≡ getD (ofIntegers a b) o none
+is-truth zero a b more less = absurd (omega arith)
+is-truth (suc zero) a b more less = absurd (omega arith)
+is-truth (suc (suc zero)) a b more less = refl
+is-truth (suc (suc (suc zero))) a b more less = refl
+is-truth (suc (suc (suc (suc zero)))) a b more less = refl
+is-truth (suc (suc (suc (suc (suc o))))) a b more less = absurd (omega arith)
 
 -- x and y are a and b as the code carries them.
 carried : (o : ℕ) (a b x y : ℤ) (r : Bool) → x ≡ a → y ≡ b → some (truth r) ≡ getD (ofIntegers x y) o none
@@ -55,7 +55,7 @@ returns c s l =
     let k = c .before .before .before in
     let holds = rw (lt-ltb s (c .before .loop .s) (omega arith)) at (c .before .loop .inv .1 s) in
     ap (λ b. some (truth b)) holds
-    ∙ told (k .args .o) (getD (k .args .t3) s (pos 0)) (getD (k .args .t4) s (pos 0)) (k .pre .1) (k .pre .2)
+    ∙ is-truth (k .args .o) (getD (k .args .t3) s (pos 0)) (getD (k .args .t4) s (pos 0)) (k .pre .1) (k .pre .2)
 
 pub compared-spec : {M : Type 1} → statement M
 compared-spec =

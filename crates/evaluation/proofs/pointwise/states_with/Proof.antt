@@ -3,8 +3,7 @@ use Prim.Native.Nat.{_-_, _*_, _≤_, _<_}
 use native.Mathlib.Nat.{mul-le-mul, mul-pos}
 use native.Mathlib.Omega.{arith}
 use borrow.Author.Needs.{needs}
-use Rattle.evaluation.proofs.Laws.{Holds}
-use Rattle.evaluation.proofs.Runs.{Starts, has-value, first-run, next-run, no-run, one-run, all-runs}
+use Rattle.evaluation.proofs.Runs.{Holds, Starts, has-value, first-run, next-run, no-run, one-run, all-runs}
 use Rattle.evaluation.proofs.pointwise.states_with.Statement.{statement}
 use Rattle.evaluation.proofs.pointwise.states_with.Tie as tie
 

@@ -1,4 +1,4 @@
--- The entries below s are the sums or the differences there, and hardly larger than the operands.
+-- The entries below s are the sums or the differences there, and no larger than the operands together and one.
 use Prim.Native.Nat.{ℕ, _+_, _-_, _≤_}
 use native.Mathlib.Omega.{arith}
 use mathlib.Core.List.{List}
@@ -30,7 +30,10 @@ abbrev μ-loop : tie.MeasureT-loop
 sum-requires : tie.Need-sum-requires Inv-loop μ-loop
 sum-requires c κs =
     let k = c .before .before .before in
-    rw (toZ-ofZ (sfits-of (c .before .sum-arg .given)), toZ-ofZ (sfits-of (c .sum-arg2 .given))) (k .before .pre .1, k .before .pre .2 (k .loop .s) (omega arith))
+    let a = getD (k .before .args .t3) (k .loop .s) (pos 0) in
+    let b = getD (k .before .args .t4) (k .loop .s) (pos 0) in
+    rw (toZ-ofZ {w = w64} {z = a} (sfits-of (c .before .sum-arg .given)), toZ-ofZ {w = w64} {z = b} (sfits-of (c .sum-arg2 .given)))
+    (k .before .pre .1, k .before .pre .2 (k .loop .s) (omega arith))
 
 -- x, y and z are a, b and r as the code carries them.
 carried : (o : ℕ) (a b r x y z : ℤ) → x ≡ a → y ≡ b → z ≡ r → (some (int r) ≡ getD (ofIntegers x y) o none) × (mag r ≤ mag x + mag y + 1)

@@ -1,5 +1,4 @@
 -- The tests are the definition's.
-use mathlib.Core.Path.{refl}
 use borrow.Author.Needs.{needs}
 use Rattle.states.specs.Search.{all}
 use Rattle.expressions.specs.Header.{inLimits}

@@ -1,5 +1,5 @@
 -- The tests are the definition's.
-use mathlib.Core.Path.{_≡_, sym, _∙_}
+use mathlib.Core.Path.{sym, _∙_}
 use borrow.Author.Needs.{needs}
 use Rattle.expressions.specs.Header.{isHead}
 use Rattle.expressions.proofs.head.is_head.Statement.{statement}

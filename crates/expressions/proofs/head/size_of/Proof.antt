@@ -1,9 +1,8 @@
 -- A variable that is declared has its entry of the array, which has 4.
-use Prim.Native.Nat.{_≤_}
 use native.Mathlib.Omega.{arith}
-use mathlib.Core.Path.{_≡_, sym, _∙_}
+use mathlib.Core.Path.{_≡_, sym}
 use borrow.Author.Needs.{needs}
-use lib.ListN.{length, getD, length-take, List·getD-eq-default}
+use lib.ListN.{length, length-take, List·getD-eq-default}
 use Rattle.expressions.specs.Header.{sizesIn}
 use Rattle.expressions.proofs.Heads.{size-past, size-at}
 use Rattle.expressions.proofs.head.size_of.Statement.{statement}

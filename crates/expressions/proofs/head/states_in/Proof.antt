@@ -1,5 +1,5 @@
 -- The definition's two cases.
-use mathlib.Core.Path.{_≡_, sym, _∙_}
+use mathlib.Core.Path.{sym, _∙_}
 use borrow.Author.Needs.{needs}
 use Rattle.expressions.specs.Header.{machineIn}
 use Rattle.expressions.proofs.head.states_in.Statement.{statement}
