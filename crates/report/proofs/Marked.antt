@@ -10,15 +10,16 @@ use lib.IntN.{pos}
 use Rattle.bits.specs.Fields.{bitLength, bitAt, bitsAt, isThere, fieldAt, firstSet, fillBits, furtherByte, fillFrom, fillAt}
 use Rattle.states.specs.Search.{implies, all, any, must, given, named, orElse, each, holds}
 use Rattle.states.specs.Relations.{within, reach}
+use Rattle.semantics.specs.declared.Names.{Names}
 use Rattle.semantics.specs.Language.{Expr, lit, var, op, int, Stmt, nil, assign, seq, while}
-use Rattle.semantics.specs.States.{valueOf, machineOf}
+use Rattle.semantics.specs.States.{product, valueOf, machineOf}
 use Rattle.semantics.specs.Steps.{at, isNil}
 use Rattle.semantics.specs.Runs.{Event, own, other, onStep, run, stepsMade}
 use Rattle.semantics.specs.StepNumber.{steps}
-use Rattle.semantics.specs.Derivations.{Names, skip, iteration, Tables}
-use Rattle.semantics.specs.Conditions.{inSet, sameSet, sameRelation, liesIn, isTrue, isFalse, afterStore, inRange, toAfter, moves, c31, c32, c33, c34while, c35, c40, c41, c42, c43, c50, c51, c52, c53, c54, c55, c56}
+use Rattle.semantics.specs.Derivations.{skip, iteration, Tables}
+use Rattle.semantics.specs.Conditions.{inSet, sameSet, sameRelation, setLiesIn, relationLiesIn, isTrue, isFalse, afterStore, inRange, toAfter, moves, c31, c32, c33, c34while, c35, unmoved, c40, c41, c42, c43, c50, c51, c52, c53, c54, c55, c56}
 use Rattle.semantics.specs.Checking.{Broken, firstFault}
-use Rattle.expressions.specs.Header.{sizeRead, addSize, sizesRead, countRead, headerAt, sizesOf}
+use Rattle.expressions.specs.Header.{sizeRead, addSize, sizesRead, countRead, headAt}
 use Rattle.expressions.specs.Expressions.{signed, integerHead, truthHead, variableHead, operationHead, payloadHead, tagHead, exprHead, exprAt, wholeExpr}
 use Rattle.handler.specs.Statements.{targetHead, codeHead, markHead, stmtHead, stmtAt, wholeStmt}
 use Rattle.handler.specs.Reading.{HandlerRead, handler, refused, readHandler}
@@ -60,11 +61,11 @@ both-ways =
 
 -- Under that rely with no guarantee, and with relation q as postcondition.
 abbrev under : ℕ → Names
-under q = record { P = 0; R = 0; G = 2; Q = q }
+under q = record { p = 0; r = 0; g = 2; q = q }
 
 -- N of a handler file, or the number and place of its fault.
 abbrev size-or-fault : HandlerRead → List ℕ
-size-or-fault (handler count n at S) = n ∷ []
+size-or-fault (handler sizes at S) = product sizes ∷ []
 size-or-fault (refused k place) = k ∷ place ∷ []
 
 abbrev number-and-node : Option Broken → List ℕ
@@ -95,5 +96,5 @@ marked =
 pub twelve : marked
     ≡ ascii "accepted 1\n" ∷ ascii "refused 43 node 0\n" ∷ ascii "refused 10 bit 0\n" ∷ ascii "refused 10 bit 8\n" ∷ ascii "refused 18 bit 23\n"
     ∷ (4 ∷ []) ∷ (4 ∷ 1 ∷ []) ∷ (28 ∷ []) ∷ (1 ∷ []) ∷ (64 ∷ []) ∷ (13 ∷ 8 ∷ []) ∷ (50 ∷ 0 ∷ []) ∷ []
-unfolding bitLength bitAt bitsAt isThere fieldAt firstSet fillBits furtherByte fillFrom fillAt implies all any must given named orElse each holds within reach inSet sameSet sameRelation liesIn isTrue isFalse afterStore inRange toAfter moves c31 c32 c33 c34while c35 c40 c41 c42 c43 c50 c51 c52 c53 c54 c55 c56 sizeRead addSize sizesRead countRead headerAt sizesOf signed integerHead truthHead variableHead operationHead payloadHead tagHead exprHead exprAt wholeExpr targetHead codeHead markHead stmtHead stmtAt wholeStmt readHandler setAt rowAt tablesThere isCount relationsRead setsRead tablesAt inSetOf inRelationOf onName namedTable loopHead namesHead ruleHead nodeHead nodeAt wholeNode readProof answer digits decimal placeText wordsOf lineOf
+unfolding bitLength bitAt bitsAt isThere fieldAt firstSet fillBits furtherByte fillFrom fillAt implies all any must given named orElse each holds within reach inSet sameSet sameRelation setLiesIn relationLiesIn isTrue isFalse afterStore inRange toAfter moves c31 c32 c33 c34while c35 unmoved c40 c41 c42 c43 c50 c51 c52 c53 c54 c55 c56 sizeRead addSize sizesRead countRead headAt signed integerHead truthHead variableHead operationHead payloadHead tagHead exprHead exprAt wholeExpr targetHead codeHead markHead stmtHead stmtAt wholeStmt readHandler setAt rowAt tablesThere isCount relationsRead setsRead tablesAt inSetOf inRelationOf onName namedTable loopHead namesHead ruleHead nodeHead nodeAt wholeNode readProof answer digits decimal placeText wordsOf lineOf
 twelve = refl
