@@ -241,4 +241,3 @@ module _ (env : Decoded) where
       own-weaken S a b =
           by-records _ _ _ _ child refl a b
           ∙ (λ j. firstBroken (weakenObligations (env .machine-is j .states) (spec-is (weaken h d) (a .known) j) (spec-is d (a .known .1) j)))
-

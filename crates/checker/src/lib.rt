@@ -20,6 +20,7 @@ pub mod nodes;
 
 // The host lends at least so many work words, and a file has at most so many bytes.
 const WORK_WORDS: usize = 1040;
+
 const MOST_BYTES: usize = 16384;
 
 // The largest step number that is stated.
@@ -27,7 +28,9 @@ const MOST_STEPS: u64 = 4294967295;
 
 // Document 01's numbers that the check itself gives.
 const FEW_WORDS: u32 = 1;
+
 const LONG_FILE: u32 = 2;
+
 const MANY_STEPS: u32 = 80;
 
 // Where a fault is: a bit of its file or a node of the derivation.

@@ -71,7 +71,15 @@ pub fn first_fault(
 {
     let mut s = 0;
     for i in 0..count {
-        if let NodeVerdict::Breaks(number) = fault_at(handler, head, work, nodes, statements, i, s) {
+        if let NodeVerdict::Breaks(number) = fault_at(
+            handler,
+            head,
+            work,
+            nodes,
+            statements,
+            i,
+            s,
+        ) {
             return FirstFault::Broken(number, i);
         }
         s = statement_after(nodes, i, s);

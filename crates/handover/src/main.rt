@@ -5,8 +5,8 @@
 ghost use Prim.Native.Nat.{_≤_};
 ghost use lib.ListN.{length};
 ghost use Rattle.handover.specs.Reading.{amount};
-use libc::STDOUT_FILENO;
 use checker::Verdict;
+use libc::STDOUT_FILENO;
 
 // What reading a file gives: how many bytes, or that it failed and was named on standard error.
 enum Reading {

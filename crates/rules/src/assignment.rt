@@ -87,7 +87,11 @@ pub fn assignment_fault(
     let after = successors(handler, head, v, expr);
     let found = common(n, work, own, fits);
     let found = ask(found, 40, in_range(n, work, own, &after));
-    let found = ask(found, 41, unmoved(handler, head, moved(head, work, own), expr));
+    let found = ask(
+        found,
+        41,
+        unmoved(handler, head, moved(head, work, own), expr),
+    );
     let found = ask(found, 42, store_in_post(n, work, own, &after));
     ask(found, 43, store_in_guarantee(n, work, own, &after))
 }

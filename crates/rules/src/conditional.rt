@@ -65,6 +65,10 @@ pub fn if_fault(
     let falsity = test.fails;
     let found = common(n, work, own, fits);
     let found = ask(found, 34, if_tables(n, work, own, truth, child));
-    let found = ask(found, 45, unmoved(handler, head, moved(head, work, own), expr));
+    let found = ask(
+        found,
+        45,
+        unmoved(handler, head, moved(head, work, own), expr),
+    );
     ask(found, 46, skip_satisfies_post(n, work, own, falsity))
 }

@@ -184,7 +184,11 @@ pub fn while_fault(
     let falsity = test.fails;
     let found = common(n, work, own, fits);
     let found = ask(found, 34, while_tables(n, work, own, k, w, child));
-    let found = ask(found, 50, read_once(handler, head, moved(head, work, own), expr));
+    let found = ask(
+        found,
+        50,
+        read_once(handler, head, moved(head, work, own), expr),
+    );
     let found = ask(found, 51, strict_order(n, work, w));
     let found = ask(found, 52, enters_k(n, work, own, k, truth));
     let found = ask(found, 53, keeps_k(n, work, own, k));

@@ -94,12 +94,30 @@ pub fn node_fault(
     match rule {
         SKIP => skip_fault(n, work, own, code == SKIP),
         ASSIGNMENT => {
-            assignment_fault(handler, head, work, own, code == ASSIGNMENT, statement.target, expr)
+            assignment_fault(
+                handler,
+                head,
+                work,
+                own,
+                code == ASSIGNMENT,
+                statement.target,
+                expr,
+            )
         }
         SEQUENCE => sequence_fault(n, work, own, left, right, code == SEQUENCE),
         PARALLEL => parallel_fault(n, work, own, left, right, code == PARALLEL),
         IF => if_fault(handler, head, work, own, left, code == IF, expr),
-        WHILE => while_fault(handler, head, work, own, node.k, node.w, left, code == WHILE, expr),
+        WHILE => while_fault(
+            handler,
+            head,
+            work,
+            own,
+            node.k,
+            node.w,
+            left,
+            code == WHILE,
+            expr,
+        ),
         _ => weaken_fault(n, work, own, left),
     }
 }
