@@ -31,7 +31,9 @@ pub fn checkers() -> Vec<Box<dyn Checker>> {
     vec![
         Box::new(Reference),
         #[cfg(feature = "proved")]
-        Box::new(proved::Proved),
+        Box::new(proved::PROVED),
+        #[cfg(feature = "former")]
+        Box::new(proved::FORMER),
     ]
 }
 

@@ -14,18 +14,41 @@ extern "C" {
     ) -> u64;
 }
 
-pub struct Proved;
+#[cfg(feature = "former")]
+extern "C" {
+    fn former_check(
+        handler: *const u8,
+        handler_len: usize,
+        proof: *const u8,
+        proof_len: usize,
+        work: *mut u64,
+        work_len: usize,
+    ) -> u64;
+}
+
+/// A library that is linked, by its function.
+pub struct Proved {
+    name: &'static str,
+    function: unsafe extern "C" fn(*const u8, usize, *const u8, usize, *mut u64, usize) -> u64,
+}
+
+/// The library of this checkout.
+pub const PROVED: Proved = Proved { name: "proved", function: handover_check };
+
+/// The library of an earlier checkout, which `tools/former` puts beside this one's.
+#[cfg(feature = "former")]
+pub const FORMER: Proved = Proved { name: "former", function: former_check };
 
 impl Checker for Proved {
     fn name(&self) -> &'static str {
-        "proved"
+        self.name
     }
 
     fn check(&self, handler: &[u8], proof: &[u8], work: &mut [u64]) -> Verdict {
         // SAFETY: each pointer comes from a slice with the length beside it, and is not null
         // even where the slice is empty; only `work` is written, and nothing else holds it.
         let answer = unsafe {
-            handover_check(
+            (self.function)(
                 handler.as_ptr(),
                 handler.len(),
                 proof.as_ptr(),
