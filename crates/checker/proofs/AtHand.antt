@@ -14,7 +14,7 @@ use Rattle.semantics.specs.declared.Names.{Names}
 use Rattle.semantics.specs.Language.{Expr, Stmt, nil, assign, seq, par, if, while}
 use Rattle.semantics.specs.States.{Machine}
 use Rattle.semantics.specs.Derivations.{Derivation, skip, assignment, sequence, parallel, conditional, iteration, weaken, namesOf, nodes, Tables, setOf, relationOf, specOf}
-use Rattle.semantics.specs.Conditions.{codeOf}
+use Rattle.semantics.specs.Conditions.{statementCode}
 use Rattle.semantics.specs.Checking.{Broken, firstBroken, skipObligations, assignmentObligations, sequenceObligations, parallelObligations, ifObligations, whileObligations, weakenObligations, obligations}
 use Rattle.expressions.specs.Header.{headOf, machineIn}
 use Rattle.expressions.specs.Kinds.{width}
@@ -177,7 +177,7 @@ module _ (env : Decoded) where
     unfolding obligationsIn
     own-skip h S a b =
         by-records _ _ _ _ refl refl a b
-        ∙ (λ j. firstBroken (skipObligations (env .machine-is j .states) (eqb (codeOf S) 0) (spec-is (skip h) (a .known) j)))
+        ∙ (λ j. firstBroken (skipObligations (env .machine-is j .states) (eqb (statementCode S) 0) (spec-is (skip h) (a .known) j)))
 
     pub own-assignment : (h : Names) (S : Stmt) → Means (assignment h) S
     unfolding obligationsIn must
@@ -199,14 +199,14 @@ module _ (env : Decoded) where
       unfolding obligationsIn
       own-sequence a b =
           by-records _ _ _ _ left right a b
-          ∙ (λ j. firstBroken (sequenceObligations (env .machine-is j .states) (eqb (codeOf S) 2) (spec-is (sequence h l r) (a .known) j)
+          ∙ (λ j. firstBroken (sequenceObligations (env .machine-is j .states) (eqb (statementCode S) 2) (spec-is (sequence h l r) (a .known) j)
           (spec-is l (a .known .1) j) (spec-is r (a .known .2) j)))
 
       pub own-parallel : Means (parallel h l r) S
       unfolding obligationsIn
       own-parallel a b =
           by-records _ _ _ _ left right a b
-          ∙ (λ j. firstBroken (parallelObligations (env .machine-is j .states) (eqb (codeOf S) 3) (spec-is (parallel h l r) (a .known) j)
+          ∙ (λ j. firstBroken (parallelObligations (env .machine-is j .states) (eqb (statementCode S) 3) (spec-is (parallel h l r) (a .known) j)
           (spec-is l (a .known .1) j) (spec-is r (a .known .2) j)))
 
     -- Of a node with one child, whose record is known.

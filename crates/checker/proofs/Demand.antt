@@ -10,7 +10,7 @@ use Rattle.semantics.specs.Promise.{Promise}
 use Rattle.semantics.proofs.Soundness.{soundness}
 use Rattle.derivation.specs.Tables.{written}
 use Rattle.checker.specs.declared.Verdict.{Verdict}
-use Rattle.checker.specs.Verdicts.{Answer, tablesIn, rootSpec, answer, workAfter, AcceptedIsSound}
+use Rattle.checker.specs.Verdicts.{CheckResult, tablesIn, rootSpec, answer, workAfter, AcceptedIsSound}
 use Rattle.handler.proofs.Fitting.{stmt-fits}
 use Rattle.handler.proofs.Handlers.{known-handler}
 use Rattle.checker.proofs.Acceptance.{accepted-exactly}
@@ -28,7 +28,7 @@ accepted-is-sound hb pb words = record {
 }
 
 -- A verdict and work words that are those of the answer meet the whole promise.
-pub promised : (hb pb work after : List ℕ) (v : Verdict) (a : Answer) → answer hb pb (length work) ≡ a → v ≡ a .verdict
+pub promised : (hb pb work after : List ℕ) (v : Verdict) (a : CheckResult) → answer hb pb (length work) ≡ a → v ≡ a .verdict
     → after ≡ cond (a .writes) (written (a .words) work) work
     → (v ≡ answer hb pb (length work) .verdict) × ((after ≡ workAfter hb pb work) × AcceptedIsSound hb pb v)
 unfolding workAfter

@@ -31,42 +31,42 @@ tablesOf pb sizes sets =
     record { machine = machineOf sizes; sets = inSetOf pb (product sizes); relations = inRelationOf pb (product sizes) sets }
 
 -- What the check answers and leaves in the work words: whether it writes to them, and what the first 1,040 then hold.
-pub record Answer : Type 0 where
+pub record CheckResult : Type 0 where
   pub verdict : Verdict
   pub writes : Bool
   pub words : ℕ → ℕ
 
 -- 1 and 2 write nothing; every other refusal leaves the words 0.
-abbrev pub untouched : Verdict → Answer
+abbrev pub untouched : Verdict → CheckResult
 untouched v = record { verdict = v; writes = false; words = λ j. 0 }
 
-abbrev pub cleared : Verdict → Answer
+abbrev pub cleared : Verdict → CheckResult
 cleared v = record { verdict = v; writes = true; words = λ j. 0 }
 
-abbrev pub loaded : Verdict → (ℕ → ℕ) → Answer
+abbrev pub loaded : Verdict → (ℕ → ℕ) → CheckResult
 loaded v words = record { verdict = v; writes = true; words = words }
 
 -- 80: the step number is over the limit, at node 0.
-abbrev pub onSteps : ℕ → (ℕ → ℕ) → Answer
+abbrev pub onSteps : ℕ → (ℕ → ℕ) → CheckResult
 onSteps k words = cond (ltb (2 ^ 32 - 1) k) (cleared (refusedAt 80 (Node 0))) (loaded (Accepted k) words)
 
-abbrev pub onFault : Option Broken → ℕ → (ℕ → ℕ) → Answer
+abbrev pub onFault : Option Broken → ℕ → (ℕ → ℕ) → CheckResult
 onFault none k words = onSteps k words
 onFault (some b) k words = cleared (refusedAt (b .number) (Node (b .node)))
 
 module _ (pb : List ℕ) where
-  abbrev pub onProof : List ℕ → Stmt → Proofs.ProofRead → Answer
+  abbrev pub onProof : List ℕ → Stmt → Proofs.ProofRead → CheckResult
   onProof sizes S (Proofs.refused k place) = cleared (refusedAt k (Bit place))
   onProof sizes S (Proofs.proof sets relations root d) =
       onFault (firstFault (tablesOf pb sizes sets) d S 0) (steps (product sizes) S) (tableWord pb (product sizes) sets relations)
 
-  abbrev pub onHandler : HandlerRead → Answer
+  abbrev pub onHandler : HandlerRead → CheckResult
   onHandler (refused k place) = cleared (refusedAt k (Bit place))
   onHandler (handler sizes at S) = onProof sizes S (Proofs.readProof pb (product sizes))
 
 module _ (hb pb : List ℕ) where
   -- The answer to two files with so many work words.
-  unfoldable pub answer : ℕ → Answer
+  unfoldable pub answer : ℕ → CheckResult
   answer words =
       cond (ltb words 1040) (untouched (refusedAt 1 (Bit 0)))
       (cond (ltb 16384 (length hb) || ltb 16384 (length pb)) (untouched (refusedAt 2 (Bit 0))) (onHandler pb (readHandler hb)))

@@ -13,8 +13,8 @@ use Rattle.bits.specs.declared.Field.the-variants.{Value, Missing}
 use Rattle.bits.specs.declared.Fill.{Fill}
 use Rattle.bits.specs.declared.Fill.the-variants.{Ends, Wrong}
 use Rattle.semantics.specs.Derivations.{Derivation, nodes}
-use Rattle.derivation.specs.declared.Tables.{Tables}
-use Rattle.derivation.specs.declared.Tables.the-variants.{Counts, Fault}
+use Rattle.derivation.specs.declared.TablesEnd.{TablesEnd}
+use Rattle.derivation.specs.declared.TablesEnd.the-variants.{Counts, Fault}
 use Rattle.derivation.specs.declared.ProofHead.{ProofHead}
 use Rattle.derivation.specs.declared.ProofFound.{ProofFound}
 use Rattle.derivation.specs.declared.ProofFound.the-variants as Found
@@ -36,7 +36,7 @@ pub record Counted (bytes : List ℕ) (n sets relations at : ℕ) : Type 0 where
   pub root : at ≡ rowAt n sets relations 0
   pub inside : rowAt n sets relations 0 ≤ 8 * length bytes
 
-abbrev CountedIn : List ℕ → ℕ → Tables → Type 0
+abbrev CountedIn : List ℕ → ℕ → TablesEnd → Type 0
 CountedIn bytes n (Fault k place) = Unit {0}
 CountedIn bytes n (Counts sets relations at) = Counted bytes n sets relations at
 
@@ -105,7 +105,7 @@ module _ (bytes : List ℕ) (n : ℕ) where
       root sets relations at t (fault k place) w = tt
       root sets relations at t (whole d count next) w = fill sets relations at count next d t w (fillAt bytes next) refl
 
-      head : (t : Tables) → tablesAt bytes n ≡ t → StagesIn (onTables bytes t)
+      head : (t : TablesEnd) → tablesAt bytes n ≡ t → StagesIn (onTables bytes t)
       head (Fault k place) t = tt
       head (Counts sets relations at) t = root sets relations at t (wholeNode bytes sets relations at) refl
 

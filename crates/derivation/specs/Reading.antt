@@ -6,8 +6,8 @@ use Rattle.bits.specs.Fields.{fillAt}
 use Rattle.bits.specs.declared.Fill.{Fill}
 use Rattle.bits.specs.declared.Fill.the-variants.{Ends, Wrong}
 use Rattle.semantics.specs.Derivations.{Derivation, nodes}
-use Rattle.derivation.specs.declared.Tables.{Tables}
-use Rattle.derivation.specs.declared.Tables.the-variants.{Counts, Fault}
+use Rattle.derivation.specs.declared.TablesEnd.{TablesEnd}
+use Rattle.derivation.specs.declared.TablesEnd.the-variants.{Counts, Fault}
 use Rattle.derivation.specs.declared.ProofFound.{ProofFound}
 use Rattle.derivation.specs.declared.ProofFound.the-variants as Found
 use Rattle.derivation.specs.declared.ProofFile.{ProofFile}
@@ -29,7 +29,7 @@ abbrev pub onNodes : List ℕ → ℕ → ℕ → ℕ → NodeRead → ProofRead
 onNodes bytes sets relations at (fault k place) = refused k place
 onNodes bytes sets relations at (whole d before next) = onFill sets relations at d (fillAt bytes next)
 
-abbrev pub onTables : List ℕ → Tables → ProofRead
+abbrev pub onTables : List ℕ → TablesEnd → ProofRead
 onTables bytes (Fault k place) = refused k place
 onTables bytes (Counts sets relations at) = onNodes bytes sets relations at (wholeNode bytes sets relations at)
 

@@ -8,8 +8,8 @@ use lib.Dec.{leb, ltb, eqb}
 use Rattle.bits.specs.Fields.{bitLength, bitAt, fieldAt}
 use Rattle.bits.specs.declared.Field.{Field}
 use Rattle.bits.specs.declared.Field.the-variants.{Value, Missing}
-use Rattle.derivation.specs.declared.Tables.{Tables}
-use Rattle.derivation.specs.declared.Tables.the-variants.{Counts, Fault}
+use Rattle.derivation.specs.declared.TablesEnd.{TablesEnd}
+use Rattle.derivation.specs.declared.TablesEnd.the-variants.{Counts, Fault}
 
 -- The first bit of set i over n states, and of row s of relation r where there are so many sets.
 unfoldable pub setAt : ℕ → ℕ → ℕ
@@ -26,19 +26,19 @@ tablesThere bytes n sets relations = leb 1 n && leb n 64 && leb (rowAt n sets re
 unfoldable pub isCount : ℕ → Bool
 isCount k = leb 1 k && leb k 16
 
-unfoldable pub relationsRead : List ℕ → ℕ → ℕ → Field → Tables
+unfoldable pub relationsRead : List ℕ → ℕ → ℕ → Field → TablesEnd
 relationsRead bytes n sets Missing = Fault 20 (bitLength bytes)
 relationsRead bytes n sets (Value relations next) =
     cond (isCount relations)
     (cond (tablesThere bytes n sets relations) (Counts sets relations (rowAt n sets relations 0)) (Fault 20 (bitLength bytes)))
     (Fault 21 5)
 
-unfoldable pub setsRead : List ℕ → ℕ → Field → Tables
+unfoldable pub setsRead : List ℕ → ℕ → Field → TablesEnd
 setsRead bytes n Missing = Fault 20 (bitLength bytes)
 setsRead bytes n (Value sets next) = cond (isCount sets) (relationsRead bytes n sets (fieldAt bytes 5 5)) (Fault 21 0)
 
 -- The head of the file: how many sets and relations, and the root node's first bit, or the first fault.
-unfoldable pub tablesAt : List ℕ → ℕ → Tables
+unfoldable pub tablesAt : List ℕ → ℕ → TablesEnd
 tablesAt bytes n = setsRead bytes n (fieldAt bytes 0 5)
 
 -- Whether state s is in set i, and whether (s,t) is in relation r, as the file holds them.

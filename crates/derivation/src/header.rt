@@ -1,5 +1,5 @@
 // The head of the proof file: its two counts, and whether its sets and relations are there in full.
-use super::Tables;
+use super::TablesEnd;
 use bits::Field;
 ghost use mathlib.Core.Path.{_≡_};
 ghost use Prim.Native.Nat.{_≤_};
@@ -17,7 +17,7 @@ fn is_count(k: u64) -> bool
 }
 
 // The first bit of a relation's row; the root node is where the first relation too many would be.
-pub(crate) fn row_at(n: usize, sets: usize, relation: usize, state: usize) -> usize
+pub(crate) fn row_cursor(n: usize, sets: usize, relation: usize, state: usize) -> usize
     requires { ⌜ (n ≤ 64) × (sets ≤ 16) × (relation ≤ 16) × (state ≤ 64) ⌝ }
     ensures { λ r. ⌜ r ≡ rowAt n sets relation state ⌝ }
 {
@@ -32,38 +32,38 @@ fn are_there(src: &[u8], n: u32, sets: u32, relations: u32) -> bool
     if n < 1 || n > 64 {
         return false;
     }
-    let end = row_at(n as usize, sets as usize, relations as usize, 0);
+    let end = row_cursor(n as usize, sets as usize, relations as usize, 0);
     bits::has_bits(src, 0, end)
 }
 
 // The number of relations, and then the tables of a file with so many sets.
-fn read_relations(src: &[u8], n: u32, sets: u32) -> Tables
+fn read_relations(src: &[u8], n: u32, sets: u32) -> TablesEnd
     requires { ⌜ sets ≤ 16 ⌝ }
     ensures { λ r. ⌜ r ≡ relationsRead (now (src .entry)) n sets (fieldAt (now (src .entry)) 5 5) ⌝ }
 {
     let Field::Value(count, _) = bits::read(src, 5, 5) else {
-        return Tables::Fault(20, bits::bit_length(src));
+        return TablesEnd::Fault(20, bits::bit_length(src));
     };
     if is_count(count) {
         let relations = count as u32;
         if are_there(src, n, sets, relations) {
-            let root = row_at(n as usize, sets as usize, relations as usize, 0);
-            return Tables::Counts(sets, relations, root);
+            let root = row_cursor(n as usize, sets as usize, relations as usize, 0);
+            return TablesEnd::Counts(sets, relations, root);
         }
-        return Tables::Fault(20, bits::bit_length(src));
+        return TablesEnd::Fault(20, bits::bit_length(src));
     }
-    Tables::Fault(21, 5)
+    TablesEnd::Fault(21, 5)
 }
 
 // The head of a proof file over n states, or its first fault.
-pub fn read_tables(src: &[u8], n: u32) -> Tables
+pub fn read_tables(src: &[u8], n: u32) -> TablesEnd
     ensures { λ r. ⌜ r ≡ tablesAt (now (src .entry)) n ⌝ }
 {
     let Field::Value(sets, _) = bits::read(src, 0, 5) else {
-        return Tables::Fault(20, bits::bit_length(src));
+        return TablesEnd::Fault(20, bits::bit_length(src));
     };
     if is_count(sets) {
         return read_relations(src, n, sets as u32);
     }
-    Tables::Fault(21, 0)
+    TablesEnd::Fault(21, 0)
 }

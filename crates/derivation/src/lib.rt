@@ -28,7 +28,7 @@ pub const MOST_NODES: usize = 127;
 pub const MOST_LEVELS: u32 = 24;
 
 // What the head of the file finds over N states: how many sets and relations, and the root node's first bit; or a fault.
-pub enum Tables {
+pub enum TablesEnd {
     Counts(u32, u32, usize),
     Fault(u32, usize),
 }

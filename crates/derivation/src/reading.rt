@@ -4,7 +4,7 @@ use super::NodeEnd;
 use super::ProofFile;
 use super::ProofFound;
 use super::ProofHead;
-use super::Tables;
+use super::TablesEnd;
 use super::header;
 use super::nodes;
 use super::words;
@@ -24,8 +24,8 @@ fn read_into(src: &[u8], n: u32, table: &mut [u64; MOST_NODES]) -> ProofFound
         → now (table .exit) ≡ stored (now (table .entry)) 0 (nodeWords 0 at d)) ⌝ }
 {
     match header::read_tables(src, n) {
-        Tables::Fault(fault, place) => ProofFound::Fault(fault, place),
-        Tables::Counts(sets, relations, root) => {
+        TablesEnd::Fault(fault, place) => ProofFound::Fault(fault, place),
+        TablesEnd::Counts(sets, relations, root) => {
             match nodes::read_nodes(src, sets, relations, root, table) {
                 NodeEnd::Fault(fault, place) => ProofFound::Fault(fault, place),
                 NodeEnd::Ends(nodes, next) => match bits::read_fill(src, next) {

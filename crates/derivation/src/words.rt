@@ -1,5 +1,5 @@
 // The work words: a word for each set and for each row of a relation, as document 01 lays them out.
-use super::header::row_at;
+use super::header::row_cursor;
 ghost use mathlib.Core.List.{List};
 ghost use mathlib.Core.Path.{_≡_};
 ghost use Prim.Native.Nat.{ℕ, _+_, _*_, _/_, _%_, _^_, _≤_, _<_, min};
@@ -54,7 +54,7 @@ fn table_word(src: &[u8], n: usize, sets: usize, relations: usize, j: usize) -> 
     if relation >= relations || state >= n {
         return 0;
     }
-    word_at(src, row_at(n, sets, relation, state), n)
+    word_at(src, row_cursor(n, sets, relation, state), n)
 }
 
 // The next word after word j that a table may have: rows past the n states of a relation have none.

@@ -7,7 +7,7 @@ use native.Mathlib.Omega.{arith}
 use lib.ListN.{length, getD, drop, replicate, length-append}
 use lib.Seq.{getD-drop, drop-at, drop-drop, sets, sets-eq}
 use Rattle.semantics.specs.Language.{Stmt, nil, assign, seq, par, if, while}
-use Rattle.semantics.specs.Conditions.{codeOf, targetOf}
+use Rattle.semantics.specs.Conditions.{statementCode, targetOf}
 use Rattle.expressions.specs.Kinds.{width}
 use Rattle.handler.specs.declared.table.Statement.{Statement}
 use Rattle.handler.specs.Kinds.{stmtWidth}
@@ -96,7 +96,7 @@ module _ (table : List ℕ) (j bit : ℕ) where
   first-word (if e b) rest = refl
   first-word (while e b) rest = refl
 
-  code-small : (S : Stmt) → codeOf S < 8
+  code-small : (S : Stmt) → statementCode S < 8
   code-small nil = omega arith
   code-small (assign v e) = omega arith
   code-small (seq l r) = omega arith

@@ -5,7 +5,7 @@ use mathlib.Core.Path.{_≡_}
 use lib.ListN.{getD, replicate}
 use lib.Seq.{sets}
 use Rattle.semantics.specs.Language.{Stmt, nil, assign, seq, par, if, while}
-use Rattle.semantics.specs.Conditions.{codeOf, targetOf}
+use Rattle.semantics.specs.Conditions.{statementCode, targetOf}
 use Rattle.expressions.specs.Kinds.{width}
 use Rattle.handler.specs.declared.table.Statement.{Statement}
 use Rattle.handler.specs.Kinds.{stmtWidth}
@@ -51,7 +51,7 @@ exprBit bit (while e b) = bit + 3
 
 -- The record of a statement that is number j, at a bit.
 abbrev pub statementRecord : ℕ → ℕ → Stmt → Statement
-statementRecord j bit S = record { code = codeOf S; target = targetOf S; after = afterFirst j S; expr = exprBit bit S }
+statementRecord j bit S = record { code = statementCode S; target = targetOf S; after = afterFirst j S; expr = exprBit bit S }
 
 -- The word of a statement that is number j, at a bit.
 unfoldable pub wordOf : ℕ → ℕ → Stmt → ℕ

@@ -12,7 +12,7 @@ use Rattle.states.specs.Search.{Search, must}
 use Rattle.states.proofs.Search.{and-left, and-right, or-cases, must-none}
 use Rattle.states.proofs.Reach.{Between}
 use Rattle.semantics.specs.Language.{Stmt, nil, assign, seq, par, if, while}
-use Rattle.semantics.specs.Conditions.{codeOf, targetOf, exprOf, firstOf, secondOf}
+use Rattle.semantics.specs.Conditions.{statementCode, targetOf, exprOf, firstOf, secondOf}
 use Rattle.semantics.specs.Checking.{Condition, Broken, orNumber, firstBroken, orBroken, atNode}
 
 -- Every condition of a list holds.
@@ -42,7 +42,7 @@ made k S =
     getD (nil ∷ assign (targetOf S) (exprOf S) ∷ seq (firstOf S) (secondOf S) ∷ par (firstOf S) (secondOf S)
     ∷ if (exprOf S) (firstOf S) ∷ while (exprOf S) (firstOf S) ∷ []) k nil
 
-made-whole : (S : Stmt) → made (codeOf S) S ≡ S
+made-whole : (S : Stmt) → made (statementCode S) S ≡ S
 made-whole nil = refl
 made-whole (assign v e) = refl
 made-whole (seq l r) = refl
@@ -50,8 +50,8 @@ made-whole (par l r) = refl
 made-whole (if e b) = refl
 made-whole (while e b) = refl
 
-pub says30 : (S : Stmt) (k : ℕ) → must (eqb (codeOf S) k) ≡ none → made k S ≡ S
-says30 S k e = ap (λ x. made x S) (sym (eqb-true (codeOf S) k (must-none _ e))) ∙ made-whole S
+pub says30 : (S : Stmt) (k : ℕ) → must (eqb (statementCode S) k) ≡ none → made k S ≡ S
+says30 S k e = ap (λ x. made x S) (sym (eqb-true (statementCode S) k (must-none _ e))) ∙ made-whole S
 
 none-must : (b : Bool) → b ≡ true → must b ≡ none
 unfolding must

@@ -10,7 +10,7 @@ use mathlib.Core.Option.{Option, some}
 use Rattle.states.proofs.Search.{and-left, and-right, true-or-false}
 use Rattle.semantics.specs.Language.{Val, int, truth, Expr, lit, var, op, Stmt, nil, assign, seq, par, if, while}
 use Rattle.semantics.specs.States.{Machine}
-use Rattle.semantics.specs.Steps.{Config, at, within, isNil, onlyIf, result, branch, storing, exprTurns, turns}
+use Rattle.semantics.specs.Steps.{Config, at, inContext, isNil, onlyIf, result, branch, storing, exprTurns, turns}
 use Rattle.semantics.proofs.Safe.{Star, stay, Each, end, and, Safe, Later, later, later-left, star-one, star-trans, star-map, each-append, each-map, safe-now, safe-intro, safe-later, safe-more}
 
 unfoldable pub isEmpty : {A : Type 0} → List A → Bool
@@ -108,7 +108,7 @@ safe-seq (suc k) n j {L} {T} lt x y =
     record {
       ended = λ e. absurd (false≢true e);
       stepped = each-append _ _
-          (each-map (within (λ d. seq d T)) (λ c q.
+          (each-map (inContext (λ d. seq d T)) (λ c q.
           let (i, e, x′) = later-left (q .1) in
           (q .0, later (safe-seq k i j (omega arith) x′ y))) _ (now .stepped))
           (each-only (isNil L) (at T t) (λ h. (inl refl, later (safe-more (omega arith) (y t (now .ended h))))));
@@ -147,13 +147,13 @@ safe-par joint (suc k) n j {L} {T} s₀ lt from post x y =
     record {
       ended = λ e. absurd (false≢true e);
       stepped = each-append _ _ (each-append _ _
-          (each-map (within (λ d. par d T)) (λ c q.
+          (each-map (inContext (λ d. par d T)) (λ c q.
           let (i, e, x′) = later-left (q .1) in (
             ⊎-map (λ e. e) (joint .left-kept _ _) (q .0),
             later (safe-par joint k i j s₀ (omega arith) (star-trans reached (kept-star (λ a b g. inr (inl g)) (q .0))) post
                 x′ (safe-later right (kept-star (joint .left-right) (q .0)))),
           )) _ (safe-now left t stay .stepped))
-          (each-map (within (λ d. par L d)) (λ c q.
+          (each-map (inContext (λ d. par L d)) (λ c q.
           let (i, e, y′) = later-left (q .1) in (
             ⊎-map (λ e. e) (joint .right-kept _ _) (q .0),
             later (safe-par joint k n i s₀ (omega arith) (star-trans reached (kept-star (λ a b g. inr (inr g)) (q .0))) post

@@ -15,7 +15,7 @@ use Rattle.semantics.specs.Language.{Expr, Stmt, seq, par, if, while, fi
 use Rattle.semantics.specs.States.{Machine}
 use Rattle.semantics.specs.StepNumber.{E, steps}
 use Rattle.semantics.specs.Derivations.{Derivation, skip, assignment, sequence, parallel, conditional, iteration, weaken, namesOf, nodes, Tables, Spec, setOf, relationOf, specOf}
-use Rattle.semantics.specs.Conditions.{codeOf, targetOf, exprOf, firstOf, secondOf, occurrences, sameSet, sameRelation, relationLiesIn, isTrue, isFalse, moves, c31, c32, c33, c45, c46, c34if, c34while, c50, c51, c52, c53, c54, c55, c56, c34sequence, c60, c61, c34parallel, c65, c66, c70, c71, c72, c73}
+use Rattle.semantics.specs.Conditions.{statementCode, targetOf, exprOf, firstOf, secondOf, occurrences, sameSet, sameRelation, relationLiesIn, isTrue, isFalse, moves, c31, c32, c33, c45, c46, c34if, c34while, c50, c51, c52, c53, c54, c55, c56, c34sequence, c60, c61, c34parallel, c65, c66, c70, c71, c72, c73}
 use Rattle.semantics.specs.Checking.{obligations, firstFault}
 use Rattle.semantics.specs.Promise.{Promise}
 use Rattle.semantics.proofs.Safe.{stay, star-keeps, Safe, safe-weaken}
@@ -160,7 +160,7 @@ module _ (t : Tables) where
       (s : ℕ) → specOf t (namesOf d) .P s ≡ true → SafeAt (t .machine) (specOf t (namesOf d)) (steps (t .machine .states) S) S s
 
   -- What is safe for the statement that condition 30 says stands at a node is safe for the statement at hand.
-  as-made : (d : Derivation) (S : Stmt) (k : ℕ) → must (eqb (codeOf S) k) ≡ none → kindsFit S ≡ true
+  as-made : (d : Derivation) (S : Stmt) (k : ℕ) → must (eqb (statementCode S) k) ≡ none → kindsFit S ≡ true
       → (kindsFit (made k S) ≡ true → Sound d (made k S)) → Sound d S
   as-made d S k e30 kinds safe =
       let is = says30 S k e30 in

@@ -9,7 +9,7 @@ use Rattle.states.specs.Search.{Search, must}
 use Rattle.semantics.specs.Language.{Expr, Stmt}
 use Rattle.semantics.specs.States.{Machine}
 use Rattle.semantics.specs.Derivations.{Derivation, skip, assignment, sequence, parallel, conditional, iteration, weaken, namesOf, nodes, Tables, Spec, setOf, relationOf, specOf}
-use Rattle.semantics.specs.Conditions.{codeOf, targetOf, exprOf, firstOf, secondOf, isTrue, isFalse, c31, c32, c33, c35, c40, c41, c42, c43, c34if, c45, c46, c34while, c50, c51, c52, c53, c54, c55, c56, c34sequence, c60, c61, c34parallel, c65, c66, c70, c71, c72, c73}
+use Rattle.semantics.specs.Conditions.{statementCode, targetOf, exprOf, firstOf, secondOf, isTrue, isFalse, c31, c32, c33, c35, c40, c41, c42, c43, c34if, c45, c46, c34while, c50, c51, c52, c53, c54, c55, c56, c34sequence, c60, c61, c34parallel, c65, c66, c70, c71, c72, c73}
 
 -- A condition by its number, and what looking for a breach of it finds.
 pub record Condition : Type 0 where
@@ -118,12 +118,12 @@ module _ (t : Tables) where
 
   -- A node's conditions over the statement at hand; weaken fits every statement.
   abbrev pub obligations : Derivation → Stmt → List Condition
-  obligations (skip h) S = skipObligations (t .machine .states) (eqb (codeOf S) 0) (specOf t h)
-  obligations (assignment h) S = assignmentObligations (t .machine) (eqb (codeOf S) 1) (specOf t h) (targetOf S) (exprOf S)
-  obligations (sequence h l r) S = sequenceObligations (t .machine .states) (eqb (codeOf S) 2) (specOf t h) (specOn l) (specOn r)
-  obligations (parallel h l r) S = parallelObligations (t .machine .states) (eqb (codeOf S) 3) (specOf t h) (specOn l) (specOn r)
-  obligations (conditional h d) S = ifObligations (t .machine) (eqb (codeOf S) 4) (specOf t h) (exprOf S) (specOn d)
-  obligations (iteration h k w d) S = whileObligations (t .machine) (eqb (codeOf S) 5) (specOf t h) (exprOf S) (setOf t k) (relationOf t w) (specOn d)
+  obligations (skip h) S = skipObligations (t .machine .states) (eqb (statementCode S) 0) (specOf t h)
+  obligations (assignment h) S = assignmentObligations (t .machine) (eqb (statementCode S) 1) (specOf t h) (targetOf S) (exprOf S)
+  obligations (sequence h l r) S = sequenceObligations (t .machine .states) (eqb (statementCode S) 2) (specOf t h) (specOn l) (specOn r)
+  obligations (parallel h l r) S = parallelObligations (t .machine .states) (eqb (statementCode S) 3) (specOf t h) (specOn l) (specOn r)
+  obligations (conditional h d) S = ifObligations (t .machine) (eqb (statementCode S) 4) (specOf t h) (exprOf S) (specOn d)
+  obligations (iteration h k w d) S = whileObligations (t .machine) (eqb (statementCode S) 5) (specOf t h) (exprOf S) (setOf t k) (relationOf t w) (specOn d)
   obligations (weaken h d) S = weakenObligations (t .machine .states) (specOf t h) (specOn d)
 
   -- The first fault of a derivation of a statement whose root has a number: the node's own, then its children's.

@@ -11,13 +11,13 @@ use Rattle.semantics.specs.Derivations.{Spec}
 use lib.IntN.{pos}
 
 -- A statement by its code and its parts, so that a rule can be held to any statement.
-abbrev pub codeOf : Stmt → ℕ
-codeOf nil = 0
-codeOf (assign v e) = 1
-codeOf (seq l r) = 2
-codeOf (par l r) = 3
-codeOf (if e b) = 4
-codeOf (while e b) = 5
+abbrev pub statementCode : Stmt → ℕ
+statementCode nil = 0
+statementCode (assign v e) = 1
+statementCode (seq l r) = 2
+statementCode (par l r) = 3
+statementCode (if e b) = 4
+statementCode (while e b) = 5
 
 abbrev pub targetOf : Stmt → ℕ
 targetOf nil = 0

@@ -16,8 +16,8 @@ abbrev pub at : Stmt → ℕ → Config
 at S s = record { rest = S; state = s }
 
 -- The same step with what it leaves put back into its place in the whole.
-abbrev pub within : (Stmt → Stmt) → Config → Config
-within f c = at (f (c .rest)) (c .state)
+abbrev pub inContext : (Stmt → Stmt) → Config → Config
+inContext f c = at (f (c .rest)) (c .state)
 
 abbrev pub isNil : Stmt → Bool
 isNil nil = true
@@ -63,9 +63,9 @@ module _ (m : Machine) where
   abbrev pub turns : Stmt → ℕ → List (Option Config)
   turns nil s = []
   turns (assign v e) s = map (Option·map (λ d. at (assign v d) s)) (exprTurns e s) ++ storing v e s
-  turns (seq l r) s = map (Option·map (within (λ d. seq d r))) (turns l s) ++ onlyIf (isNil l) (some (at r s))
+  turns (seq l r) s = map (Option·map (inContext (λ d. seq d r))) (turns l s) ++ onlyIf (isNil l) (some (at r s))
   turns (par l r) s =
-      map (Option·map (within (λ d. par d r))) (turns l s) ++ map (Option·map (within (λ d. par l d))) (turns r s)
+      map (Option·map (inContext (λ d. par d r))) (turns l s) ++ map (Option·map (inContext (λ d. par l d))) (turns r s)
       ++ onlyIf (isNil l && isNil r) (some (at nil s))
   turns (if e b) s = map (Option·map (λ d. at (if d b) s)) (exprTurns e s) ++ branch e b s
   turns (while e b) s = some (at (if e (seq b (while e b))) s) ∷ []

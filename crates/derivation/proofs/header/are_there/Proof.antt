@@ -22,7 +22,7 @@ returns-2 : tie.Need-returns-2
 unfolding tablesThere hasBits
 returns-2 c =
     let a = c .before .before .before .before .before .args in
-    simp (le-leb 1 (a .n) (omega arith), le-leb (a .n) 64 (omega (arith, ltb-false)), ← c .before .row-at .ensures)
+    simp (le-leb 1 (a .n) (omega arith), le-leb (a .n) 64 (omega (arith, ltb-false)), ← c .before .row-cursor .ensures)
     (simp zero-add at (c .has-bits .ensures))
 
 pub are-there-spec : {M : Type 1} → statement M

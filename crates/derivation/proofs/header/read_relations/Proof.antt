@@ -6,7 +6,7 @@ use native.Mathlib.Omega.{arith}
 use borrow.Author.Needs.{needs}
 use borrow.Author.Tests.{leb-true}
 use Rattle.bits.specs.Fields.{bitLength, fieldAt}
-use Rattle.derivation.specs.declared.Tables.the-variants.{Counts, Fault}
+use Rattle.derivation.specs.declared.TablesEnd.the-variants.{Counts, Fault}
 use Rattle.derivation.specs.Tables.{rowAt, tablesThere, relationsRead}
 use Rattle.derivation.proofs.Counts.{count-range}
 use Rattle.derivation.proofs.header.read_relations.Statement.{statement}
@@ -19,9 +19,9 @@ returns c = rw (← c .before .before .before .read .ensures, c .before .enum-to
 counted : (c : tie.Then1) → (1 ≤ c .before .before .before .count .given .0 .0) × (c .before .before .before .count .given .0 .0 ≤ 16)
 counted c = count-range _ (sym (c .before .is-count .ensures) ∙ c .if1 .taken)
 
-row-at-requires : tie.Need-row-at-requires
+row-cursor-requires : tie.Need-row-cursor-requires
 unfolding tablesThere
-row-at-requires c κs =
+row-cursor-requires c κs =
     let tests = simp and-eq-true-iff at (sym (c .before .are-there .ensures) ∙ c .if2 .taken) in
     omega (arith, leb-true, counted (c .before .before))
 
@@ -44,7 +44,7 @@ judged c =
     )
 
 returns-2 : tie.Need-returns-2
-returns-2 c = rw (c .row-at .ensures) (sym (rw (c .before .if2 .taken) at (judged (c .before .before))))
+returns-2 c = rw (c .row-cursor .ensures) (sym (rw (c .before .if2 .taken) at (judged (c .before .before))))
 
 returns-3 : tie.Need-returns-3
 returns-3 c = rw (c .bit-length2 .ensures) (sym (rw (c .before .if2 .left) at (judged (c .before .before))))
@@ -69,7 +69,7 @@ read-relations-spec =
     (λ c. omega (arith, counted c))
     (λ c κs. omega (arith, counted c))
     (λ c. search needs)
-    row-at-requires
+    row-cursor-requires
     returns-2
     (λ c κs. search needs)
     returns-3

@@ -2,7 +2,7 @@
 use mathlib.Core.Path.{_≡_, sym, _∙_}
 use native.Mathlib.Omega.{arith}
 use borrow.Author.Needs.{needs}
-use Rattle.derivation.specs.declared.Tables.the-variants.{Counts}
+use Rattle.derivation.specs.declared.TablesEnd.the-variants.{Counts}
 use Rattle.derivation.specs.Tables.{tablesAt}
 use Rattle.derivation.proofs.Counts.{row-small}
 use Rattle.derivation.proofs.Files.{counted, no-tables, no-nodes, wrong-fill, whole-file}

@@ -41,7 +41,7 @@ returns-4 c =
       le-ltb _ 16 (row .before .before .if1 .left),
       lt-ltb _ _ (row .before .if3 .left),
       lt-ltb _ _ (leb-false _ _ (row .if4 .left)),
-      ← c .before .row-at .ensures,
+      ← c .before .row-cursor .ensures,
     )
     (c .word-at2 .ensures)
 

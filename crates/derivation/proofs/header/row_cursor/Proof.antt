@@ -4,8 +4,8 @@ use mathlib.Core.Path.{refl}
 use native.Mathlib.Omega.{arith}
 use Rattle.derivation.specs.Tables.{rowAt}
 use Rattle.derivation.proofs.Counts.{row-offsets}
-use Rattle.derivation.proofs.header.row_at.Statement.{statement}
-use Rattle.derivation.proofs.header.row_at.Tie as tie
+use Rattle.derivation.proofs.header.row_cursor.Statement.{statement}
+use Rattle.derivation.proofs.header.row_cursor.Tie as tie
 
 small : (c : tie.Start) → (c .args .n * c .args .relation ≤ 1024) × (c .args .n * (c .args .sets + c .args .n * c .args .relation + c .args .state) ≤ 64 * 1104)
 small c =
@@ -17,8 +17,8 @@ returns : tie.Need-returns
 unfolding rowAt
 returns c = refl
 
-pub row-at-spec : {M : Type 1} → statement M
-row-at-spec =
+pub row-cursor-spec : {M : Type 1} → statement M
+row-cursor-spec =
     tie.close
     (tie.spec
     (λ c. omega (arith, small c))
