@@ -56,7 +56,7 @@ module _ (env : Decoded) where
       ∙ on-from i s bit place d S a count none (faults env count (i + nodes d) (s + statements S)) means (is ∙ sym (or-none (atNode i (firstBroken (obligations (env .tables) d S)))))
       (λ holds. let last : s + statements S ≡ suc s = omega (arith, alone holds) in rw (after, next, last))
 
-  -- What is found below a node with two children, and below one with one, where the node's own env conditions hold.
+  -- What is found below a node with two children, and below one with one, where the node's own conditions hold.
   module _ (i s : ℕ) where
     Two : (l r : Derivation) (count : ℕ) → Stmt → Type 0
     Two l r count X =

@@ -27,7 +27,7 @@ abbrev pub Lossless : Verdict → Type 0
 Lossless (Accepted n) = n < 2 ^ 32
 Lossless (Refused f) = (0 < f .number) × (f .number < 2 ^ 31) × (indexOf (f .place) < 2 ^ 32)
 
--- The verdict that a number stands for.
+-- The verdict that a number encodes.
 unfoldable pub decoded : ℕ → Verdict
 decoded code =
     cond (ltb code (2 ^ 32)) (Accepted code)

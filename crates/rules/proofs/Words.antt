@@ -38,7 +38,7 @@ relation-small n work r s = rel-small n _ s
 pub ends-small : (n : ℕ) (p : ℕ → Bool) (rows : List ℕ) → Small n (λ t. any n (λ s. p s && rel n rows s t))
 ends-small n p rows t h = let w = any-true n _ h in rel-small n rows (w .0) t (and-right (p (w .0)) _ (w .2))
 
--- Sets told by their members.
+-- Sets given by their members.
 pub leads-cong : (n : ℕ) (r : ℕ → ℕ → Bool) (x y : StateSet) (p q : ℕ → Bool) → ((s : ℕ) → has x s ≡ p s) → ((s : ℕ) → has y s ≡ q s)
     → holds (inSet n (has x) (λ s. inSet n (r s) (λ t. must (has y t)))) ≡ holds (inSet n p (λ s. inSet n (r s) (λ t. must (q t))))
 leads-cong n r x y p q from into = ap₂ (λ p q. holds (inSet n p (λ s. inSet n (r s) (λ t. must (q t))))) (fun-ext from) (fun-ext into)

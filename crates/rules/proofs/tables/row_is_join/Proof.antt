@@ -1,4 +1,4 @@
--- The sets told by their members.
+-- The sets given by their members.
 use mathlib.Core.Path.{_∙_, ap₂}
 use mathlib.Core.Bool.{_||_}
 use borrow.Author.Needs.{needs}
