@@ -16,11 +16,10 @@ use Rattle.semantics.specs.States.{Machine}
 use Rattle.semantics.specs.Derivations.{Derivation, skip, assignment, sequence, parallel, conditional, iteration, weaken, namesOf, nodes, Tables, setOf, relationOf, specOf}
 use Rattle.semantics.specs.Conditions.{statementCode}
 use Rattle.semantics.specs.Checking.{Broken, firstBroken, skipObligations, assignmentObligations, sequenceObligations, parallelObligations, ifObligations, whileObligations, weakenObligations, obligations}
-use Rattle.expressions.specs.Header.{headOf, machineIn}
-use Rattle.expressions.specs.Kinds.{width}
+use Rattle.handler.specs.Header.{headOf, machineIn}
 use Rattle.evaluation.specs.Values.{exprIn}
 use Rattle.evaluation.proofs.Laws.{expr-read}
-use Rattle.handler.specs.Kinds.{stmtWidth}
+use Rattle.handler.specs.Kinds.{width, stmtWidth}
 use Rattle.handler.specs.StatementTable.{statements, statementIn, statementRecord}
 use Rattle.handler.proofs.StmtFolds.{TargetsBelow}
 use Rattle.handler.proofs.Parts.{Stands, StandsExpr, parts}

@@ -12,9 +12,9 @@ use Rattle.semantics.specs.States.{product}
 use Rattle.semantics.specs.StepNumber.{steps}
 use Rattle.semantics.specs.Derivations.{Derivation, nodes}
 use Rattle.semantics.specs.Checking.{Broken, firstFault}
-use Rattle.expressions.specs.declared.head.Head.{Head}
-use Rattle.expressions.specs.Header.{headOf}
-use Rattle.expressions.proofs.Heads.{Declared, head-read}
+use Rattle.handler.specs.declared.head.Head.{Head}
+use Rattle.handler.specs.Header.{headOf}
+use Rattle.handler.proofs.Heads.{Declared, head-read}
 use Rattle.handler.specs.declared.HandlerFile.{HandlerFile}
 use Rattle.handler.specs.declared.HandlerSummary.{HandlerSummary}
 use Rattle.handler.specs.declared.HandlerFound.the-variants as HandlerFound

@@ -8,7 +8,7 @@ use mathlib.Core.List.{List}
 use lib.Dec.{eqb}
 use mathlib.Core.Option.{none, some}
 use Rattle.semantics.specs.Checking.{firstBroken}
-use Rattle.expressions.specs.declared.head.Head.{Head}
+use Rattle.handler.specs.declared.head.Head.{Head}
 use Rattle.derivation.specs.NodeTable.{nodeIn}
 use Rattle.rules.specs.declared.NodeVerdict.the-variants.{Holds, Breaks}
 use Rattle.rules.specs.Asking.{askedAll}

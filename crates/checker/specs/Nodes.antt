@@ -5,7 +5,7 @@ use mathlib.Core.List.{List}
 use mathlib.Core.Option.{Option, none, some}
 use lib.Dec.{eqb}
 use Rattle.semantics.specs.Checking.{Condition, Broken, firstBroken, orBroken, atNode}
-use Rattle.expressions.specs.declared.head.Head.{Head}
+use Rattle.handler.specs.declared.head.Head.{Head}
 use Rattle.handler.specs.StatementTable.{statementIn}
 use Rattle.derivation.specs.declared.Node.{Node}
 use Rattle.derivation.specs.NodeTable.{nodeIn}

@@ -7,8 +7,8 @@ use lib.Dec.{ltb}
 use Rattle.semantics.specs.Language.{Stmt}
 use Rattle.semantics.specs.States.{product}
 use Rattle.semantics.specs.StepNumber as StepNumber
-use Rattle.expressions.specs.declared.head.Head.{Head}
-use Rattle.expressions.specs.Header.{headOf}
+use Rattle.handler.specs.declared.head.Head.{Head}
+use Rattle.handler.specs.Header.{headOf}
 use Rattle.handler.specs.Reading.{handler, readHandler}
 use Rattle.handler.specs.StatementTable.{statementTable}
 use Rattle.checker.specs.declared.Place.the-variants.{Node}

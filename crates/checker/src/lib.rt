@@ -2,8 +2,8 @@
 use derivation::ProofFound;
 use derivation::reading::load;
 use derivation::words::clear;
-use expressions::head::Head;
 use handler::HandlerFound;
+use handler::head::Head;
 use handler::reading::read_handler;
 use nodes::FirstFault;
 use nodes::first_fault;

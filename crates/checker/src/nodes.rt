@@ -2,7 +2,7 @@
 // is of the next statement, so that one counter says which statement is at hand.
 use derivation::WEAKEN;
 use derivation::table::node_at;
-use expressions::head::Head;
+use handler::head::Head;
 use handler::table::statement_at;
 use rules::NodeVerdict;
 use rules::node_fault;

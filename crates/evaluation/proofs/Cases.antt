@@ -10,9 +10,9 @@ use Rattle.semantics.specs.Language.{int}
 use Rattle.semantics.specs.States.{value}
 use Rattle.semantics.specs.Conditions.{isTrue, isFalse, afterStore}
 use Rattle.bits.specs.Fields.{bitLength, bitAt, bitsAt, isThere, fieldAt}
-use Rattle.expressions.specs.declared.head.Head.{Head}
-use Rattle.expressions.specs.Header.{headOf, inLimits, isHead, sizesIn, machineIn}
-use Rattle.expressions.specs.Expressions.{signed, integerHead, truthHead, variableHead, operationHead, payloadHead, tagHead, exprHead, exprAt, wholeExpr}
+use Rattle.handler.specs.declared.head.Head.{Head}
+use Rattle.handler.specs.Header.{headOf, inLimits, isHead, sizesIn, machineIn}
+use Rattle.handler.specs.Expressions.{signed, integerHead, truthHead, variableHead, operationHead, payloadHead, tagHead, exprHead, exprAt, wholeExpr}
 use Rattle.evaluation.specs.Values.{exprIn, agree, variableIn, isSmall, agreeIn}
 
 -- Variables 0 and 1, at bits 13 and 17.

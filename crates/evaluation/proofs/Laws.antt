@@ -16,10 +16,10 @@ use Rattle.semantics.specs.Language.{Val, int, truth, Expr, eqZ}
 use Rattle.semantics.specs.States.{product, weight, valueOf, stored, machineOf, value, storeOf}
 use Rattle.semantics.specs.Conditions.{afterStore}
 use Rattle.semantics.proofs.Storing.{store-read}
-use Rattle.expressions.specs.declared.head.Head.{Head}
-use Rattle.expressions.specs.Header.{isHead, sizesIn, machineIn}
-use Rattle.expressions.specs.Expressions.{good, wholeExpr}
-use Rattle.expressions.proofs.Heads.{size-past, known-head}
+use Rattle.handler.specs.declared.head.Head.{Head}
+use Rattle.handler.specs.Header.{isHead, sizesIn, machineIn}
+use Rattle.handler.specs.Expressions.{good, wholeExpr}
+use Rattle.handler.proofs.Heads.{size-past, known-head}
 use Rattle.evaluation.specs.declared.Variable.{Variable}
 use Rattle.evaluation.specs.Values.{exprIn, leadsTo, agree, variableIn, valueBy, isSmall, agreeIn}
 use Rattle.evaluation.specs.Refinement.{storedBy}

@@ -6,8 +6,8 @@ use mathlib.Core.List.{List, [], _∷_}
 use mathlib.Core.Path.{_≡_, refl}
 use lib.ListN.{getD, drop, length-take, drop-of-length-le}
 use Rattle.semantics.specs.States.{product}
-use Rattle.expressions.specs.declared.head.Head.{Head}
-use Rattle.expressions.specs.Header.{sizesIn}
+use Rattle.handler.specs.declared.head.Head.{Head}
+use Rattle.handler.specs.Header.{sizesIn}
 
 -- A factor of a product that is not 0.
 factor : (a b : ℕ) → 0 < a * b → (0 < b) × (b ≤ a * b)

@@ -13,10 +13,10 @@ use Rattle.states.specs.declared.StateSet.{StateSet}
 use Rattle.states.specs.Sets.{has}
 use Rattle.semantics.specs.Language.{Val, int, truth, Expr, lit, var, apply}
 use Rattle.semantics.specs.States.{Machine, value, both}
-use Rattle.expressions.specs.declared.ExprHead.{ExprHead}
-use Rattle.expressions.specs.declared.ExprHead.the-variants as head
-use Rattle.expressions.specs.Expressions.{exprHead, ExprRead, good, bad, joined, operands, onExprHead, exprAt, wholeExpr}
-use Rattle.expressions.proofs.Folds.{Headed, headed-as, expr-step, inner-step}
+use Rattle.handler.specs.declared.expressions.ExprHead.{ExprHead}
+use Rattle.handler.specs.declared.expressions.ExprHead.the-variants as head
+use Rattle.handler.specs.Expressions.{exprHead, ExprRead, good, bad, joined, operands, onExprHead, exprAt, wholeExpr}
+use Rattle.handler.proofs.Folds.{Headed, headed-as, expr-step, inner-step}
 use Rattle.evaluation.specs.declared.Values.{Values}
 use Rattle.evaluation.specs.Values.{exprRead, exprIn}
 use Rattle.evaluation.specs.Refinement.{integerIn, valueIn, Applied, Walked}

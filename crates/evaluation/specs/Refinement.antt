@@ -11,9 +11,9 @@ use lib.Signed.{mag}
 use Rattle.states.specs.Sets.{has}
 use Rattle.semantics.specs.Language.{Val, int, truth}
 use Rattle.semantics.specs.States.{Machine, value}
-use Rattle.expressions.specs.declared.head.Head.{Head}
-use Rattle.expressions.specs.Header.{machineIn}
-use Rattle.expressions.specs.Expressions.{ExprRead, good, bad}
+use Rattle.handler.specs.declared.head.Head.{Head}
+use Rattle.handler.specs.Header.{machineIn}
+use Rattle.handler.specs.Expressions.{ExprRead, good, bad}
 use Rattle.evaluation.specs.declared.Values.{Values}
 use Rattle.evaluation.specs.declared.Variable.{Variable}
 use Rattle.evaluation.specs.Values.{exprIn, valueBy}

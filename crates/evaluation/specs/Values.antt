@@ -9,9 +9,9 @@ use lib.IntN.{pos}
 use lib.ListN.{getD}
 use Rattle.semantics.specs.Language.{Expr, lit, op, int, eqZ}
 use Rattle.semantics.specs.States.{Machine, weight}
-use Rattle.expressions.specs.declared.head.Head.{Head}
-use Rattle.expressions.specs.Header.{isHead, sizesIn}
-use Rattle.expressions.specs.Expressions.{ExprRead, good, bad, wholeExpr}
+use Rattle.handler.specs.declared.head.Head.{Head}
+use Rattle.handler.specs.Header.{isHead, sizesIn}
+use Rattle.handler.specs.Expressions.{ExprRead, good, bad, wholeExpr}
 use Rattle.evaluation.specs.declared.Variable.{Variable}
 
 -- What was read, or an expression that has no variable and no value: operation 7 is not used.

@@ -2,14 +2,14 @@
 // states: each node gives a row.
 mod pointwise;
 
-use expressions::ExprHead;
-use expressions::ExprShape;
-use expressions::expr_head_at;
-use expressions::expr_shape;
-use expressions::head::Head;
-use expressions::head::is_head;
-use expressions::head::size_of;
-use expressions::head::states_in;
+use handler::expressions::ExprHead;
+use handler::expressions::ExprShape;
+use handler::expressions::expr_head_at;
+use handler::expressions::expr_shape;
+use handler::head::Head;
+use handler::head::is_head;
+use handler::head::size_of;
+use handler::head::states_in;
 use pointwise::always;
 use pointwise::compared;
 use pointwise::states_with;
@@ -30,9 +30,9 @@ ghost use Rattle.states.specs.Sets.{mem, has};
 ghost use Rattle.semantics.specs.Language.{ofIntegers, ofTruths, apply};
 ghost use Rattle.semantics.specs.States.{both, weight};
 ghost use Rattle.semantics.specs.Conditions.{isTrue, isFalse, afterStore, occurrences};
-ghost use Rattle.expressions.specs.Header.{isHead, sizesIn, machineIn};
-ghost use Rattle.expressions.specs.Expressions.{exprAt};
-ghost use Rattle.expressions.specs.Shapes.{inMask};
+ghost use Rattle.handler.specs.Header.{isHead, sizesIn, machineIn};
+ghost use Rattle.handler.specs.Expressions.{exprAt};
+ghost use Rattle.handler.specs.Shapes.{inMask};
 ghost use Rattle.evaluation.specs.Values.{exprIn, leadsTo, variableIn, isSmall, agreeIn};
 ghost use Rattle.evaluation.specs.Refinement.{integerIn, valueIn, Applied, Walked, Evaluated, storedBy};
 

@@ -8,8 +8,8 @@ use lib.ListN.{replicate}
 use Rattle.bits.specs.Fields.{bitLength, bitAt, bitsAt, isThere, fieldAt, firstSet, fillBits, furtherByte, fillFrom, fillAt}
 use Rattle.semantics.specs.Language.{lit, int, nil, assign}
 use Rattle.handler.specs.declared.HandlerFound.the-variants.{Handler}
-use Rattle.expressions.specs.Header.{sizeRead, addSize, sizesRead, countRead, headAt, headOf, noHead}
-use Rattle.expressions.specs.Expressions.{signed, integerHead, truthHead, variableHead, operationHead, payloadHead, tagHead, exprHead, exprAt, wholeExpr}
+use Rattle.handler.specs.Header.{sizeRead, addSize, sizesRead, countRead, headAt, headOf, noHead}
+use Rattle.handler.specs.Expressions.{signed, integerHead, truthHead, variableHead, operationHead, payloadHead, tagHead, exprHead, exprAt, wholeExpr}
 use Rattle.handler.specs.Statements.{targetHead, codeHead, markHead, stmtHead, stmtAt, wholeStmt}
 use Rattle.handler.specs.StatementTable.{statementWord, wordOf, statementTable}
 use Rattle.handler.specs.Reading.{handler, refused, readHandler}

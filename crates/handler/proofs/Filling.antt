@@ -10,12 +10,11 @@ use lib.Dec.{eqb}
 use lib.ListN.{length, set}
 use lib.Seq.{sets, set-comm}
 use Rattle.semantics.specs.Language.{Expr, Stmt, seq, par, if, while}
-use Rattle.expressions.specs.Kinds.{width}
-use Rattle.expressions.specs.Expressions.{ExprRead, good, bad, wholeExpr}
+use Rattle.handler.specs.Expressions.{ExprRead, good, bad, wholeExpr}
 use Rattle.handler.specs.declared.table.Statement.{Statement}
 use Rattle.handler.specs.declared.StmtHead.the-variants.{Nil, Assign, Pair, Test}
 use Rattle.handler.specs.Statements.{stmtHead, StmtRead, whole, fault, onAssigned, onRight, stmtAt}
-use Rattle.handler.specs.Kinds.{stmtWidth}
+use Rattle.handler.specs.Kinds.{width, stmtWidth}
 use Rattle.handler.specs.StatementTable.{statements, statementWord, wordOf, statementWords, Filled}
 use Rattle.handler.specs.declared.StmtShape.the-variants as stmt
 use Rattle.handler.specs.Shapes.{stmtShape}

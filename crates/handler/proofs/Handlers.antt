@@ -12,7 +12,7 @@ use Rattle.semantics.specs.Language.{Stmt, nil, assign, seq, par, if, while}
 use Rattle.semantics.specs.States.{product}
 use Rattle.semantics.specs.StepNumber.{steps}
 use Rattle.semantics.specs.Conditions.{targetOf}
-use Rattle.expressions.specs.Header as head
+use Rattle.handler.specs.Header as head
 use Rattle.handler.specs.declared.HandlerSummary.{HandlerSummary}
 use Rattle.handler.specs.declared.HandlerFound.the-variants as found
 use Rattle.handler.specs.Statements.{StmtRead, whole, fault, wholeStmt}

@@ -1,4 +1,7 @@
 -- Laws of reading that the proofs here and callers cite; each function's proof is in its own folder.
+pub mod Heads
+pub mod Folds
+pub mod Shapes
 pub mod StmtFolds
 pub mod StmtShapes
 pub mod StatementTable

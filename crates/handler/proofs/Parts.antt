@@ -11,10 +11,9 @@ use Rattle.bits.specs.Fields.{fieldAt}
 use Rattle.semantics.specs.Language.{Expr, Stmt, nil, assign, seq, par, if, while}
 use Rattle.handler.specs.declared.StmtHead.{StmtHead}
 use Rattle.handler.specs.declared.StmtHead.the-variants.{Nil, Assign, Pair, Test, Fault}
-use Rattle.expressions.specs.Expressions.{ExprRead, good, bad, wholeExpr}
+use Rattle.handler.specs.Expressions.{ExprRead, good, bad, wholeExpr}
 use Rattle.handler.specs.Statements.{markHead, stmtHead, StmtRead, whole, fault, onAssigned, onBody, onTest, onRight, onLeft, onStmtHead, stmtAt, wholeStmt}
-use Rattle.expressions.specs.Kinds.{width}
-use Rattle.handler.specs.Kinds.{stmtWidth}
+use Rattle.handler.specs.Kinds.{width, stmtWidth}
 use Rattle.handler.proofs.StmtFolds.{Marked, marked, whole-read, stmt-read}
 
 -- Where there is room, a head does not depend on how much.

@@ -8,9 +8,8 @@ use lib.ListN.{length, getD, drop, replicate, length-append}
 use lib.Seq.{getD-drop, drop-at, drop-drop, sets, sets-eq}
 use Rattle.semantics.specs.Language.{Stmt, nil, assign, seq, par, if, while}
 use Rattle.semantics.specs.Conditions.{statementCode, targetOf}
-use Rattle.expressions.specs.Kinds.{width}
 use Rattle.handler.specs.declared.table.Statement.{Statement}
-use Rattle.handler.specs.Kinds.{stmtWidth}
+use Rattle.handler.specs.Kinds.{width, stmtWidth}
 use Rattle.handler.specs.StatementTable.{statements, statementWord, statementOf, statementIn, afterFirst, statementRecord, wordOf, statementWords, statementTable}
 
 -- The fields of a word.

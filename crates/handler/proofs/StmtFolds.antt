@@ -13,12 +13,11 @@ use Rattle.bits.proofs.Laws.{there}
 use Rattle.semantics.specs.Language.{Expr, Stmt, nil, assign, seq, par, if, while}
 use Rattle.handler.specs.declared.StmtHead.{StmtHead}
 use Rattle.handler.specs.declared.StmtHead.the-variants.{Nil, Assign, Pair, Test, Fault}
-use Rattle.expressions.specs.Expressions.{ExprRead, good, bad, wholeExpr}
+use Rattle.handler.specs.Expressions.{ExprRead, good, bad, wholeExpr}
 use Rattle.handler.specs.Statements.{targetHead, codeHead, markHead, stmtHead, StmtRead, whole, fault, onAssigned, onBody, onTest, onRight, onLeft, onStmtHead, stmtAt}
-use Rattle.expressions.specs.Kinds.{width}
-use Rattle.handler.specs.Kinds.{stmtWidth}
+use Rattle.handler.specs.Kinds.{width, stmtWidth}
 use Rattle.handler.specs.StatementTable.{statements}
-use Rattle.expressions.proofs.Folds.{expr-read}
+use Rattle.handler.proofs.Folds.{expr-read}
 
 -- One level of reading, in the code's numbers.
 pub stmt-step : (bytes : List ℕ) (count levels before at : ℕ) (head : StmtHead) → 0 < levels

@@ -18,21 +18,19 @@ use Rattle.semantics.specs.declared.Kind.the-variants.{Integer, Truth}
 use Rattle.semantics.specs.Language.{Expr, Stmt, seq, par, if, while}
 use Rattle.semantics.specs.States.{product}
 use Rattle.semantics.specs.StepNumber.{E, steps}
-use Rattle.expressions.specs.declared.ExprSummary.{ExprSummary}
-use Rattle.expressions.specs.declared.ExprShape.the-variants as expr
+use Rattle.handler.specs.declared.expressions.ExprSummary.{ExprSummary}
+use Rattle.handler.specs.declared.expressions.ExprShape.the-variants as expr
 use Rattle.handler.specs.declared.StmtSummary.{StmtSummary}
 use Rattle.handler.specs.declared.StmtShape.{StmtShape}
 use Rattle.handler.specs.declared.StmtShape.the-variants as stmt
 use Rattle.handler.specs.declared.StmtHead.the-variants.{Assign, Pair, Test}
-use Rattle.expressions.specs.Expressions.{ExprRead, good, bad, wholeExpr}
+use Rattle.handler.specs.Expressions.{ExprRead, good, bad, wholeExpr}
 use Rattle.handler.specs.Statements.{stmtHead, StmtRead, whole, fault, tested, onAssigned, onRight, stmtAt, wholeStmt}
-use Rattle.expressions.specs.Kinds.{width, orPlace, kindError}
-use Rattle.handler.specs.Kinds.{stmtWidth, stmtKindError}
+use Rattle.handler.specs.Kinds.{width, orPlace, kindError, stmtWidth, stmtKindError}
 use Rattle.handler.specs.StatementTable.{statements}
-use Rattle.expressions.specs.Shapes.{asKindError, exprSummary, exprShape}
-use Rattle.handler.specs.Shapes.{stmtSummary, stmtShape, assignedOf, pairOf, testedOf, fittingOf, filledOf, foundOf, fileOf}
+use Rattle.handler.specs.Shapes.{asKindError, exprSummary, exprShape, stmtSummary, stmtShape, assignedOf, pairOf, testedOf, fittingOf, filledOf, foundOf, fileOf}
 use Rattle.handler.specs.Reading.{onKinds, onFill, onStmt}
-use Rattle.expressions.proofs.Shapes.{or-earlier, shaped, faulted}
+use Rattle.handler.proofs.Shapes.{or-earlier, shaped, faulted}
 use Rattle.handler.proofs.StmtFolds.{stmt-step, Marked, marked, whole-read, stmt-read}
 
 -- A part past the limit may count as one past it, also where it counts y times.
@@ -137,9 +135,9 @@ module _ (bytes : List ℕ) (count levels before at N : ℕ) (more : 0 < levels)
 
   module _ (code next : ℕ) where
     module _ (head : stmtHead bytes count (levels - 1) before at ≡ Pair code next) where
-      pub left-fault : (k place : ℕ) → stmtShape N next (below (before + 1) next) ≡ stmt.Fault k place → stmt.Fault k place ≡ here
+      pub left-side-fault : (k place : ℕ) → stmtShape N next (below (before + 1) next) ≡ stmt.Fault k place → stmt.Fault k place ≡ here
       unfolding stmtShape
-      left-fault k place p =
+      left-side-fault k place p =
           rw (
             stmt-step bytes count levels before at _ more head,
             ← add-one before,

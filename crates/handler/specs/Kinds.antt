@@ -1,10 +1,39 @@
--- Document 01, number 16, of statements: the first node, in file order, whose result kind is not the wanted one. A part's bit is its
--- statement's plus the widths before it.
+-- Document 01, number 16: the first node, in file order, whose result kind is not the wanted one; of expressions, then of statements.
+-- The bit of a node or of a part is that of what it belongs to plus the widths before it, because the format has one encoding for a
+-- tree.
 use Prim.Native.Nat.{ℕ, _+_}
-use mathlib.Core.Option.{Option, none}
+use mathlib.Core.Bool.{cond}
+use mathlib.Core.Option.{Option, none, some}
+use Rattle.semantics.specs.declared.Kind.{Kind}
 use Rattle.semantics.specs.declared.Kind.the-variants.{Integer, Truth}
-use Rattle.semantics.specs.Language.{Stmt, nil, assign, seq, par, if, while}
-use Rattle.expressions.specs.Kinds.{width, orPlace, kindError}
+use Rattle.semantics.specs.declared.Row.{Row}
+use Rattle.semantics.specs.declared.Row.the-variants.{Kinds, Unused}
+use Rattle.semantics.specs.Language.{Val, int, truth, Expr, lit, var, op, Stmt, nil, assign, seq, par, if, while, rowOf, sameKind, kindOf}
+
+abbrev pub valWidth : Val → ℕ
+valWidth (int z) = 10
+valWidth (truth b) = 3
+
+-- How many bits an expression takes.
+abbrev pub width : Expr → ℕ
+width (lit v) = valWidth v
+width (var v) = 4
+width (op o l r) = 5 + width l + width r
+
+abbrev pub orPlace : Option ℕ → Option ℕ → Option ℕ
+orPlace none next = next
+orPlace (some place) next = some place
+
+-- A node's own place comes first, then those of its operands, which its row gives their kinds.
+abbrev pub rowKindError : Row → Kind → ℕ → (Kind → Option ℕ) → (Kind → Option ℕ) → Option ℕ
+rowKindError (Kinds a b c) k at left right = cond (sameKind c k) (orPlace (left a) (right b)) (some at)
+rowKindError Unused k at left right = some at
+
+-- The first node of an expression at a place that is not of the kind wanted of it.
+abbrev pub kindError : Kind → ℕ → Expr → Option ℕ
+kindError k at (lit v) = cond (sameKind (kindOf v) k) none (some at)
+kindError k at (var v) = cond (sameKind Integer k) none (some at)
+kindError k at (op o l r) = rowKindError (rowOf o) k at (λ a. kindError a (at + 5) l) (λ b. kindError b (at + 5 + width l) r)
 
 -- How many bits a statement takes.
 abbrev pub stmtWidth : Stmt → ℕ

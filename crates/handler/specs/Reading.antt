@@ -7,7 +7,7 @@ use Rattle.bits.specs.Fields.{fillAt}
 use Rattle.bits.specs.declared.Fill.{Fill}
 use Rattle.bits.specs.declared.Fill.the-variants.{Ends, Wrong}
 use Rattle.semantics.specs.Language.{Stmt}
-use Rattle.expressions.specs.Header as head
+use Rattle.handler.specs.Header as head
 use Rattle.handler.specs.Statements.{StmtRead, whole, fault, wholeStmt}
 use Rattle.handler.specs.Kinds.{stmtKindError}
 

@@ -1,33 +1,58 @@
 -- What walks over the bits answer, from what reading says: the definitions of document 01 over trees, with no tree in the
--- answer.
-use Prim.Native.Nat.{ℕ, _+_, _-_, _*_, _^_, min}
-use mathlib.Core.Bool.{cond}
+-- answer. First of expressions, then of statements, then of the file.
+use Prim.Native.Nat.{ℕ, _+_, _-_, _*_, _/_, _%_, _^_, min}
+use mathlib.Core.Bool.{Bool, cond}
 use mathlib.Core.List.{List}
+use mathlib.Core.Option.{Option, none, some}
 use lib.Dec.{eqb}
 use lib.ListN.{replicate}
 use Rattle.bits.specs.Fields.{fillAt}
 use Rattle.bits.specs.declared.Fill.{Fill}
 use Rattle.bits.specs.declared.Fill.the-variants.{Ends, Wrong}
-use Rattle.semantics.specs.Language.{Stmt}
+use Rattle.semantics.specs.declared.Kind.{Kind}
+use Rattle.semantics.specs.Language.{Expr, Stmt}
 use Rattle.semantics.specs.States.{product}
-use Rattle.semantics.specs.StepNumber.{steps}
-use Rattle.expressions.specs.declared.KindError.{KindError}
-use Rattle.expressions.specs.declared.KindError.the-variants.{Nowhere, At}
-use Rattle.expressions.specs.declared.ExprSummary.{ExprSummary}
-use Rattle.expressions.specs.declared.ExprShape.{ExprShape}
-use Rattle.expressions.specs.declared.ExprShape.the-variants as expr
+use Rattle.semantics.specs.StepNumber.{E, steps}
+use Rattle.semantics.specs.Conditions.{occurrences}
+use Rattle.handler.specs.declared.expressions.KindError.{KindError}
+use Rattle.handler.specs.declared.expressions.KindError.the-variants.{Nowhere, At}
+use Rattle.handler.specs.declared.expressions.ExprSummary.{ExprSummary}
+use Rattle.handler.specs.declared.expressions.ExprShape.{ExprShape}
+use Rattle.handler.specs.declared.expressions.ExprShape.the-variants as expr
 use Rattle.handler.specs.declared.StmtSummary.{StmtSummary}
 use Rattle.handler.specs.declared.StmtShape.{StmtShape}
 use Rattle.handler.specs.declared.StmtShape.the-variants as stmt
 use Rattle.handler.specs.declared.HandlerFile.{HandlerFile}
 use Rattle.handler.specs.declared.HandlerFound.{HandlerFound}
 use Rattle.handler.specs.declared.HandlerFound.the-variants as found
-use Rattle.expressions.specs.Header.{headOf, noHead}
+use Rattle.handler.specs.Header.{headOf, noHead}
+use Rattle.handler.specs.Expressions.{ExprRead, good, bad}
 use Rattle.handler.specs.Statements.{StmtRead, whole, fault}
-use Rattle.handler.specs.Kinds.{stmtKindError}
+use Rattle.handler.specs.Kinds.{kindError, stmtKindError}
 use Rattle.handler.specs.StatementTable.{statements, statementTable}
-use Rattle.expressions.specs.Shapes.{asKindError, earlierOf}
 use Rattle.handler.specs.Reading.{HandlerRead, handler, refused}
+
+abbrev pub asKindError : Option ℕ → KindError
+asKindError none = Nowhere
+asKindError (some place) = At place
+
+-- The first kind error of two parts, in file order.
+abbrev pub earlierOf : KindError → KindError → KindError
+earlierOf Nowhere second = second
+earlierOf (At place) second = At place
+
+-- Whether variable v is in a mask: its bit v.
+abbrev pub inMask : ℕ → ℕ → Bool
+inMask mask v = eqb (mask / 2 ^ v % 2) 1
+
+-- Of an expression at a place, of which a kind is wanted: its kind error, its E, and how many occurrences are of masked variables.
+abbrev pub exprSummary : Kind → ℕ → ℕ → Expr → ℕ → ℕ → ExprSummary
+exprSummary wanted moved at e nodes next =
+    record { error = asKindError (kindError wanted at e); e = E e; occurs = occurrences (inMask moved) e; nodes = nodes; next = next }
+
+unfoldable pub exprShape : Kind → ℕ → ℕ → ExprRead → ExprShape
+exprShape wanted moved at (good e nodes next) = expr.Whole (exprSummary wanted moved at e nodes next)
+exprShape wanted moved at (bad k place) = expr.Fault k place
 
 -- Of a statement at a place, over N states: its step number as far as 2 ^ 32, which is past the limit, and its kind error.
 abbrev pub stmtSummary : ℕ → ℕ → Stmt → ℕ → ℕ → StmtSummary

@@ -6,9 +6,8 @@ use lib.ListN.{getD, replicate}
 use lib.Seq.{sets}
 use Rattle.semantics.specs.Language.{Stmt, nil, assign, seq, par, if, while}
 use Rattle.semantics.specs.Conditions.{statementCode, targetOf}
-use Rattle.expressions.specs.Kinds.{width}
 use Rattle.handler.specs.declared.table.Statement.{Statement}
-use Rattle.handler.specs.Kinds.{stmtWidth}
+use Rattle.handler.specs.Kinds.{width, stmtWidth}
 use Rattle.handler.specs.Statements.{StmtRead, whole, fault}
 
 -- How many statements a statement has, itself among them.

@@ -9,7 +9,7 @@ use Rattle.bits.specs.declared.Field.the-variants.{Value, Missing}
 use Rattle.semantics.specs.Language.{Expr, Stmt, nil, assign, seq, par, if, while}
 use Rattle.handler.specs.declared.StmtHead.{StmtHead}
 use Rattle.handler.specs.declared.StmtHead.the-variants.{Nil, Assign, Pair, Test, Fault}
-use Rattle.expressions.specs.Expressions.{ExprRead, good, bad, wholeExpr}
+use Rattle.handler.specs.Expressions.{ExprRead, good, bad, wholeExpr}
 
 -- 15: an assignment's variable, at its field.
 unfoldable pub targetHead : List ℕ → ℕ → ℕ → Field → StmtHead

@@ -1,7 +1,10 @@
 // The handler file, read once from front to back.
 use expressions::KindError;
-use expressions::head::Head;
+use head::Head;
 
+pub mod codes;
+pub mod expressions;
+pub mod head;
 pub mod reading;
 pub mod statements;
 pub mod table;

@@ -19,8 +19,8 @@ use Rattle.semantics.specs.StepNumber.{steps}
 use Rattle.semantics.specs.Derivations.{skip, iteration, Tables}
 use Rattle.semantics.specs.Conditions.{inSet, sameSet, sameRelation, setLiesIn, relationLiesIn, isTrue, isFalse, afterStore, inRange, toAfter, moves, c31, c32, c33, c34while, c35, unmoved, c40, c41, c42, c43, c50, c51, c52, c53, c54, c55, c56}
 use Rattle.semantics.specs.Checking.{Broken, firstFault}
-use Rattle.expressions.specs.Header.{sizeRead, addSize, sizesRead, countRead, headAt}
-use Rattle.expressions.specs.Expressions.{signed, integerHead, truthHead, variableHead, operationHead, payloadHead, tagHead, exprHead, exprAt, wholeExpr}
+use Rattle.handler.specs.Header.{sizeRead, addSize, sizesRead, countRead, headAt}
+use Rattle.handler.specs.Expressions.{signed, integerHead, truthHead, variableHead, operationHead, payloadHead, tagHead, exprHead, exprAt, wholeExpr}
 use Rattle.handler.specs.Statements.{targetHead, codeHead, markHead, stmtHead, stmtAt, wholeStmt}
 use Rattle.handler.specs.Reading.{HandlerRead, handler, refused, readHandler}
 use Rattle.derivation.specs.Tables.{setAt, rowAt, tablesThere, isCount, relationsRead, setsRead, tablesAt, inSetOf, inRelationOf}

@@ -21,9 +21,9 @@ use Rattle.semantics.specs.Language.{Expr, eqZ}
 use Rattle.semantics.specs.States.{Machine}
 use Rattle.semantics.specs.Derivations.{Spec}
 use Rattle.semantics.specs.Conditions.{occurrences, inSet, moves, unmoved, c41, c45, c50}
-use Rattle.expressions.specs.declared.head.Head.{Head}
-use Rattle.expressions.specs.Header.{machineIn}
-use Rattle.expressions.specs.Shapes.{inMask}
+use Rattle.handler.specs.declared.head.Head.{Head}
+use Rattle.handler.specs.Header.{machineIn}
+use Rattle.handler.specs.Shapes.{inMask}
 use Rattle.evaluation.specs.declared.Variable.{Variable}
 use Rattle.evaluation.specs.Values.{agree, valueBy, isSmall, agreeIn}
 use Rattle.evaluation.proofs.Laws.{get-past}

@@ -15,8 +15,8 @@ use Rattle.semantics.specs.Language.{Expr}
 use Rattle.semantics.specs.States.{Machine}
 use Rattle.semantics.specs.Derivations.{Spec}
 use Rattle.semantics.specs.Conditions.{inSet, afterStore, inRange, toAfter, c40, c42, c43}
-use Rattle.expressions.specs.declared.head.Head.{Head}
-use Rattle.expressions.specs.Header.{machineIn}
+use Rattle.handler.specs.declared.head.Head.{Head}
+use Rattle.handler.specs.Header.{machineIn}
 use Rattle.evaluation.specs.Values.{leadsTo}
 use Rattle.evaluation.proofs.Laws.{after-below}
 use Rattle.rules.proofs.Searches.{inSet-intro, inSet-at}

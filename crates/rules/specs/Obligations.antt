@@ -6,8 +6,8 @@ use lib.Dec.{eqb}
 use Rattle.semantics.specs.Language.{Expr}
 use Rattle.semantics.specs.Derivations.{Spec}
 use Rattle.semantics.specs.Checking.{Condition, skipObligations, assignmentObligations, sequenceObligations, parallelObligations, ifObligations, whileObligations, weakenObligations}
-use Rattle.expressions.specs.declared.head.Head.{Head}
-use Rattle.expressions.specs.Header.{machineIn}
+use Rattle.handler.specs.declared.head.Head.{Head}
+use Rattle.handler.specs.Header.{machineIn}
 use Rattle.evaluation.specs.Values.{exprIn}
 use Rattle.handler.specs.declared.table.Statement.{Statement}
 use Rattle.derivation.specs.declared.Node.{Node}

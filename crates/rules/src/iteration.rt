@@ -11,8 +11,8 @@ use crate::tables::same_relation;
 use crate::tables::same_set;
 use crate::tables::set_at;
 use evaluation::truths_at;
-use expressions::head::Head;
-use expressions::head::states_in;
+use handler::head::Head;
+use handler::head::states_in;
 use semantics::Names;
 use states::StateSet;
 ghost use mathlib.Core.Path.{_≡_};
@@ -24,7 +24,7 @@ ghost use Rattle.semantics.specs.Conditions.{inSet, c34while, c51, c53, c55, c5
 ghost use Rattle.rules.specs.Words.{wordSet, wordRelation, wordSpec};
 ghost use Rattle.rules.specs.declared.NodeVerdict.the-variants.{Holds};
 ghost use Rattle.rules.specs.Asking.{askedAll};
-ghost use Rattle.expressions.specs.Header.{machineIn};
+ghost use Rattle.handler.specs.Header.{machineIn};
 ghost use Rattle.evaluation.specs.Values.{exprIn};
 ghost use Rattle.semantics.specs.Checking.{whileObligations};
 

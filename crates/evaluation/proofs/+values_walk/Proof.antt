@@ -9,16 +9,16 @@ use mir.Facts.{toZ-ofZ}
 use borrow.Author.Needs.{needs}
 use borrow.Fn.Kinds.{In}
 use borrow.Fn.PlainCycle.{Measures, is, falls, and}
-use Rattle.expressions.specs.declared.ExprHead.{ExprHead}
-use Rattle.expressions.specs.Header.{machineIn}
-use Rattle.expressions.proofs.Folds.{Headed}
+use Rattle.handler.specs.declared.expressions.ExprHead.{ExprHead}
+use Rattle.handler.specs.Header.{machineIn}
+use Rattle.handler.proofs.Folds.{Headed}
 use Rattle.evaluation.specs.Values.{isSmall}
 use Rattle.evaluation.proofs.Laws.{states-most, small, variable-small, variable-values}
 use Rattle.evaluation.proofs.Walking.{Place, Operation, headAt, known-at, walked-out, walked-integer, walked-truth, walked-variable, walked-fault, known-left, walked-left, walked-right, operands-small, walked-both}
 use Rattle.evaluation.proofs.values_walk.Reads as values-walk
 use Rattle.evaluation.proofs.values_walk.Kinds as values-walk-kinds
 use Rattle.evaluation.proofs.+values_walk.Lts-values_walk as lts
-use Rattle.expressions.proofs.expr_head_at.Reads as expr-head-at-reads
+use Rattle.handler.proofs.expressions.expr_head_at.Reads as expr-head-at-reads
 use Rattle.evaluation.proofs.pointwise.always.Reads as always-reads
 use Rattle.evaluation.proofs.apply_op.Reads as apply-op-reads
 use Rattle.evaluation.proofs.integers_of.Reads as integers-of-reads

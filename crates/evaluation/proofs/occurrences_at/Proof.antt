@@ -6,10 +6,10 @@ use borrow.Author.Needs.{needs}
 use Rattle.semantics.specs.declared.Kind.{Kind}
 use Rattle.semantics.specs.Language.{Expr, lit, var, op}
 use Rattle.semantics.specs.Conditions.{occurrences}
-use Rattle.expressions.specs.declared.ExprShape.{ExprShape}
-use Rattle.expressions.specs.declared.ExprShape.the-variants.{Whole, Fault}
-use Rattle.expressions.specs.Expressions.{ExprRead, good, bad}
-use Rattle.expressions.specs.Shapes.{inMask, exprShape}
+use Rattle.handler.specs.declared.expressions.ExprShape.{ExprShape}
+use Rattle.handler.specs.declared.expressions.ExprShape.the-variants.{Whole, Fault}
+use Rattle.handler.specs.Expressions.{ExprRead, good, bad}
+use Rattle.handler.specs.Shapes.{inMask, exprShape}
 use Rattle.evaluation.specs.Values.{exprRead, exprIn}
 use Rattle.evaluation.proofs.occurrences_at.Statement.{statement}
 use Rattle.evaluation.proofs.occurrences_at.Tie as tie

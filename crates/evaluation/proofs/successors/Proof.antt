@@ -20,8 +20,8 @@ use Rattle.states.proofs.Entries.{Entries, entries-none, entries-more, entry-no
 use Rattle.semantics.specs.Language.{int, truth}
 use Rattle.semantics.specs.States.{Machine, storeOf}
 use Rattle.semantics.specs.Conditions.{afterStore}
-use Rattle.expressions.specs.declared.head.Head.{Head}
-use Rattle.expressions.specs.Header.{machineIn}
+use Rattle.handler.specs.declared.head.Head.{Head}
+use Rattle.handler.specs.Header.{machineIn}
 use Rattle.evaluation.specs.declared.Values.{Values}
 use Rattle.evaluation.specs.declared.Variable.{Variable}
 use Rattle.evaluation.specs.Values.{exprIn, leadsTo, variableIn, isSmall}

@@ -16,8 +16,8 @@ use Rattle.states.specs.Sets.{has}
 use Rattle.semantics.specs.Language.{int, truth}
 use Rattle.semantics.specs.States.{value, isTruth}
 use Rattle.semantics.specs.Conditions.{isTrue, isFalse}
-use Rattle.expressions.specs.declared.head.Head.{Head}
-use Rattle.expressions.specs.Header.{machineIn}
+use Rattle.handler.specs.declared.head.Head.{Head}
+use Rattle.handler.specs.Header.{machineIn}
 use Rattle.evaluation.specs.declared.Values.{Values}
 use Rattle.evaluation.specs.Values.{exprIn}
 use Rattle.evaluation.specs.Refinement.{integerIn, valueIn, Evaluated}

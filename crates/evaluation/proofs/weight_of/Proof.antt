@@ -5,8 +5,8 @@ use mathlib.Core.Path.{_≡_, sym, ap₂, _∙_}
 use borrow.Author.Needs.{needs}
 use lib.ListN.{drop}
 use Rattle.semantics.specs.States.{product}
-use Rattle.expressions.specs.Header.{sizesIn}
-use Rattle.expressions.proofs.Heads.{known-head}
+use Rattle.handler.specs.Header.{sizesIn}
+use Rattle.handler.proofs.Heads.{known-head}
 use Rattle.evaluation.proofs.Sizes.{later-sizes, product-before, none-later}
 use Rattle.evaluation.proofs.weight_of.Statement.{statement}
 use Rattle.evaluation.proofs.weight_of.Tie as tie

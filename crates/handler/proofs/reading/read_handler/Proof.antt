@@ -6,9 +6,9 @@ use mathlib.Core.Path.{_≡_, sym, ap, _∙_}
 use native.Mathlib.Omega.{arith}
 use borrow.Author.Needs.{needs}
 use lib.ListN.{replicate}
-use Rattle.expressions.specs.declared.head.Head.{Head}
-use Rattle.expressions.specs.Header.{declared, headAt, headOf}
-use Rattle.expressions.proofs.Heads.{FoundHead, found-head, found-fault, head-read}
+use Rattle.handler.specs.declared.head.Head.{Head}
+use Rattle.handler.specs.Header.{declared, headAt, headOf}
+use Rattle.handler.proofs.Heads.{FoundHead, found-head, found-fault, head-read}
 use Rattle.handler.specs.declared.HandlerFile.{HandlerFile}
 use Rattle.handler.specs.declared.HandlerFound.{HandlerFound}
 use Rattle.handler.specs.declared.HandlerFound.the-variants as found

@@ -10,19 +10,18 @@ use borrow.Fn.PlainCycle.{Measures, is, falls, and}
 use Rattle.semantics.specs.declared.Kind.the-variants.{Truth}
 use Rattle.handler.specs.declared.StmtHead.{StmtHead}
 use Rattle.handler.specs.declared.StmtShape.the-variants.{Whole}
-use Rattle.expressions.specs.declared.ExprShape.the-variants as expr
-use Rattle.expressions.specs.Expressions.{wholeExpr}
+use Rattle.handler.specs.declared.expressions.ExprShape.the-variants as expr
+use Rattle.handler.specs.Expressions.{wholeExpr}
 use Rattle.handler.specs.Statements.{stmtHead, stmtAt}
-use Rattle.expressions.specs.Shapes.{exprShape}
-use Rattle.handler.specs.Shapes.{stmtShape}
-use Rattle.expressions.proofs.Shapes.{shaped}
+use Rattle.handler.specs.Shapes.{exprShape, stmtShape}
+use Rattle.handler.proofs.Shapes.{shaped}
 use Rattle.handler.proofs.StmtFolds.{stmt-step, Marked, marked, whole-read, stmt-read}
-use Rattle.handler.proofs.StmtShapes.{stmt-shaped, assign-shape, left-fault, pair-shape, test-fault, body-fault, test-shape}
+use Rattle.handler.proofs.StmtShapes.{stmt-shaped, assign-shape, left-side-fault, pair-shape, test-fault, body-fault, test-shape}
 use Rattle.handler.proofs.Filling.{fault-filled, nil-filled, assign-filled, pair-filled, test-filled}
 use Rattle.handler.proofs.statements.stmt_walk.Reads as stmt-walk
 use Rattle.handler.proofs.statements.stmt_walk.Kinds as stmt-walk-kinds
 use Rattle.handler.proofs.statements.+stmt_walk.Lts-stmt_walk as lts
-use Rattle.expressions.proofs.expr_shape.Reads as expr-shape-reads
+use Rattle.handler.proofs.expressions.expr_shape.Reads as expr-shape-reads
 use Rattle.handler.proofs.statements.assigned_of.Reads as assigned-of-reads
 use Rattle.handler.proofs.statements.pair_of.Reads as pair-of-reads
 use Rattle.handler.proofs.statements.stmt_head_at.Reads as stmt-head-at-reads
@@ -61,8 +60,8 @@ callees t = (
 )
 
 -- The places: the head is read; it is a pair, and its left side is read; it is a test, which is read, and its body.
-abbrev HeadRead : ℕ → Type 0
-HeadRead t = lts.After-stmt-head-at (callees t) (stmt-walk-at t) stmt-walk.Post
+abbrev StmtHeadRead : ℕ → Type 0
+StmtHeadRead t = lts.After-stmt-head-at (callees t) (stmt-walk-at t) stmt-walk.Post
 
 abbrev PairRead : ℕ → Type 0
 PairRead t = lts.After-known-told3 (callees t) (stmt-walk-at t) stmt-walk.Post
@@ -80,11 +79,11 @@ abbrev BodyRead : ℕ → Type 0
 BodyRead t = lts.After-known-told8 (callees t) (stmt-walk-at t) stmt-walk.Post
 
 -- The head that the function takes apart.
-head-is : (t : ℕ) (c : HeadRead t) (head : StmtHead) → c .stmt-head-at .result ≡ head
+head-is : (t : ℕ) (c : StmtHeadRead t) (head : StmtHead) → c .stmt-head-at .result ≡ head
     → let a = c .before .before .before .before .args in stmtHead (a .src .now) (a .count) (a .levels - 1) (a .before) (a .at) ≡ head
 head-is t c head e = sym (c .stmt-head-at .ensures) ∙ e
 
-more : (t : ℕ) (c : HeadRead t) → 0 < c .before .before .before .before .args .levels
+more : (t : ℕ) (c : StmtHeadRead t) → 0 < c .before .before .before .before .args .levels
 more t c = pos-of-ne-zero (c .before .if1 .left)
 
 nil-store : (t : ℕ) → lts.Need-store-requires (callees t) (stmt-walk-at t) stmt-walk.Post
@@ -180,7 +179,7 @@ left-returns : (t : ℕ) → lts.Need-returns-2 (callees t) (stmt-walk-at t) stm
 left-returns t c =
     let p = c .before .before .before .before .before .before in
     let h = p .before .before .before in
-    let e = left-fault _ _ _ _ _ _ (more t h) _ _ (head-is t h _ (p .before .code .given .1)) _ _
+    let e = left-side-fault _ _ _ _ _ _ (more t h) _ _ (head-is t h _ (p .before .code .given .1)) _ _
     (sym (c .before .before .before .before .stmt-walk .ensures .0) ∙ c .enum-told .given .1) in
     (c .enum-told .given .1 ∙ e, fault-filled _ _ _ _ _ (more t h) _ _ _ _ _ e)
 

@@ -1,7 +1,7 @@
 -- 30 to 33, then 40 to 43; the code's n is the machine's, and the rows say where a store leads.
 use mathlib.Core.Path.{_∙_}
 use borrow.Author.Needs.{needs}
-use Rattle.expressions.specs.Header.{machineIn}
+use Rattle.handler.specs.Header.{machineIn}
 use Rattle.evaluation.specs.Values.{exprIn}
 use Rattle.rules.specs.Words.{wordSpec}
 use Rattle.rules.proofs.Asking.{then}

@@ -8,9 +8,9 @@ use borrow.Author.Needs.{needs}
 use Rattle.states.specs.Search.{any}
 use Rattle.states.proofs.Search.{any-none, any-more, any-done}
 use Rattle.states.specs.Sets.{has}
-use Rattle.expressions.specs.Header.{machineIn}
-use Rattle.expressions.specs.Shapes.{inMask}
-use Rattle.expressions.proofs.Heads.{known-head}
+use Rattle.handler.specs.Header.{machineIn}
+use Rattle.handler.specs.Shapes.{inMask}
+use Rattle.handler.proofs.Heads.{known-head}
 use Rattle.evaluation.specs.Values.{agree}
 use Rattle.evaluation.proofs.Laws.{state-head}
 use Rattle.rules.specs.Words.{wordRelation}

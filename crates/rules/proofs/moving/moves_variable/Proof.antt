@@ -13,7 +13,7 @@ use Rattle.states.specs.Sets.{has}
 use Rattle.states.proofs.Search.{and-left, and-both, or-right, any-cong}
 use Rattle.states.proofs.Reach.{count, count-more}
 use Rattle.states.proofs.Members.{first-below, first-in, start-below, start-same, Passed, passed-none, passed-part, passed-all}
-use Rattle.expressions.specs.Header.{machineIn}
+use Rattle.handler.specs.Header.{machineIn}
 use Rattle.evaluation.specs.declared.Variable.{Variable}
 use Rattle.evaluation.specs.Values.{agree, agreeIn}
 use Rattle.evaluation.proofs.Laws.{agree-variable}

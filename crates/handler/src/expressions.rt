@@ -1,0 +1,283 @@
+// Expressions: what is at a node, and what a whole expression is made of.
+use crate::codes::MISSING;
+use crate::codes::NO_VARIABLE;
+use crate::codes::TOO_MANY;
+use crate::codes::UNUSED;
+use bits::Field;
+use semantics::Kind;
+use semantics::Row;
+ghost use mathlib.Core.Bool.{cond};
+ghost use mathlib.Core.Path.{_≡_};
+ghost use Prim.Native.Nat.{_≤_, _<_};
+ghost use Rattle.bits.specs.Fields.{fieldAt};
+ghost use Rattle.semantics.specs.Language.{sameKind};
+ghost use Rattle.handler.specs.Expressions.{signed, integerHead, truthHead, variableHead, operationHead, payloadHead, exprHead, bad, onExprHead, exprAt, wholeExpr};
+ghost use Rattle.handler.specs.Shapes.{inMask, earlierOf, exprShape};
+
+// An expression has at most 31 nodes, so that it is read to one level more.
+const MOST_NODES: u32 = 31;
+
+const LEVELS: u32 = 32;
+
+// The bits of a node's tag, and of what each tag asks for.
+const TAG_BITS: usize = 2;
+
+const INTEGER_BITS: usize = 8;
+
+const TRUTH_BITS: usize = 1;
+
+const VARIABLE_BITS: usize = 2;
+
+const OPERATION_BITS: usize = 3;
+
+// The tags; an operation has the last one.
+const INTEGER: u64 = 0;
+
+const TRUTH: u64 = 1;
+
+const VARIABLE: u64 = 2;
+
+// The operation that is not used.
+const NO_OPERATION: u64 = 7;
+
+// What is at an expression's first bits: a constant, a variable or an operation, and the cursor after it; or a fault.
+pub enum ExprHead {
+    Integer(i64, usize),
+    Truth(bool, usize),
+    Variable(u32, usize),
+    Operation(u32, usize),
+    Fault(u32, usize),
+}
+
+// Where kinds do not fit: nowhere, or the first bit of the first node whose result kind is not the wanted one.
+pub enum KindError {
+    Nowhere,
+    At(usize),
+}
+
+// Of a whole expression: its kind error, its E, how many of its variable occurrences are of given variables, the nodes so far and
+// the cursor after it.
+pub struct ExprSummary {
+    pub error: KindError,
+    pub e: u32,
+    pub occurs: u32,
+    pub nodes: u32,
+    pub next: usize,
+}
+
+// What reading a whole expression gives, or a fault.
+pub enum ExprShape {
+    Whole(ExprSummary),
+    Fault(u32, usize),
+}
+
+// 8 bits in two's complement.
+fn signed_of(n: u64) -> i64
+    requires { ⌜ n < 256 ⌝ }
+    ensures { λ r. ⌜ r ≡ signed n ⌝ }
+{
+    if n < 128 { n as i64 } else { n as i64 - 256 }
+}
+
+// An integer constant's 8 bits.
+fn integer_at(src: &[u8], at: usize) -> ExprHead
+    ensures { λ r. ⌜ r ≡ integerHead (now (src .entry)) (fieldAt (now (src .entry)) at 8) ⌝ }
+{
+    let Field::Value(n, next) = bits::read(src, at, INTEGER_BITS) else {
+        return ExprHead::Fault(MISSING, bits::bit_length(src));
+    };
+    ExprHead::Integer(signed_of(n), next)
+}
+
+// A truth constant's bit.
+fn truth_at(src: &[u8], at: usize) -> ExprHead
+    ensures { λ r. ⌜ r ≡ truthHead (now (src .entry)) (fieldAt (now (src .entry)) at 1) ⌝ }
+{
+    let Field::Value(n, next) = bits::read(src, at, TRUTH_BITS) else {
+        return ExprHead::Fault(MISSING, bits::bit_length(src));
+    };
+    ExprHead::Truth(n == 1, next)
+}
+
+// A variable's 2 bits.
+fn variable_at(src: &[u8], count: u32, at: usize) -> ExprHead
+    ensures { λ r. ⌜ r ≡ variableHead (now (src .entry)) count at (fieldAt (now (src .entry)) at 2) ⌝ }
+{
+    let Field::Value(v, next) = bits::read(src, at, VARIABLE_BITS) else {
+        return ExprHead::Fault(MISSING, bits::bit_length(src));
+    };
+    if v < count as u64 {
+        ExprHead::Variable(v as u32, next)
+    } else {
+        ExprHead::Fault(NO_VARIABLE, at)
+    }
+}
+
+// An operation's 3 bits.
+fn operation_at(src: &[u8], at: usize) -> ExprHead
+    ensures { λ r. ⌜ r ≡ operationHead (now (src .entry)) at (fieldAt (now (src .entry)) at 3) ⌝ }
+{
+    let Field::Value(o, next) = bits::read(src, at, OPERATION_BITS) else {
+        return ExprHead::Fault(MISSING, bits::bit_length(src));
+    };
+    if o == NO_OPERATION {
+        return ExprHead::Fault(UNUSED, at);
+    }
+    ExprHead::Operation(o as u32, next)
+}
+
+// What a node's tag asks for, at the cursor after the tag.
+fn payload_at(src: &[u8], count: u32, at: usize, tag: u64) -> ExprHead
+    ensures { λ r. ⌜ r ≡ payloadHead (now (src .entry)) count at tag ⌝ }
+{
+    if tag == INTEGER {
+        return integer_at(src, at);
+    }
+    if tag == TRUTH {
+        return truth_at(src, at);
+    }
+    if tag == VARIABLE {
+        return variable_at(src, count, at);
+    }
+    operation_at(src, at)
+}
+
+// What is at a node, where `nodes` nodes of its expression are before it.
+pub fn expr_head_at(src: &[u8], count: u32, nodes: u32, at: usize) -> ExprHead
+    ensures { λ r. ⌜ r ≡ exprHead (now (src .entry)) count nodes at ⌝ }
+{
+    let Field::Value(tag, next) = bits::read(src, at, TAG_BITS) else {
+        return ExprHead::Fault(MISSING, bits::bit_length(src));
+    };
+    if nodes >= MOST_NODES {
+        return ExprHead::Fault(TOO_MANY, at);
+    }
+    payload_at(src, count, next, tag)
+}
+
+// The kind error of a node at a place: its own, where its result is not of the wanted kind, else that of what is below it.
+fn wanted_of(result: Kind, wanted: Kind, at: usize, below: KindError) -> KindError
+    ensures { λ r. ⌜ r ≡ cond (sameKind result wanted) below (KindError.At at) ⌝ }
+{
+    match result {
+        Kind::Integer => match wanted {
+            Kind::Integer => below,
+            Kind::Truth => KindError::At(at),
+        },
+        Kind::Truth => match wanted {
+            Kind::Integer => KindError::At(at),
+            Kind::Truth => below,
+        },
+    }
+}
+
+// The first kind error of two parts.
+pub fn earlier_of(first: KindError, second: KindError) -> KindError
+    ensures { λ r. ⌜ r ≡ earlierOf first second ⌝ }
+{
+    match first {
+        KindError::Nowhere => second,
+        KindError::At(_) => first,
+    }
+}
+
+// How many occurrences of a masked variable one occurrence of v is; a mask has 32 bits.
+fn occurs_in(mask: u32, v: u32) -> u32
+    ensures { λ r. ⌜ r ≡ cond (inMask mask v) 1 0 ⌝ }
+{
+    if v >= 32 {
+        return 0;
+    }
+    (mask >> v) % 2
+}
+
+// The shape of a node that has no operands, from its head; an operation's operands are not read here.
+fn leaf_of(head: ExprHead, wanted: Kind, moved: u32, nodes: u32, at: usize) -> ExprShape
+    requires { ⌜ nodes ≤ 31 ⌝ }
+    ensures { λ r. ⌜ r ≡ exprShape wanted moved at (onExprHead head nodes (λ _ place. bad 14 place)) ⌝ }
+{
+    match head {
+        ExprHead::Integer(_, next) => {
+            let error = wanted_of(Kind::Integer, wanted, at, KindError::Nowhere);
+            ExprShape::Whole(ExprSummary {
+                error,
+                e: 0,
+                occurs: 0,
+                nodes: nodes + 1,
+                next,
+            })
+        }
+        ExprHead::Truth(_, next) => {
+            let error = wanted_of(Kind::Truth, wanted, at, KindError::Nowhere);
+            ExprShape::Whole(ExprSummary {
+                error,
+                e: 0,
+                occurs: 0,
+                nodes: nodes + 1,
+                next,
+            })
+        }
+        ExprHead::Variable(v, next) => {
+            let error = wanted_of(Kind::Integer, wanted, at, KindError::Nowhere);
+            ExprShape::Whole(ExprSummary {
+                error,
+                e: 1,
+                occurs: occurs_in(moved, v),
+                nodes: nodes + 1,
+                next,
+            })
+        }
+        ExprHead::Operation(_, next) => ExprShape::Fault(UNUSED, next),
+        ExprHead::Fault(k, place) => ExprShape::Fault(k, place),
+    }
+}
+
+// The shape of the expression at a cursor, read to so many levels. The row of an operation that was read is never unused.
+fn expr_walk(
+    src: &[u8],
+    count: u32,
+    wanted: Kind,
+    moved: u32,
+    levels: u32,
+    nodes: u32,
+    at: usize,
+) -> ExprShape
+    requires { ⌜ nodes ≤ 31 ⌝ }
+    ensures { λ r. ⌜ r ≡ exprShape wanted moved at (exprAt levels (now (src .entry)) count nodes at) ⌝ }
+{
+    if levels == 0 {
+        return ExprShape::Fault(TOO_MANY, at);
+    }
+    let head = expr_head_at(src, count, nodes, at);
+    let ExprHead::Operation(o, next) = head else {
+        return leaf_of(head, wanted, moved, nodes, at);
+    };
+    let Row::Kinds(a, b, result) = semantics::row_of(o as usize) else {
+        return ExprShape::Fault(UNUSED, at);
+    };
+    let first = expr_walk(src, count, a, moved, levels - 1, nodes + 1, next);
+    let ExprShape::Whole(left) = first else {
+        return first;
+    };
+    let second = expr_walk(src, count, b, moved, levels - 1, left.nodes, left.next);
+    let ExprShape::Whole(right) = second else {
+        return second;
+    };
+    let left_error = left.error;
+    let right_error = right.error;
+    let error = wanted_of(result, wanted, at, earlier_of(left_error, right_error));
+    ExprShape::Whole(ExprSummary {
+        error,
+        e: left.e + right.e + 1,
+        occurs: left.occurs + right.occurs,
+        nodes: right.nodes,
+        next: right.next,
+    })
+}
+
+// The shape of the whole expression at a cursor of the file.
+pub fn expr_shape(src: &[u8], count: u32, wanted: Kind, moved: u32, at: usize) -> ExprShape
+    ensures { λ r. ⌜ r ≡ exprShape wanted moved at (wholeExpr (now (src .entry)) count at) ⌝ }
+{
+    expr_walk(src, count, wanted, moved, LEVELS, 0, at)
+}
