@@ -1,5 +1,5 @@
--- Worked examples by computation: document 01's handler file, and 10 to 18 with their places, save the cases that the document
--- marks: those are in `twelve` of crate report.
+-- Worked examples by computation: document 01's handler file, and 10 to 18 with their places, except the cases that the
+-- document marks, which are in `twelve` of the crate `report`.
 use Prim.Native.Nat.{ℕ, _+_, _*_, _^_}
 use mathlib.Core.List.{List, [], _∷_, _++_}
 use mathlib.Core.Path.{_≡_, refl}
@@ -15,7 +15,7 @@ use Rattle.handler.specs.StatementTable.{statementWord, wordOf, statemen
 use Rattle.handler.specs.Reading.{handler, refused, readHandler}
 use Rattle.handler.specs.Shapes.{fileOf}
 
--- Opens all that reading a file computes with.
+-- Unfolds all that reading a file computes with.
 opened : Unit {0}
 unfolding fileOf headOf statementTable wordOf statementWord readHandler headAt countRead sizesRead addSize sizeRead wholeStmt stmtAt stmtHead markHead codeHead targetHead wholeExpr exprAt exprHead tagHead payloadHead integerHead truthHead variableHead operationHead signed fieldAt isThere bitsAt bitAt bitLength fillAt fillFrom furtherByte fillBits firstSet
 opened = tt
@@ -59,14 +59,14 @@ pub handlers :
 unfolding opened
 handlers = (refl, refl, refl, refl, refl, refl)
 
--- 10: the code that is not there on the 17th level. 11. 12, before 13.
+-- 10: a missing code on the 17th level. 11. 12, before 13.
 pub heads :
     (readHandler deep ≡ refused 10 56) × (readHandler (0x00 ∷ []) ≡ refused 11 0) × (readHandler (0xA0 ∷ []) ≡ refused 11 0)
     × (readHandler (0x21 ∷ []) ≡ refused 12 3) × (readHandler (0x31 ∷ []) ≡ refused 12 3) × (readHandler (0x4D ∷ 0x88 ∷ []) ≡ refused 12 8)
 unfolding opened
 heads = (refl, refl, refl, refl, refl, refl)
 
--- 14: code 6, operation 7. 15: a target, a variable. 17, before the code is judged: the level, the node, the statement.
+-- 14: code 6, operation 7. 15: a target, a variable. 17, before the code is looked at: the level, the node, the statement.
 pub nodes :
     (readHandler (0x22 ∷ 0xC0 ∷ []) ≡ refused 14 8) × (readHandler (0x22 ∷ 0x27 ∷ 0xC0 ∷ []) ≡ refused 14 15)
     × (readHandler (0x22 ∷ 0x28 ∷ []) ≡ refused 15 11) × (readHandler (0x22 ∷ 0x24 ∷ 0x80 ∷ []) ≡ refused 15 15)
@@ -75,7 +75,7 @@ pub nodes :
 unfolding opened
 nodes = (refl, refl, refl, refl, refl, refl, refl, refl)
 
--- 16: an assigned truth value, an operand of +. 18: a further byte, a fill bit before 16.
+-- 16: an assigned truth value, an operand of +. 18: a byte after the last field, a fill bit before 16.
 pub ends :
     (readHandler (0x22 ∷ 0x23 ∷ []) ≡ refused 16 13) × (readHandler (0x22 ∷ 0x26 ∷ 0x1C ∷ 0x00 ∷ []) ≡ refused 16 18)
     × (readHandler (0x22 ∷ 0x20 ∷ 0x02 ∷ 0x00 ∷ []) ≡ refused 18 24) × (readHandler (0x22 ∷ 0x23 ∷ 0x80 ∷ []) ≡ refused 18 16)

@@ -1,4 +1,4 @@
--- How the tables of parts make that of a statement: its own word is stored before those of its parts or after them.
+-- How the walk fills the table: a statement's own word is stored before the words of its parts, between them or after them.
 use Prim.Native.Nat.{ℕ, suc, _+_, _-_, _≤_, _<_}
 use mathlib.Core.Bool.{Bool, true, false, cond}
 use mathlib.Core.List.{List, [], _∷_, _++_}
@@ -43,14 +43,14 @@ one-filled : (table₀ table₁ table₂ : List ℕ) (before word : ℕ) (xs : L
     → table₁ ≡ sets table₀ (suc before) xs → table₂ ≡ set table₁ before word → table₂ ≡ sets table₀ before (word ∷ xs)
 one-filled table₀ table₁ table₂ before word xs first own = own ∙ ap (λ l. set l before word) first ∙ set-sets table₀ before (suc before) word xs (omega arith)
 
--- With two parts, whose own word is stored between them.
+-- A statement with two parts, whose own word is stored between theirs.
 two-filled : (table₀ table₁ table₂ table₃ : List ℕ) (before so-far word : ℕ) (xs ys : List ℕ) → so-far ≡ suc before + length xs
     → table₁ ≡ sets table₀ (suc before) xs → table₂ ≡ set table₁ before word → table₃ ≡ sets table₂ so-far ys
     → table₃ ≡ sets table₀ before (word ∷ (xs ++ ys))
 two-filled table₀ table₁ table₂ table₃ before so-far word xs ys counted first own second =
     second ∙ rw (counted, one-filled table₀ table₁ table₂ before word xs first own) (sym (sets-append (set table₀ before word) (suc before) xs ys))
 
--- The words of a statement, by the numbers that reading has.
+-- The words of a statement, from the numbers that reading gives.
 pair-words : (b : Bool) (code before at so-far : ℕ) (l r : Stmt) → eqb code 2 ≡ b → 2 ≤ code → code < 4 → so-far ≡ suc before + statements l
     → statementWords before at (cond b (seq l r) (par l r))
     ≡ statementWord (entry code 0 so-far 0) ∷ (statementWords (suc before) (at + 3) l ++ statementWords so-far (at + 3 + stmtWidth l) r)
@@ -74,7 +74,7 @@ test-words false code before at after e b t least most counted =
     let is : code ≡ 5 = omega arith in
     rw (is, counted)
 
--- What reading a statement makes of a table, from what its parts make of it.
+-- What reading a statement does to a table, from what reading its parts does.
 module _ (bytes : List ℕ) (count levels before at : ℕ) (more : 0 < levels) where
   abbrev here : StmtRead
   here = stmtAt levels bytes count before at

@@ -1,4 +1,4 @@
--- A handler that is read has kinds that fit: where there is no kind error, every node is of the kind wanted of it.
+-- The kinds of a handler that was read fit: if there is no kind error, every node is of the kind wanted of it.
 use Prim.Native.Nat.{ℕ, _+_}
 use mathlib.Core.Bool.{Bool, true, false, cond, _&&_}
 use mathlib.Core.Option.{Option, none, some}
@@ -11,7 +11,7 @@ use Rattle.semantics.specs.declared.Row.the-variants.{Kinds, Unused}
 use Rattle.semantics.specs.Language.{Expr, lit, var, op, Stmt, nil, assign, seq, par, if, while, rowOf, sameKind, kindOf, rowFits, fits, kindsFit}
 use Rattle.handler.specs.Kinds.{width, orPlace, rowKindError, kindError, stmtWidth, stmtKindError}
 
--- No kind error of a node, or of two parts, is none of each.
+-- If there is no kind error, a node is of the wanted kind, and neither of two parts has one.
 own : (b : Bool) (x : Option ℕ) (at : ℕ) → cond b x (some at) ≡ none → (b ≡ true) × (x ≡ none)
 own true x at e = (refl, e)
 own false x at e = absurd (let z : _≡_ {A = ℕ} 0 1 = cc in omega arith)

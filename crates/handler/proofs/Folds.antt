@@ -27,7 +27,7 @@ use Rattle.handler.proofs.expressions.ExprHead.{the-type}
 use Rattle.handler.specs.Expressions.{signed, integerHead, truthHead, variableHead, operationHead, payloadHead, tagHead, exprHead, ExprRead, good, bad, joined, operands, onExprHead, exprAt}
 use Rattle.handler.specs.Kinds.{width}
 
--- One level of reading, in the code's numbers.
+-- One level of reading, with `levels - 1` below it as in the code.
 pub expr-step : (bytes : List ℕ) (count levels nodes at : ℕ) (head : ExprHead) → 0 < levels
     → exprHead bytes count nodes at ≡ head → exprAt levels bytes count nodes at ≡ onExprHead head nodes (exprAt (levels - 1) bytes count)
 unfolding exprAt
@@ -40,7 +40,7 @@ pub inner-step : (bytes : List ℕ) (count levels nodes at o next : ℕ) → 0 <
     → exprAt levels bytes count nodes at ≡ operands o (exprAt (levels - 1) bytes count (nodes + 1) next) (exprAt (levels - 1) bytes count)
 inner-step bytes count levels nodes at o next more e = rw (add-one nodes) (expr-step bytes count levels nodes at _ more e)
 
--- A head that is no operation, by its tag, asks for no operands.
+-- A head that is no operation, by its tag, has no operands.
 pub childless : (head : ExprHead) → OneOf (0 ∷ 1 ∷ 2 ∷ 4 ∷ []) (tagOf the-type head) → (nodes : ℕ) (f g : ℕ → ℕ → ExprRead)
     → onExprHead head nodes f ≡ onExprHead head nodes g
 childless (Integer z next) tag nodes f g = refl
@@ -57,7 +57,7 @@ row-used o small e =
     let z : _≡_ {A = ℕ} 0 1 = cc in
     omega arith
 
--- What is known where a node's head is no fault: there was room for the node, and where the head ends.
+-- What is known if a node's head is no fault: there was room for the node, and where the head ends.
 unfoldable pub Headed : ℕ → ℕ → ℕ → ExprHead → Type 0
 Headed count nodes at (Integer z next) = (nodes < 31) × (next ≡ at + 10) × (mag z < 128)
 Headed count nodes at (Truth b next) = (nodes < 31) × (next ≡ at + 3)
@@ -128,8 +128,8 @@ module _ (bytes : List ℕ) (count nodes : ℕ) where
   pub headed-as : (at : ℕ) (head : ExprHead) → exprHead bytes count nodes at ≡ head → Headed count nodes at head
   headed-as at head e = rw e at (headed at)
 
--- What is known of an expression that was read: where it ends, that its nodes count for its E and are at most 31, of at most 10 bits
--- each.
+-- What is known of an expression that was read: where it ends, that its E is at most the number of its nodes, and that these are at
+-- most 31, of at most 10 bits each.
 pub record Read (nodes at : ℕ) (e : Expr) (after next : ℕ) : Type 0 where
   pub ends : next ≡ at + width e
   pub counted : nodes + E e ≤ after
@@ -166,7 +166,7 @@ pub expr-read : (levels : ℕ) (bytes : List ℕ) (count nodes at : ℕ) (e : Ex
     → exprAt levels bytes count nodes at ≡ good e after next → Read nodes at e after next
 expr-read levels bytes count nodes at e after next p = rw p at (all-read levels bytes count nodes at)
 
--- Every occurrence counts for E.
+-- There are at most E occurrences.
 pub occurs-below : (p : ℕ → Bool) (e : Expr) → occurrences p e ≤ E e
 occurs-below p (lit v) = omega arith
 occurs-below p (var v) = by (p v)

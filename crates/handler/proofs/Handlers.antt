@@ -23,7 +23,7 @@ use Rattle.handler.specs.Shapes.{fileOf}
 use Rattle.handler.proofs.StmtFolds.{TargetsBelow, stmt-read}
 use Rattle.handler.proofs.Parts.{Stands}
 
--- What was found on the way to a handler.
+-- What is known of a handler that was read.
 pub record KnownHandler (bytes sizes : List ℕ) (at : ℕ) (S : Stmt) : Type 0 where
   pub head : head.headAt bytes ≡ head.declared sizes at
   pub stands : Stands bytes (length sizes) at S
@@ -88,7 +88,7 @@ found-handler (handler sizes at S) w f =
     rw (← same) (record { sizes = sizes; S = S; read = refl; counted = refl; stepping = refl })
 found-handler (refused k place) w f = absurd (let z : _≡_ {A = ℕ} 0 1 = cc in omega arith)
 
--- Of a statement with no assignment the variable is 0.
+-- The target of an assignment is below 4; that of any other statement is 0.
 pub target-small : (count : ℕ) (S : Stmt) → count ≤ 4 → TargetsBelow count S → targetOf S < 4
 target-small count nil few below = omega arith
 target-small count (assign v e) few below = omega arith

@@ -1,4 +1,4 @@
--- What is known of the sizes that a head declares: by the number of sizes read.
+-- What is known of the sizes that a head declares, by induction on the number of sizes read.
 use Prim.Native.Nat.{ℕ, zero, suc, _+_, _-_, _*_, _≤_, _<_}
 use native.Mathlib.Nat.{mul-assoc, mul-one, one-mul, mul-pos, mul-le-mul-left}
 use native.Mathlib.Omega.{arith}
@@ -33,7 +33,7 @@ pub product-snoc : (sizes : List ℕ) (size : ℕ) → product (sizes ++ size �
 product-snoc [] size = rw (mul-one, one-mul)
 product-snoc (first ∷ sizes) size = rw (product-snoc sizes size, mul-assoc)
 
--- What holds of 1, of each size and of one more holds of each again.
+-- What holds for 1, for each size and for a new size holds for each size of the longer list.
 each-snoc : (P : ℕ → Type 0) (sizes : List ℕ) (size : ℕ) → P 1 → P size → ((v : ℕ) → P (getD sizes v 1)) → (v : ℕ) → P (getD (sizes ++ size ∷ []) v 1)
 each-snoc P [] size one new old zero = new
 each-snoc P [] size one new old (suc v) = one
@@ -97,7 +97,7 @@ getD-padded [] n v h = getD-replicate n v 1 0 (omega arith)
 getD-padded (size ∷ sizes) n zero h = refl
 getD-padded (size ∷ sizes) n (suc v) h = getD-padded sizes n v (omega arith)
 
--- A declared variable's size is its entry of the array; that of another is 1.
+-- The size of a declared variable is its entry in the array; that of any other is 1.
 pub size-past : (head : Head) (v : ℕ) → head .count ≤ v → getD (sizesIn head) v 1 ≡ 1
 unfolding sizesIn
 size-past head v h = List·getD-eq-default (sizesIn head) 1 {n = v} (omega (arith, length-take (head .count) (head .sizes)))
@@ -140,7 +140,7 @@ limited head h =
     let known = sizes-small (head .count) (head .sizes) (λ v l. sizes v (omega arith)) in
     record { few = few; most = leb-true (head .states) 64 (and-right (leb (head .count) 4) _ both); each = known .0; least = known .1 }
 
--- What is known of a head that is such as a file's.
+-- What is known if the numbers make a head.
 pub record KnownHead (head : Head) : Type 0 where
   pub few : head .count ≤ 4
   pub total : head .states ≡ product (sizesIn head)

@@ -1,5 +1,4 @@
--- A statement of the file is read the same from a fresh start as within a larger one, so that a caller who knows a
--- statement knows its parts, too.
+-- A statement is read the same on its own as within a larger one, so a caller who knows a statement also knows its parts.
 use Prim.Native.Nat.{ℕ, zero, suc, _+_, _-_, _≤_, _<_}
 use mathlib.Core.Bool.{Bool, true, false, cond}
 use mathlib.Core.List.{List}
@@ -16,7 +15,7 @@ use Rattle.handler.specs.Statements.{markHead, stmtHead, StmtRead, whole
 use Rattle.handler.specs.Kinds.{width, stmtWidth}
 use Rattle.handler.proofs.StmtFolds.{Marked, marked, whole-read, stmt-read}
 
--- Where there is room, a head does not depend on how much.
+-- If there is room, a head does not depend on how much.
 same-head : (bytes : List ℕ) (count below before below′ before′ at : ℕ) (head : StmtHead) → 0 < below → before < 63 → 0 < below′ → before′ < 63
     → stmtHead bytes count below before at ≡ head → stmtHead bytes count below′ before′ at ≡ head
 unfolding stmtHead
@@ -26,7 +25,7 @@ same-head bytes count below before below′ before′ at head deep room deep′ 
     roomy : (n b : ℕ) → 0 < n → b < 63 → stmtHead bytes count n b at ≡ markHead bytes count false at (fieldAt bytes at 3)
     roomy n b deep room = rw (ne-eqb n 0 (omega arith), lt-leb 63 b room)
 
--- The other reading has the same statement, and d fewer before it.
+-- The other reading gives the same statement, with d fewer statements before it.
 abbrev Fresh : ℕ → StmtRead → StmtRead → Type 0
 Fresh d (whole S after next) y = (b : ℕ) × (y ≡ whole S b next) × (b + d ≡ after)
 Fresh d (fault k place) y = Unit {0}
@@ -79,7 +78,7 @@ module _ (bytes : List ℕ) (count d : ℕ) where
       by (Test code next) p m later = rw (same (Test code next) p (m .0) (m .1)) (test code (wholeExpr bytes count next) later)
       by (Fault k place) p m later = tt
 
--- A statement read anywhere is read the same from a fresh start.
+-- A statement read anywhere is read the same on its own.
 pub from-start : (levels : ℕ) (bytes : List ℕ) (count before at : ℕ) (S : Stmt) (after next : ℕ) → levels ≤ 17
     → stmtAt levels bytes count before at ≡ whole S after next → wholeStmt bytes count at ≡ whole S (after - before) next
 unfolding wholeStmt

@@ -1,4 +1,4 @@
--- Laws of what walks answer: what an answer says of what was read, and how the answers of parts make that of the whole.
+-- Laws of the shapes of expressions: what a shape says of what was read, and the shape of an expression from those of its operands.
 use Prim.Native.Nat.{ℕ, _+_, _-_, _≤_, _<_}
 use mathlib.Core.Bool.{Bool, true, false, cond}
 use mathlib.Core.List.{List}

@@ -1,5 +1,5 @@
 -- Laws of the statement table: a word gives its statement back, and a table that holds the words of a statement from number j on
--- holds those of its parts.
+-- also holds those of its parts.
 use Prim.Native.Nat.{ℕ, zero, suc, _+_, _-_, _*_, _/_, _%_, _≤_, _<_}
 use mathlib.Core.List.{List, _∷_, _++_, append-assoc}
 use mathlib.Core.Path.{_≡_, refl, sym, ap, _∙_}
@@ -50,7 +50,7 @@ pub record Held (table : List ℕ) (j bit : ℕ) (S : Stmt) : Type 0 where
   pub rest : List ℕ
   pub is : drop j table ≡ statementWords j bit S ++ rest
 
--- It holds those of the parts.
+-- It also holds those of its parts.
 abbrev pub PartsHeld : List ℕ → ℕ → ℕ → Stmt → Type 0
 PartsHeld table j bit nil = Unit {0}
 PartsHeld table j bit (assign v e) = Unit {0}
@@ -111,7 +111,7 @@ module _ (table : List ℕ) (j bit : ℕ) where
   after-small (if e b) = omega arith
   after-small (while e b) = omega arith
 
-  -- Where the words are, the statement's own is its record.
+  -- If a table holds the words of a statement, its entry j is the statement's record.
   pub statement-held : (S : Stmt) → Held table j bit S → targetOf S < 4 → j + statements S ≤ 63 → statementIn table j ≡ statementRecord j bit S
   unfolding statementIn wordOf
   statement-held S h target few =

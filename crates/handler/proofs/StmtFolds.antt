@@ -19,7 +19,7 @@ use Rattle.handler.specs.Kinds.{width, stmtWidth}
 use Rattle.handler.specs.StatementTable.{statements}
 use Rattle.handler.proofs.Folds.{expr-read}
 
--- One level of reading, in the code's numbers.
+-- One level of reading, with `levels - 1` below it as in the code.
 pub stmt-step : (bytes : List ℕ) (count levels before at : ℕ) (head : StmtHead) → 0 < levels
     → stmtHead bytes count (levels - 1) before at ≡ head
     → stmtAt levels bytes count before at ≡ onStmtHead head (wholeExpr bytes count) before (stmtAt (levels - 1) bytes count)
@@ -30,8 +30,8 @@ stmt-step bytes count (suc levels) before at head more e =
     let here : stmtHead bytes count levels before at ≡ head = rw less at e in
     rw (here, less)
 
--- What is known where a statement's head is no fault: there was room for the statement, where the head ends, and that an assigned
--- variable is there.
+-- What is known if a statement's head is no fault: there was room for the statement, where the head ends, and that an assigned
+-- variable exists.
 unfoldable pub Marked : ℕ → ℕ → ℕ → ℕ → StmtHead → Type 0
 Marked count below before at (Nil next) = (0 < below) × (before < 63) × (next ≡ at + 3)
 Marked count below before at (Assign v next) = (0 < below) × (before < 63) × (next ≡ at + 5) × (v < count) × (v < 4)
@@ -79,7 +79,7 @@ module _ (bytes : List ℕ) (count below before : ℕ) where
       by Missing e = tt
       by (Value code next) e = full (eqb below 0) (leb 63 before) refl refl code next (there bytes at 3 code next e .moved)
 
--- Where a whole expression ends; it has at most 31 nodes of 10 bits.
+-- Where a whole expression ends. It has at most 31 nodes of 10 bits.
 pub record ReadExpr (at : ℕ) (e : Expr) (next : ℕ) : Type 0 where
   pub ends : next ≡ at + width e
   pub short : width e ≤ 310

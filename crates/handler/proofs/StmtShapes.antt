@@ -1,5 +1,5 @@
--- Laws of statements' shapes: a step number capped at one past the limit is made of capped parts, and how the shapes of
--- parts make that of the whole.
+-- Laws of the shapes of statements: capping the parts of a step number does not change the capped whole, and the shape of a
+-- statement follows from those of its parts.
 use Prim.Native.Nat.{ℕ, zero, suc, _+_, _-_, _*_, _^_, _<_, min}
 use mathlib.Core.Bool.{Bool, true, false, cond}
 use mathlib.Core.List.{List}
@@ -33,7 +33,7 @@ use Rattle.handler.specs.Reading.{onKinds, onFill, onStmt}
 use Rattle.handler.proofs.Shapes.{or-earlier, shaped, faulted}
 use Rattle.handler.proofs.StmtFolds.{stmt-step, Marked, marked, whole-read, stmt-read}
 
--- A part past the limit may count as one past it, also where it counts y times.
+-- Capping a part that counts y times does not change the capped sum.
 pub cap-part : (x y b : ℕ) → min (x + y * (min b (2 ^ 32) + 1)) (2 ^ 32) ≡ min (x + y * (b + 1)) (2 ^ 32)
 cap-part x y b = by (leb b (2 ^ 32)) refl y
   where

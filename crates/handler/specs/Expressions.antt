@@ -12,11 +12,11 @@ use Rattle.semantics.specs.Language.{Expr, lit, var, op, int, truth}
 use Rattle.handler.specs.declared.expressions.ExprHead.{ExprHead}
 use Rattle.handler.specs.declared.expressions.ExprHead.the-variants.{Integer, Truth, Variable, Operation, Fault}
 
--- 8 bits in two's complement.
+-- The value of 8 bits in two's complement.
 unfoldable pub signed : ℕ → ℤ
 signed n = cond (ltb n 128) (pos n) (negsuc (255 - n))
 
--- What the payload of a tag says: 15 no such variable and 14 operation 7 are at the payload's field.
+-- What follows each tag. 15 (no such variable) and 14 (operation 7) are at the field after the tag.
 unfoldable pub integerHead : List ℕ → Field → ExprHead
 integerHead bytes Missing = Fault 10 (bitLength bytes)
 integerHead bytes (Value n next) = Integer (signed n) next
@@ -39,16 +39,16 @@ payloadHead bytes count at tag =
     (cond (eqb tag 1) (truthHead bytes (fieldAt bytes at 1))
     (cond (eqb tag 2) (variableHead bytes count at (fieldAt bytes at 2)) (operationHead bytes at (fieldAt bytes at 3))))
 
--- A node's tag: 10 not there, then 17 the 32nd node, then what it says.
+-- A node's tag: 10 if it is missing, then 17 at the 32nd node, then what follows the tag.
 unfoldable pub tagHead : List ℕ → ℕ → ℕ → ℕ → Field → ExprHead
 tagHead bytes count nodes at Missing = Fault 10 (bitLength bytes)
 tagHead bytes count nodes at (Value tag next) = cond (leb 31 nodes) (Fault 17 at) (payloadHead bytes count next tag)
 
--- What is at a node, where so many nodes of the expression are before it.
+-- The head of the node at a cursor, with `nodes` nodes of the expression before it.
 unfoldable pub exprHead : List ℕ → ℕ → ℕ → ℕ → ExprHead
 exprHead bytes count nodes at = tagHead bytes count nodes at (fieldAt bytes at 2)
 
--- An expression with the number of its nodes so far and the cursor after it, or the first fault.
+-- An expression, the number of nodes so far and the cursor after it; or the first fault.
 pub data ExprRead : Type 0 where
   good : Expr → ℕ → ℕ → ExprRead
   bad : ℕ → ℕ → ExprRead
@@ -68,11 +68,11 @@ onExprHead (Variable v next) nodes expr = good (var v) (suc nodes) next
 onExprHead (Operation o next) nodes expr = operands o (expr (suc nodes) next) expr
 onExprHead (Fault k place) nodes expr = bad k place
 
--- The expression at a cursor. The levels to go are one more than the 31 that there can be, so their end is never met.
+-- The expression at a cursor. `levels` starts at one more than the 31 that there can be, so it never runs out.
 unfoldable pub exprAt : ℕ → List ℕ → ℕ → ℕ → ℕ → ExprRead
 exprAt zero bytes count nodes at = bad 17 at
 exprAt (suc levels) bytes count nodes at = onExprHead (exprHead bytes count nodes at) nodes (exprAt levels bytes count)
 
--- The whole expression at a cursor of the file.
+-- The whole expression at a cursor.
 unfoldable pub wholeExpr : List ℕ → ℕ → ℕ → ExprRead
 wholeExpr bytes count at = exprAt 32 bytes count 0 at

@@ -1,5 +1,5 @@
--- Document 01, "The two files": 3 bits number of variables, 5 bits per size. A head is the list of its sizes, variable 0 first: the
--- number of variables is its length, N its product.
+-- Document 01, "The two files": 3 bits for the number of variables, 5 bits for each size. A head is the list of its sizes,
+-- variable 0 first. The number of variables is its length, and N is its product.
 use Prim.Native.Nat.{ℕ, zero, suc, _-_, _*_}
 use mathlib.Core.Bool.{Bool, cond, _&&_, _||_}
 use mathlib.Core.List.{List, [], _∷_, _++_}
@@ -19,7 +19,7 @@ pub data HeadRead : Type 0 where
   declared : List ℕ → ℕ → HeadRead
   fault : ℕ → ℕ → HeadRead
 
--- One more size, at its place: 10 not there, 12 not 2 to 16, 13 N over 64 at the size that does it.
+-- One more size, at its place: 10 if it is missing, 12 if it is not 2 to 16, 13 at the size that brings N over 64.
 unfoldable pub sizeRead : List ℕ → List ℕ → ℕ → Field → HeadRead
 sizeRead bytes sizes at Missing = fault 10 (bitLength bytes)
 sizeRead bytes sizes at (Value size next) =
@@ -30,7 +30,7 @@ unfoldable pub addSize : List ℕ → HeadRead → HeadRead
 addSize bytes (fault k place) = fault k place
 addSize bytes (declared sizes at) = sizeRead bytes sizes at (fieldAt bytes at 5)
 
--- The head after so many of the sizes.
+-- The head after so many sizes.
 unfoldable pub sizesRead : List ℕ → ℕ → HeadRead
 sizesRead bytes zero = declared [] 3
 sizesRead bytes (suc k) = addSize bytes (sizesRead bytes k)
@@ -44,7 +44,7 @@ countRead bytes (Value count next) = cond (leb 1 count && leb count 4) (sizesRea
 unfoldable pub headAt : List ℕ → HeadRead
 headAt bytes = countRead bytes (fieldAt bytes 0 3)
 
--- The head as the code passes it on; past the count the sizes are 1.
+-- The head as the code passes it on. Past the count the sizes are 1.
 unfoldable pub headOf : List ℕ → Head
 headOf sizes = record { count = length sizes; sizes = sizes ++ replicate (4 - length sizes) 1; states = product sizes }
 
@@ -60,18 +60,18 @@ headFile (fault k place) = record { head = noHead; end = end.Fault k place }
 unfoldable pub sizesIn : Head → List ℕ
 sizesIn head = take (head .count) (head .sizes)
 
--- Whether the numbers are within the limits of a file's head: at most 4 variables, sizes of 1 to 16, at most 64 states.
+-- Whether the numbers are within the limits of a head: at most 4 variables, sizes of 1 to 16, at most 64 states.
 abbrev pub isSize : ℕ → Bool
 isSize size = leb 1 size && leb size 16
 
 unfoldable pub inLimits : Head → Bool
 inLimits head = leb (head .count) 4 && leb (head .states) 64 && all 4 (λ v. isSize (getD (head .sizes) v 0))
 
--- Whether the numbers are such as a file's head has: within the limits, and the states as many as the sizes give.
+-- Whether the numbers make a head: they are within the limits, and N is the product of the sizes.
 unfoldable pub isHead : Head → Bool
 isHead head = inLimits head && eqb (head .states) (product (sizesIn head))
 
--- The variables of a head as steps see them; there is no state where the numbers are not such as a file's head has.
+-- The variables of a head as steps see them. There is no state if the numbers do not make a head.
 unfoldable pub machineIn : Head → Machine
 machineIn head =
     let m = machineOf (sizesIn head) in

@@ -1,6 +1,5 @@
--- Document 01, number 16: the first node, in file order, whose result kind is not the wanted one; of expressions, then of statements.
--- The bit of a node or of a part is that of what it belongs to plus the widths before it, because the format has one encoding for a
--- tree.
+-- Document 01, number 16: the first node, in file order, whose result is not of the wanted kind; in expressions, then in statements.
+-- The bit of a part is that of the whole plus the widths before the part, because the format has one encoding for each tree.
 use Prim.Native.Nat.{ℕ, _+_}
 use mathlib.Core.Bool.{cond}
 use mathlib.Core.Option.{Option, none, some}
@@ -24,12 +23,12 @@ abbrev pub orPlace : Option ℕ → Option ℕ → Option ℕ
 orPlace none next = next
 orPlace (some place) next = some place
 
--- A node's own place comes first, then those of its operands, which its row gives their kinds.
+-- A node's own place comes first, then those of its operands, whose kinds its row gives.
 abbrev pub rowKindError : Row → Kind → ℕ → (Kind → Option ℕ) → (Kind → Option ℕ) → Option ℕ
 rowKindError (Kinds a b c) k at left right = cond (sameKind c k) (orPlace (left a) (right b)) (some at)
 rowKindError Unused k at left right = some at
 
--- The first node of an expression at a place that is not of the kind wanted of it.
+-- The first node, in an expression at a place, that is not of the kind wanted of it.
 abbrev pub kindError : Kind → ℕ → Expr → Option ℕ
 kindError k at (lit v) = cond (sameKind (kindOf v) k) none (some at)
 kindError k at (var v) = cond (sameKind Integer k) none (some at)

@@ -1,4 +1,4 @@
--- Document 01, "Order": the handler file front to back, then 16 once no other handler fault is met.
+-- Document 01, "Order": the handler file front to back, then 16 if the file has no other fault.
 use Prim.Native.Nat.{ℕ}
 use mathlib.Core.List.{List}
 use mathlib.Core.Option.{Option, none, some}
@@ -20,7 +20,7 @@ abbrev pub onKinds : List ℕ → ℕ → Stmt → Option ℕ → HandlerRead
 onKinds sizes at S none = handler sizes at S
 onKinds sizes at S (some place) = refused 16 place
 
--- 18: a fill bit that is not zero, or a further byte.
+-- 18: a fill bit is not zero, or a byte follows the last field.
 abbrev pub onFill : List ℕ → ℕ → Stmt → Fill → HandlerRead
 onFill sizes at S Ends = onKinds sizes at S (stmtKindError at S)
 onFill sizes at S (Wrong place) = refused 18 place

@@ -1,5 +1,5 @@
--- What walks over the bits answer, from what reading says: the definitions of document 01 over trees, with no tree in the
--- answer. First of expressions, then of statements, then of the file.
+-- What the walks over the bits answer, from what is read there: the definitions of document 01 over trees, with no tree in the
+-- answer. First for expressions, then for statements, then for the file.
 use Prim.Native.Nat.{ℕ, _+_, _-_, _*_, _/_, _%_, _^_, min}
 use mathlib.Core.Bool.{Bool, cond}
 use mathlib.Core.List.{List}
@@ -41,11 +41,11 @@ abbrev pub earlierOf : KindError → KindError → KindError
 earlierOf Nowhere second = second
 earlierOf (At place) second = At place
 
--- Whether variable v is in a mask: its bit v.
+-- Whether variable v is in a mask: whether bit v is 1.
 abbrev pub inMask : ℕ → ℕ → Bool
 inMask mask v = eqb (mask / 2 ^ v % 2) 1
 
--- Of an expression at a place, of which a kind is wanted: its kind error, its E, and how many occurrences are of masked variables.
+-- The summary of an expression at a place, of which a kind is wanted: its kind error, its E, and how often masked variables occur.
 abbrev pub exprSummary : Kind → ℕ → ℕ → Expr → ℕ → ℕ → ExprSummary
 exprSummary wanted moved at e nodes next =
     record { error = asKindError (kindError wanted at e); e = E e; occurs = occurrences (inMask moved) e; nodes = nodes; next = next }
@@ -54,7 +54,7 @@ unfoldable pub exprShape : Kind → ℕ → ℕ → ExprRead → ExprShape
 exprShape wanted moved at (good e nodes next) = expr.Whole (exprSummary wanted moved at e nodes next)
 exprShape wanted moved at (bad k place) = expr.Fault k place
 
--- Of a statement at a place, over N states: its step number as far as 2 ^ 32, which is past the limit, and its kind error.
+-- The summary of a statement at a place, over N states: its step number, capped at 2 ^ 32, one past the limit, and its kind error.
 abbrev pub stmtSummary : ℕ → ℕ → Stmt → ℕ → ℕ → StmtSummary
 stmtSummary N at S after next =
     record { steps = min (steps N S) (2 ^ 32); error = asKindError (stmtKindError at S); statements = after; next = next }
@@ -63,7 +63,7 @@ unfoldable pub stmtShape : ℕ → ℕ → StmtRead → StmtShape
 stmtShape N at (whole S after next) = stmt.Whole (stmtSummary N at S after next)
 stmtShape N at (fault k place) = stmt.Fault k place
 
--- How the shapes of parts make that of a statement: an assignment, a sequence or parallel, an if (4) or while (5).
+-- The shape of a statement from those of its parts: an assignment, a sequence or parallel, an if (4) or while (5).
 abbrev pub assignedOf : ℕ → ExprShape → StmtShape
 assignedOf after (expr.Whole e) =
     stmt.Whole (record { steps = min (e .e + 1) (2 ^ 32); error = e .error; statements = after; next = e .next })
@@ -91,7 +91,7 @@ testedOf N code e b =
       next = b .next;
     }
 
--- Of a handler file.
+-- What reading a handler file gives.
 unfoldable pub fileOf : HandlerRead → HandlerFile
 fileOf (handler sizes at S) =
     record {
@@ -101,7 +101,7 @@ fileOf (handler sizes at S) =
     }
 fileOf (refused k place) = record { found = found.Fault k place; head = noHead; statements = replicate 63 0 }
 
--- How the file's answer is made of its statement's: 18, then 16.
+-- What is found in the file, from the shape of its statement: 18, then 16.
 abbrev pub fittingOf : ℕ → StmtSummary → KindError → HandlerFound
 fittingOf at w (At place) = found.Fault 16 place
 fittingOf at w Nowhere = found.Handler (record { at = at; statements = w .statements; steps = w .steps })

@@ -1,4 +1,4 @@
--- The statements of a handler as a table in file order, a word for each: the statement itself, then those of its parts.
+-- The statements of a handler as a table in file order, one word for each: the statement itself, then its parts.
 use Prim.Native.Nat.{ℕ, suc, _+_, _-_, _*_, _/_, _%_}
 use mathlib.Core.List.{List, [], _∷_, _++_}
 use mathlib.Core.Path.{_≡_}
@@ -10,7 +10,7 @@ use Rattle.handler.specs.declared.table.Statement.{Statement}
 use Rattle.handler.specs.Kinds.{width, stmtWidth}
 use Rattle.handler.specs.Statements.{StmtRead, whole, fault}
 
--- How many statements a statement has, itself among them.
+-- The number of statements in a statement, itself included.
 abbrev pub statements : Stmt → ℕ
 statements nil = 1
 statements (assign v e) = 1
@@ -19,18 +19,18 @@ statements (par l r) = 1 + statements l + statements r
 statements (if e b) = 1 + statements b
 statements (while e b) = 1 + statements b
 
--- A statement as one word, and back: 3 bits its code, 2 bits its variable, 7 bits `after`, then the bit of its expression.
+-- A statement as one word, and back: 3 bits for its code, 2 for its variable, 7 for `after`, then the first bit of its expression.
 unfoldable pub statementWord : Statement → ℕ
 statementWord s = s .code + 8 * (s .target + 4 * (s .after + 128 * s .expr))
 
 unfoldable pub statementOf : ℕ → Statement
 statementOf word = record { code = word % 8; target = word / 8 % 4; after = word / 32 % 128; expr = word / 4096 }
 
--- Statement j of a table; past its end the word is 0.
+-- Statement j of a table. Past the end the word is 0.
 unfoldable pub statementIn : List ℕ → ℕ → Statement
 statementIn table j = statementOf (getD table j 0)
 
--- The number of the statement after the first part of statement j; after j itself where it has no parts.
+-- The number of the statement after the first part of statement j; after j itself if it has no parts.
 abbrev pub afterFirst : ℕ → Stmt → ℕ
 afterFirst j nil = suc j
 afterFirst j (assign v e) = suc j
@@ -39,7 +39,7 @@ afterFirst j (par l r) = suc j + statements l
 afterFirst j (if e b) = suc j + statements b
 afterFirst j (while e b) = suc j + statements b
 
--- The first bit of the expression of a statement at a bit; 0 where it has none.
+-- The first bit of the expression of a statement at a bit; 0 if it has none.
 abbrev pub exprBit : ℕ → Stmt → ℕ
 exprBit bit nil = 0
 exprBit bit (assign v e) = bit + 5
@@ -67,8 +67,8 @@ statementWords j bit (par l r) =
 statementWords j bit (if e b) = wordOf j bit (if e b) ∷ statementWords (suc j) (bit + 3 + width e) b
 statementWords j bit (while e b) = wordOf j bit (while e b) ∷ statementWords (suc j) (bit + 3 + width e) b
 
--- What reading a statement at a bit makes of a table, where `before` statements are before it: the words of the statement are stored
--- one after the other. Nothing is said where reading meets a fault.
+-- What reading the statement at a bit does to a table, with `before` statements before it: the words of the statement are stored one
+-- after the other. Nothing is said if reading finds a fault.
 abbrev pub Filled : List ℕ → List ℕ → ℕ → ℕ → StmtRead → Type 0
 Filled entry exit before bit (whole S after next) = exit ≡ sets entry before (statementWords before bit S)
 Filled entry exit before bit (fault k place) = Unit {0}

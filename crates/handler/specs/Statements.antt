@@ -1,4 +1,4 @@
--- Document 01, "The two files": a statement is 3 bits, then what its code asks; at most 63 statements, 16 levels of them.
+-- Document 01, "The two files": a statement is 3 bits, then what its code asks for; at most 63 statements on at most 16 levels.
 use Prim.Native.Nat.{ℕ, zero, suc}
 use mathlib.Core.Bool.{Bool, false, cond, _||_}
 use mathlib.Core.List.{List}
@@ -11,28 +11,28 @@ use Rattle.handler.specs.declared.StmtHead.{StmtHead}
 use Rattle.handler.specs.declared.StmtHead.the-variants.{Nil, Assign, Pair, Test, Fault}
 use Rattle.handler.specs.Expressions.{ExprRead, good, bad, wholeExpr}
 
--- 15: an assignment's variable, at its field.
+-- An assignment's variable: 15, at its field, if there is no such variable.
 unfoldable pub targetHead : List ℕ → ℕ → ℕ → Field → StmtHead
 targetHead bytes count at Missing = Fault 10 (bitLength bytes)
 targetHead bytes count at (Value v next) = cond (ltb v count) (Assign v next) (Fault 15 at)
 
--- What a statement code says: 14 for the unused codes 6 and 7.
+-- What follows each code: 14 for the unused codes 6 and 7.
 unfoldable pub codeHead : List ℕ → ℕ → ℕ → ℕ → ℕ → StmtHead
 codeHead bytes count at code next =
     cond (eqb code 0) (Nil next)
     (cond (eqb code 1) (targetHead bytes count next (fieldAt bytes next 2))
     (cond (ltb code 4) (Pair code next) (cond (ltb code 6) (Test code next) (Fault 14 at))))
 
--- A statement's code: 10 not there, then 17 the 64th statement or the 17th level, then what it says.
+-- A statement's code: 10 if it is missing, then 17 at the 64th statement or the 17th level, then what follows the code.
 unfoldable pub markHead : List ℕ → ℕ → Bool → ℕ → Field → StmtHead
 markHead bytes count tooMany at Missing = Fault 10 (bitLength bytes)
 markHead bytes count tooMany at (Value code next) = cond tooMany (Fault 17 at) (codeHead bytes count at code next)
 
--- What is at a statement with so many statements before it, where so many levels are left below it.
+-- The head of the statement at a cursor, with `before` statements before it and `below` levels left below it.
 unfoldable pub stmtHead : List ℕ → ℕ → ℕ → ℕ → ℕ → StmtHead
 stmtHead bytes count below before at = markHead bytes count (eqb below 0 || leb 63 before) at (fieldAt bytes at 3)
 
--- A statement with the number of statements so far and the cursor after it, or the first fault.
+-- A statement, the number of statements so far and the cursor after it; or the first fault.
 pub data StmtRead : Type 0 where
   whole : Stmt → ℕ → ℕ → StmtRead
   fault : ℕ → ℕ → StmtRead
@@ -70,8 +70,8 @@ onStmtHead (Pair code next) expr before stmt = onLeft code (stmt (suc before) ne
 onStmtHead (Test code next) expr before stmt = onTest code (suc before) (expr next) stmt
 onStmtHead (Fault k place) expr before stmt = fault k place
 
--- The statement at a cursor. The levels to go are one more than the 16 that can be there: a field that is missing at the
--- level past the limit is 10, not 17, and the end of the levels is never met.
+-- The statement at a cursor. `levels` starts at one more than the 16 that there can be: a field that is missing on the 17th level is
+-- 10, not 17, and `levels` never runs out.
 unfoldable pub stmtAt : ℕ → List ℕ → ℕ → ℕ → ℕ → StmtRead
 stmtAt zero bytes count before at = fault 17 at
 stmtAt (suc levels) bytes count before at =

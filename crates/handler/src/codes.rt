@@ -1,6 +1,6 @@
-// The numbers of document 01 that reading the handler file gives.
+// Document 01's numbers for the faults of the handler file.
 
-// A field runs past the end.
+// A field runs past the end of the file.
 pub const MISSING: u32 = 10;
 // The number of variables is not 1 to 4.
 pub const VARIABLES: u32 = 11;
@@ -10,11 +10,11 @@ pub const SIZE: u32 = 12;
 pub const STATES: u32 = 13;
 // An unused statement code, or the unused operation.
 pub const UNUSED: u32 = 14;
-// No such variable.
+// There is no such variable.
 pub const NO_VARIABLE: u32 = 15;
-// Kinds do not fit.
+// The kinds do not fit.
 pub const KINDS: u32 = 16;
-// Too many or too deep.
+// Too many statements or nodes, or too many levels.
 pub const TOO_MANY: u32 = 17;
-// A fill bit is not zero, or a further byte.
+// A fill bit is not zero, or a byte follows the last field.
 pub const FILL: u32 = 18;

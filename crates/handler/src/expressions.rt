@@ -1,4 +1,4 @@
-// Expressions: what is at a node, and what a whole expression is made of.
+// Expressions: reading a node, and the summary of a whole expression.
 use crate::codes::MISSING;
 use crate::codes::NO_VARIABLE;
 use crate::codes::TOO_MANY;
@@ -14,12 +14,12 @@ ghost use Rattle.semantics.specs.Language.{sameKind};
 ghost use Rattle.handler.specs.Expressions.{signed, integerHead, truthHead, variableHead, operationHead, payloadHead, exprHead, bad, onExprHead, exprAt, wholeExpr};
 ghost use Rattle.handler.specs.Shapes.{inMask, earlierOf, exprShape};
 
-// An expression has at most 31 nodes, so that it is read to one level more.
+// An expression has at most 31 nodes. One level more than that is read.
 const MOST_NODES: u32 = 31;
 
 const LEVELS: u32 = 32;
 
-// The bits of a node's tag, and of what each tag asks for.
+// The widths in bits of a node's tag and of what follows each tag.
 const TAG_BITS: usize = 2;
 
 const INTEGER_BITS: usize = 8;
@@ -30,17 +30,17 @@ const VARIABLE_BITS: usize = 2;
 
 const OPERATION_BITS: usize = 3;
 
-// The tags; an operation has the last one.
+// The tags. Tag 3, the last one, is an operation.
 const INTEGER: u64 = 0;
 
 const TRUTH: u64 = 1;
 
 const VARIABLE: u64 = 2;
 
-// The operation that is not used.
+// The unused operation.
 const NO_OPERATION: u64 = 7;
 
-// What is at an expression's first bits: a constant, a variable or an operation, and the cursor after it; or a fault.
+// What an expression's first bits hold: a constant, a variable or an operation, with the cursor after it; or a fault.
 pub enum ExprHead {
     Integer(i64, usize),
     Truth(bool, usize),
@@ -49,14 +49,14 @@ pub enum ExprHead {
     Fault(u32, usize),
 }
 
-// Where kinds do not fit: nowhere, or the first bit of the first node whose result kind is not the wanted one.
+// Where the kinds do not fit: nowhere, or at the first bit of the first node whose result is not of the wanted kind.
 pub enum KindError {
     Nowhere,
     At(usize),
 }
 
-// Of a whole expression: its kind error, its E, how many of its variable occurrences are of given variables, the nodes so far and
-// the cursor after it.
+// A summary of a whole expression: its kind error, its E, how often given variables occur in it, the number of nodes so far and the
+// cursor after it.
 pub struct ExprSummary {
     pub error: KindError,
     pub e: u32,
@@ -65,13 +65,13 @@ pub struct ExprSummary {
     pub next: usize,
 }
 
-// What reading a whole expression gives, or a fault.
+// The summary of a whole expression, or its first fault.
 pub enum ExprShape {
     Whole(ExprSummary),
     Fault(u32, usize),
 }
 
-// 8 bits in two's complement.
+// The value of 8 bits in two's complement.
 fn signed_of(n: u64) -> i64
     requires { ⌜ n < 256 ⌝ }
     ensures { λ r. ⌜ r ≡ signed n ⌝ }
@@ -79,7 +79,7 @@ fn signed_of(n: u64) -> i64
     if n < 128 { n as i64 } else { n as i64 - 256 }
 }
 
-// An integer constant's 8 bits.
+// Reads an integer constant: 8 bits.
 fn integer_at(src: &[u8], at: usize) -> ExprHead
     ensures { λ r. ⌜ r ≡ integerHead (now (src .entry)) (fieldAt (now (src .entry)) at 8) ⌝ }
 {
@@ -89,7 +89,7 @@ fn integer_at(src: &[u8], at: usize) -> ExprHead
     ExprHead::Integer(signed_of(n), next)
 }
 
-// A truth constant's bit.
+// Reads a truth constant: 1 bit.
 fn truth_at(src: &[u8], at: usize) -> ExprHead
     ensures { λ r. ⌜ r ≡ truthHead (now (src .entry)) (fieldAt (now (src .entry)) at 1) ⌝ }
 {
@@ -99,7 +99,7 @@ fn truth_at(src: &[u8], at: usize) -> ExprHead
     ExprHead::Truth(n == 1, next)
 }
 
-// A variable's 2 bits.
+// Reads a variable: 2 bits.
 fn variable_at(src: &[u8], count: u32, at: usize) -> ExprHead
     ensures { λ r. ⌜ r ≡ variableHead (now (src .entry)) count at (fieldAt (now (src .entry)) at 2) ⌝ }
 {
@@ -113,7 +113,7 @@ fn variable_at(src: &[u8], count: u32, at: usize) -> ExprHead
     }
 }
 
-// An operation's 3 bits.
+// Reads an operation: 3 bits.
 fn operation_at(src: &[u8], at: usize) -> ExprHead
     ensures { λ r. ⌜ r ≡ operationHead (now (src .entry)) at (fieldAt (now (src .entry)) at 3) ⌝ }
 {
@@ -126,7 +126,7 @@ fn operation_at(src: &[u8], at: usize) -> ExprHead
     ExprHead::Operation(o as u32, next)
 }
 
-// What a node's tag asks for, at the cursor after the tag.
+// Reads what follows a node's tag, at the cursor after the tag.
 fn payload_at(src: &[u8], count: u32, at: usize, tag: u64) -> ExprHead
     ensures { λ r. ⌜ r ≡ payloadHead (now (src .entry)) count at tag ⌝ }
 {
@@ -142,7 +142,7 @@ fn payload_at(src: &[u8], count: u32, at: usize, tag: u64) -> ExprHead
     operation_at(src, at)
 }
 
-// What is at a node, where `nodes` nodes of its expression are before it.
+// Reads the head of the node at a cursor, with `nodes` nodes of its expression before it.
 pub fn expr_head_at(src: &[u8], count: u32, nodes: u32, at: usize) -> ExprHead
     ensures { λ r. ⌜ r ≡ exprHead (now (src .entry)) count nodes at ⌝ }
 {
@@ -155,7 +155,7 @@ pub fn expr_head_at(src: &[u8], count: u32, nodes: u32, at: usize) -> ExprHead
     payload_at(src, count, next, tag)
 }
 
-// The kind error of a node at a place: its own, where its result is not of the wanted kind, else that of what is below it.
+// The kind error of the node at `at`: its own if its result is not of the wanted kind, otherwise that of its operands.
 fn wanted_of(result: Kind, wanted: Kind, at: usize, below: KindError) -> KindError
     ensures { λ r. ⌜ r ≡ cond (sameKind result wanted) below (KindError.At at) ⌝ }
 {
@@ -171,7 +171,7 @@ fn wanted_of(result: Kind, wanted: Kind, at: usize, below: KindError) -> KindErr
     }
 }
 
-// The first kind error of two parts.
+// The first kind error of two parts, in file order.
 pub fn earlier_of(first: KindError, second: KindError) -> KindError
     ensures { λ r. ⌜ r ≡ earlierOf first second ⌝ }
 {
@@ -181,7 +181,7 @@ pub fn earlier_of(first: KindError, second: KindError) -> KindError
     }
 }
 
-// How many occurrences of a masked variable one occurrence of v is; a mask has 32 bits.
+// 1 if variable v is in the mask, otherwise 0. A mask has 32 bits.
 fn occurs_in(mask: u32, v: u32) -> u32
     ensures { λ r. ⌜ r ≡ cond (inMask mask v) 1 0 ⌝ }
 {
@@ -191,7 +191,7 @@ fn occurs_in(mask: u32, v: u32) -> u32
     (mask >> v) % 2
 }
 
-// The shape of a node that has no operands, from its head; an operation's operands are not read here.
+// The shape of a node without operands, from its head. The operands of an operation are not read here.
 fn leaf_of(head: ExprHead, wanted: Kind, moved: u32, nodes: u32, at: usize) -> ExprShape
     requires { ⌜ nodes ≤ 31 ⌝ }
     ensures { λ r. ⌜ r ≡ exprShape wanted moved at (onExprHead head nodes (λ _ place. bad 14 place)) ⌝ }
@@ -232,7 +232,7 @@ fn leaf_of(head: ExprHead, wanted: Kind, moved: u32, nodes: u32, at: usize) -> E
     }
 }
 
-// The shape of the expression at a cursor, read to so many levels. The row of an operation that was read is never unused.
+// The shape of the expression at a cursor, with `levels` levels to read. An operation that was read always has a row.
 fn expr_walk(
     src: &[u8],
     count: u32,
@@ -275,7 +275,7 @@ fn expr_walk(
     })
 }
 
-// The shape of the whole expression at a cursor of the file.
+// The shape of the whole expression at a cursor.
 pub fn expr_shape(src: &[u8], count: u32, wanted: Kind, moved: u32, at: usize) -> ExprShape
     ensures { λ r. ⌜ r ≡ exprShape wanted moved at (wholeExpr (now (src .entry)) count at) ⌝ }
 {

@@ -20,12 +20,12 @@ const MOST_SIZE: u64 = 16;
 
 const MOST_STATES: u64 = 64;
 
-// The bits of the number of variables, and of a size.
+// The widths in bits of the number of variables and of a size.
 const COUNT_BITS: usize = 3;
 
 const SIZE_BITS: usize = 5;
 
-// The variables that the head declares: how many, the size of each (1 past the count), and how many states N.
+// The variables that the head declares: how many, the size of each (1 past the count), and the number of states N.
 pub struct Head {
     pub count: u32,
     pub sizes: [u32; 4],
@@ -55,7 +55,7 @@ pub fn no_head() -> Head
     }
 }
 
-// A faulty head.
+// A head with a fault.
 fn faulty(code: u32, place: usize) -> HeadFile
     ensures { λ r. ⌜ r ≡ headFile (fault code place) ⌝ }
 {
@@ -66,7 +66,7 @@ fn faulty(code: u32, place: usize) -> HeadFile
     }
 }
 
-// The head after one more size than the first k. The product is taken in 64 bits.
+// Reads one more size after the first k. The product is computed in 64 bits.
 fn add_size(src: &[u8], k: u64, file: HeadFile) -> HeadFile
     requires { ⌜ (k < 4) × (file ≡ headFile (sizesRead (now src) k)) ⌝ }
     ensures { λ r. ⌜ r ≡ headFile (sizesRead (now (src .entry)) (k + 1)) ⌝ }
@@ -99,7 +99,7 @@ fn add_size(src: &[u8], k: u64, file: HeadFile) -> HeadFile
     }
 }
 
-// The head of the file, or its first fault.
+// Reads the head of the file, or finds its first fault.
 pub fn read_head(src: &[u8]) -> HeadFile
     ensures { λ r. ⌜ r ≡ headFile (headAt (now (src .entry))) ⌝ }
 {
@@ -124,14 +124,14 @@ pub fn read_head(src: &[u8]) -> HeadFile
     file
 }
 
-// Whether a variable can have the size; 1 is that of one past the count.
+// Whether a variable can have this size. A variable past the count has size 1.
 fn is_size(size: u32) -> bool
     ensures { λ r. ⌜ r ≡ isSize size ⌝ }
 {
     (1 <= size) & (size as u64 <= MOST_SIZE)
 }
 
-// The size of variable v; 1 where it is not declared.
+// The size of variable v; 1 if it is not declared.
 pub fn size_of(head: Head, v: u32) -> u32
     ensures { λ r. ⌜ r ≡ getD (sizesIn head) v 1 ⌝ }
 {
@@ -145,7 +145,7 @@ pub fn size_of(head: Head, v: u32) -> u32
     sizes[v as usize]
 }
 
-// Whether the numbers are within the limits of a file's head.
+// Whether the numbers are within the limits of a head.
 fn in_limits(head: Head) -> bool
     ensures { λ r. ⌜ r ≡ inLimits head ⌝ }
 {
@@ -154,7 +154,7 @@ fn in_limits(head: Head) -> bool
     few & (is_size(sizes[0]) & is_size(sizes[1]) & is_size(sizes[2]) & is_size(sizes[3]))
 }
 
-// The product of the sizes, which are small, so that it fits.
+// The product of the sizes. They are small, so it fits.
 fn product_of(head: Head) -> u32
     requires { ⌜ inLimits head ≡ true ⌝ }
     ensures { λ r. ⌜ r ≡ product (sizesIn head) ⌝ }
@@ -162,7 +162,7 @@ fn product_of(head: Head) -> u32
     size_of(head, 0) * (size_of(head, 1) * (size_of(head, 2) * size_of(head, 3)))
 }
 
-// Whether the numbers are such as a file's head has.
+// Whether the numbers make a head: they are within the limits, and N is the product of the sizes.
 pub fn is_head(head: Head) -> bool
     ensures { λ r. ⌜ r ≡ isHead head ⌝ }
 {
@@ -173,7 +173,7 @@ pub fn is_head(head: Head) -> bool
     }
 }
 
-// How many states there are: none where the numbers are not such as a file's head has.
+// The number of states; 0 if the numbers do not make a head.
 pub fn states_in(head: Head) -> u32
     ensures { λ r. ⌜ r ≡ machineIn head .states ⌝ }
 {

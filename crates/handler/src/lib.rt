@@ -22,8 +22,8 @@ pub const IF: u32 = 4;
 
 pub const WHILE: u32 = 5;
 
-// What is at a statement's first bits, and the cursor after it: nil; an assignment, by its variable; sequence or parallel, by the
-// code; if or while, by the code; or a fault.
+// What a statement's first bits hold, with the cursor after them: nil; an assignment, by its variable; a sequence or parallel, by its
+// code; an if or while, by its code; or a fault.
 pub enum StmtHead {
     Nil(usize),
     Assign(u32, usize),
@@ -32,7 +32,8 @@ pub enum StmtHead {
     Fault(u32, usize),
 }
 
-// Of a whole statement: its step number, at most 2 ^ 32, its kind error, the number of statements so far and the cursor after it.
+// A summary of a whole statement: its step number, capped at 2 ^ 32, its kind error, the number of statements so far and the cursor
+// after it.
 pub struct StmtSummary {
     pub steps: u64,
     pub error: KindError,
@@ -40,26 +41,26 @@ pub struct StmtSummary {
     pub next: usize,
 }
 
-// What reading a whole statement gives, or a fault.
+// The summary of a whole statement, or its first fault.
 pub enum StmtShape {
     Whole(StmtSummary),
     Fault(u32, usize),
 }
 
-// Of a handler file: the first bit of its statement, how many statements there are, and the step number, at most 2 ^ 32.
+// A summary of a handler file: the first bit of its statement, the number of statements, and the step number, capped at 2 ^ 32.
 pub struct HandlerSummary {
     pub at: usize,
     pub statements: u32,
     pub steps: u64,
 }
 
-// A handler, or the first fault of the file and its place.
+// The summary of a handler file, or its first fault and the place.
 pub enum HandlerFound {
     Handler(HandlerSummary),
     Fault(u32, usize),
 }
 
-// What reading a handler file gives: its handler, its head, and its statements as a table (`table`), all 0 after a fault.
+// What reading a handler file gives: its summary or fault, its head, and the table of its statements (`table`), all 0 after a fault.
 pub struct HandlerFile {
     pub found: HandlerFound,
     pub head: Head,

@@ -1,4 +1,4 @@
-// The whole handler file, front to back.
+// Reading the whole handler file, front to back.
 use crate::HandlerFile;
 use crate::HandlerFound;
 use crate::HandlerSummary;
@@ -16,7 +16,7 @@ ghost use mathlib.Core.Path.{_≡_};
 ghost use Rattle.handler.specs.Reading.{refused, readHandler};
 ghost use Rattle.handler.specs.Shapes.{foundOf, fileOf};
 
-// A faulty file.
+// A file with a fault.
 fn faulty(code: u32, place: usize) -> HandlerFile
     ensures { λ r. ⌜ r ≡ fileOf (refused code place) ⌝ }
 {
@@ -28,7 +28,7 @@ fn faulty(code: u32, place: usize) -> HandlerFile
     }
 }
 
-// What is found, from what reading the statement gives: 18 the end of the file, then 16 once no other fault is met.
+// What is found in the file, from the shape of its statement: 18 at the end of the file, then 16 if there is no other fault.
 fn found_of(src: &[u8], at: usize, read: StmtShape) -> HandlerFound
     ensures { λ r. ⌜ r ≡ foundOf (now (src .entry)) at read ⌝ }
 {
@@ -51,7 +51,7 @@ fn found_of(src: &[u8], at: usize, read: StmtShape) -> HandlerFound
     }
 }
 
-// The handler file, or its first fault.
+// Reads the handler file, or finds its first fault.
 pub fn read_handler(src: &[u8]) -> HandlerFile
     ensures { λ r. ⌜ r ≡ fileOf (readHandler (now (src .entry))) ⌝ }
 {

@@ -1,4 +1,4 @@
-// Statements: what is at a statement, and what a whole statement is made of.
+// Statements: reading a statement's head, and the summary of a whole statement.
 use crate::ASSIGNMENT;
 use crate::IF;
 use crate::NIL;
@@ -27,20 +27,20 @@ ghost use Rattle.handler.specs.Shapes.{stmtShape, assignedOf, pairOf, te
 ghost use Rattle.handler.specs.Statements.{targetHead, codeHead, stmtHead, stmtAt};
 ghost use Rattle.handler.specs.StatementTable.{Filled};
 
-// At most 63 statements, 16 levels of them; they are read to one level more.
+// A handler has at most 63 statements on at most 16 levels. One level more than that is read.
 const MOST_STATEMENTS: u32 = 63;
 
 pub(crate) const LEVELS: u32 = 17;
 
-// The bits of a statement's code, and of an assignment's variable.
+// The widths in bits of a statement's code and of an assignment's variable.
 const CODE_BITS: usize = 3;
 
 const TARGET_BITS: usize = 2;
 
-// One more than the limit of the step number: sums stop here.
+// One past the limit of the step number. Sums are capped here.
 const PAST: u64 = 4294967296;
 
-// An assignment's variable.
+// Reads an assignment's variable.
 fn target_at(src: &[u8], count: u32, at: usize) -> StmtHead
     ensures { λ r. ⌜ r ≡ targetHead (now (src .entry)) count at (fieldAt (now (src .entry)) at 2) ⌝ }
 {
@@ -54,7 +54,7 @@ fn target_at(src: &[u8], count: u32, at: usize) -> StmtHead
     }
 }
 
-// What a statement's code asks for, at the cursor after the code.
+// Reads what follows a statement's code, at the cursor after the code.
 fn code_at(src: &[u8], count: u32, at: usize, code: u32, next: usize) -> StmtHead
     ensures { λ r. ⌜ r ≡ codeHead (now (src .entry)) count at code next ⌝ }
 {
@@ -73,7 +73,7 @@ fn code_at(src: &[u8], count: u32, at: usize, code: u32, next: usize) -> StmtHea
     StmtHead::Fault(UNUSED, at)
 }
 
-// What is at a statement with `before` statements before it, where `below` levels are left below it.
+// Reads the head of the statement at a cursor, with `before` statements before it and `below` levels left below it.
 pub fn stmt_head_at(src: &[u8], count: u32, below: u32, before: u32, at: usize) -> StmtHead
     ensures { λ r. ⌜ r ≡ stmtHead (now (src .entry)) count below before at ⌝ }
 {
@@ -86,14 +86,14 @@ pub fn stmt_head_at(src: &[u8], count: u32, below: u32, before: u32, at: usize) 
     code_at(src, count, at, code as u32, next)
 }
 
-// A step number as far as one past the limit.
+// A step number, capped at one past the limit.
 fn capped(steps: u64) -> u64
     ensures { λ r. ⌜ r ≡ min steps (2 ^ 32) ⌝ }
 {
     if steps < PAST { steps } else { PAST }
 }
 
-// The shape of an assignment from that of its expression.
+// The shape of an assignment, from that of its expression.
 fn assigned_of(after: u32, assigned: ExprShape) -> StmtShape
     ensures { λ r. ⌜ r ≡ assignedOf after assigned ⌝ }
 {
@@ -111,14 +111,14 @@ fn assigned_of(after: u32, assigned: ExprShape) -> StmtShape
     }
 }
 
-// The step number of two parts. A part past the limit counts as one past it: the answer is the same.
+// The step number of a sequence or parallel. Capping the parts first does not change the capped sum.
 fn pair_steps(left: u64, right: u64) -> u64
     ensures { λ r. ⌜ r ≡ min (left + right + 1) (2 ^ 32) ⌝ }
 {
     capped(capped(left) + capped(right) + 1)
 }
 
-// The shape of a sequence or parallel from those of its sides.
+// The shape of a sequence or parallel, from those of its sides.
 fn pair_of(left: StmtSummary, right: StmtShape) -> StmtShape
     ensures { λ r. ⌜ r ≡ pairOf left right ⌝ }
 {
@@ -136,7 +136,7 @@ fn pair_of(left: StmtSummary, right: StmtShape) -> StmtShape
     })
 }
 
-// The step number of an if or a while over n states, from its test's E and its body's, capped as in a pair.
+// The step number of an if or while over n states, from the E of its test and the step number of its body, capped as in a pair.
 fn test_steps(n: u32, code: u32, e: u32, body: u64) -> u64
     requires { ⌜ (1 ≤ n) × (n ≤ 64) ⌝ }
     ensures { λ r. ⌜ r ≡ min (testSteps n code e body) (2 ^ 32) ⌝ }
@@ -150,7 +150,7 @@ fn test_steps(n: u32, code: u32, e: u32, body: u64) -> u64
     capped(states * (reads + 2) + (states - 1) * (part + 1))
 }
 
-// The shape of an if or while from those of its test and its body.
+// The shape of an if or while, from those of its test and its body.
 fn tested_of(n: u32, code: u32, test: ExprSummary, body: StmtSummary) -> StmtShape
     requires { ⌜ (1 ≤ n) × (n ≤ 64) ⌝ }
     ensures { λ r. ⌜ r ≡ StmtShape.Whole (testedOf n code test body) ⌝ }
@@ -166,8 +166,8 @@ fn tested_of(n: u32, code: u32, test: ExprSummary, body: StmtSummary) -> StmtSha
     })
 }
 
-// The shape of the statement at a cursor over n states, read to so many levels; `before` statements are before it, of at most 315
-// bits each. Its word and those of its parts are stored in the table.
+// The shape of the statement at a cursor over n states, with `levels` levels to read and `before` statements of at most 315 bits each
+// before it. Its word and those of its parts are stored in the table.
 pub(crate) fn stmt_walk(
     src: &[u8],
     table: &mut [u64],

@@ -1,11 +1,11 @@
-// The statements of a handler as a table in file order, a word for each.
+// The statements of a handler as a table in file order, one word for each.
 ghost use mathlib.Core.Path.{_≡_};
 ghost use Prim.Native.Nat.{_^_, _<_};
 ghost use lib.ListN.{length, set};
 ghost use Rattle.handler.specs.StatementTable.{statementWord, statementIn};
 
 // A statement as the table keeps it: its code, an assignment's variable, the number of the statement after its first part (after
-// itself where it has no parts), and the first bit of its expression (0 where it has none).
+// itself if it has no parts), and the first bit of its expression (0 if it has none).
 pub struct Statement {
     pub code: u32,
     pub target: u32,
@@ -30,7 +30,7 @@ pub(crate) fn store(table: &mut [u64], j: u32, code: u32, target: u32, after: u3
     table[j as usize] = word_of(code, target, after, expr);
 }
 
-// Statement j of a table; past its end the word is 0.
+// Statement j of a table. Past the end the word is 0.
 pub fn statement_at(table: &[u64], j: usize) -> Statement
     ensures { λ r. ⌜ r ≡ statementIn (now (table .entry)) j ⌝ }
 {

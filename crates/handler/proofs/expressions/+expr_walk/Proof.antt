@@ -1,4 +1,4 @@
--- The head, the row and the walks of the two operands are taken apart in turn; each way out is one law of Shapes.
+-- The head, the row and the walks of the two operands are taken apart in turn. Each return is one law of Shapes.
 use Prim.Native.Nat.{ℕ, _+_, _-_, _<_}
 use mathlib.Core.Path.{_≡_, sym, _∙_}
 use native.Mathlib.Nat.{pos-of-ne-zero}
@@ -35,7 +35,7 @@ abbrev expr-walk-below : ℕ → In 1 expr-walk-kinds.ps
 expr-walk-below t =
     and 1 expr-walk-kinds.ps (falls 1 expr-walk-kinds.ps _<_ μ-expr-walk t) expr-walk.Pre
 
--- What the calls ask and tell, the own ones at a smaller measure.
+-- What the calls require and ensure; the recursive ones at a smaller measure.
 abbrev callees : ℕ → expr-walk-lts.Claims
 callees t = (
   expr-head-at-reads.Asked,
@@ -52,7 +52,7 @@ callees t = (
   wanted-of-reads.Learnt,
 )
 
--- What is known once the head, the row, the left operand and the right one are read.
+-- What is known once the head, the row, the left operand and the right operand are read.
 head-is : (t : ℕ) (c : expr-walk-lts.After-known-told (callees t) (expr-walk-at t) expr-walk.Post)
     → let a = c .before .before .before .before .before .before .args in
     exprHead (a .src .now) (a .count) (a .nodes) (a .at) ≡ Operation (c .before .head .given .0 .0) (c .before .head .given .0 .1 .0)
@@ -88,7 +88,7 @@ room : (t : ℕ) (c : expr-walk-lts.After-known-told (callees t) (expr-walk-at t
 unfolding Headed
 room t c = headed-as _ _ _ _ _ (head-is t c) .0
 
--- What the sums need: the numbers of an operand are at most 31.
+-- What the sums need: an operand's numbers are at most 31.
 small-left : (t : ℕ) (c : expr-walk-lts.After-known-told3 (callees t) (expr-walk-at t) expr-walk.Post) → Small (c .before .first .given .0 .0)
 small-left t c = shape-small _ _ _ _ _ _ _ _ (left-is t c)
 
@@ -132,7 +132,7 @@ expr-walk-returns-5 t c =
     (right-operand-fault _ _ _ _ _ _ _ (more t a) (head-is t a) _ _ _ _ _ (row-is t b) _ (left-is t l) _ _
     (sym (c .before .before .expr-walk2 .ensures) ∙ c .enum-told3 .given .1))
 
--- The place where both operands are read.
+-- The point where both operands are read.
 abbrev both-read : (t : ℕ) → expr-walk-lts.After-struct-known2 (callees t) (expr-walk-at t) expr-walk.Post → expr-walk-lts.After-known-told4 (callees t) (expr-walk-at t) expr-walk.Post
 both-read t c = c .before .before .before .before
 

@@ -1,4 +1,4 @@
--- The whole expression is read from 32 levels and no node.
+-- The whole expression is read with 32 levels and no node before it.
 use borrow.Author.Needs.{needs}
 use Rattle.handler.specs.Expressions.{wholeExpr}
 use Rattle.handler.proofs.expressions.expr_shape.Statement.{statement}

@@ -1,4 +1,4 @@
--- A bit is 0 or 1, and a mask of 32 bits has none from bit 32 on.
+-- A bit is 0 or 1, and a mask of 32 bits has no bit 32 or above.
 use Prim.Native.Nat.{ℕ, zero, suc, _^_, _<_}
 use mathlib.Core.Bool.{cond}
 use mathlib.Core.Path.{_≡_, refl}

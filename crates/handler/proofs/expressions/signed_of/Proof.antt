@@ -1,4 +1,4 @@
--- A number below 2 ^ 63 is itself as an i64, and n below 256 less 256 is −(256 − n).
+-- A number below 2 ^ 63 keeps its value as an i64, and for n below 256, n − 256 is −(256 − n).
 use Prim.Native.Nat.{ℕ, suc, _-_, _<_}
 use mathlib.Core.Path.{_≡_}
 use native.Mathlib.Omega.{arith}

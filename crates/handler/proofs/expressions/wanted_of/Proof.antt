@@ -1,4 +1,4 @@
--- Both kinds are known in each arm, so that `sameKind` computes.
+-- Both kinds are known in each arm, so `sameKind` computes.
 use borrow.Author.Needs.{needs}
 use Rattle.handler.proofs.expressions.wanted_of.Statement.{statement}
 use Rattle.handler.proofs.expressions.wanted_of.Tie as tie

@@ -1,5 +1,5 @@
--- Where the head so far has a fault it keeps it. Else the field read and the tests on the size and the product say which case of
--- `sizeRead` holds, and a size stored after the others is one more of the list.
+-- A fault of the head so far is kept. Otherwise the field read and the tests on the size and the product say which case of
+-- `sizeRead` holds, and a size stored after the others is one more in the list.
 use Prim.Native.Nat.{ℕ, suc, _+_, _-_, _*_, _≤_, _<_}
 use native.Mathlib.Nat.{mul-le-mul}
 use native.Mathlib.Numerals.{add-one}

@@ -1,4 +1,4 @@
--- After k turns the head is that of the first k sizes.
+-- After k rounds the head is that of the first k sizes.
 use Prim.Native.Nat.{_-_, _≤_}
 use mathlib.Core.Path.{_≡_, sym, _∙_}
 use mathlib.Core.Logic.{⊎-elim}

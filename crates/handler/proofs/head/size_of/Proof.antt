@@ -1,4 +1,4 @@
--- A variable that is declared has its entry of the array, which has 4.
+-- A declared variable has its entry in the array of 4 sizes.
 use native.Mathlib.Omega.{arith}
 use mathlib.Core.Path.{_≡_, sym}
 use borrow.Author.Needs.{needs}

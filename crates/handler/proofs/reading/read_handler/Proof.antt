@@ -27,7 +27,7 @@ same-file : {x y : HandlerFound} {h k : Head} {s t : List ℕ} → x ≡ y → h
     → _≡_ {A = HandlerFile} (record { found = x; head = h; statements = s }) (record { found = y; head = k; statements = t })
 same-file p q r = rw (p, q, r)
 
--- Where a head was read, as the code passes it on.
+-- If a head was read and h is that head as the code passes it on.
 module _ (bytes sizes : List ℕ) (h : Head) (at : ℕ) (read : headAt bytes ≡ declared sizes at) (is : h ≡ headOf sizes) where
   found-is : foundOf bytes at (stmtShape (h .states) at (stmtAt 17 bytes (h .count) 0 at)) ≡ fileOf (readHandler bytes) .found
   unfolding readHandler headOf

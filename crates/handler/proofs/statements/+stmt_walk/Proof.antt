@@ -1,4 +1,4 @@
--- Each arm is one law of StmtShapes and one of Filling, at what the head and the walks of the parts tell.
+-- Each arm is one law of StmtShapes and one of Filling, applied to what the head and the walks of the parts ensure.
 use Prim.Native.Nat.{ℕ, _+_, _-_, _*_, _≤_, _<_}
 use mathlib.Core.Path.{_≡_, sym, _∙_}
 use native.Mathlib.Nat.{pos-of-ne-zero}
@@ -40,7 +40,7 @@ abbrev stmt-walk-below : ℕ → In 2 stmt-walk-kinds.ps
 stmt-walk-below t =
     and 2 stmt-walk-kinds.ps (falls 2 stmt-walk-kinds.ps _<_ μ-stmt-walk t) stmt-walk.Pre
 
--- What the calls ask and tell, the own ones at a smaller measure.
+-- What the calls require and ensure; the recursive ones at a smaller measure.
 abbrev callees : ℕ → lts.Claims
 callees t = (
   stmt-head-at-reads.Asked,
@@ -59,7 +59,7 @@ callees t = (
   tested-of-reads.Learnt,
 )
 
--- The places: the head is read; it is a pair, and its left side is read; it is a test, which is read, and its body.
+-- The points of the walk: the head is read; it is a pair, and its left side is read; it is a test, and the test and the body are read.
 abbrev StmtHeadRead : ℕ → Type 0
 StmtHeadRead t = lts.After-stmt-head-at (callees t) (stmt-walk-at t) stmt-walk.Post
 
@@ -104,7 +104,7 @@ pair-room : (t : ℕ) (c : PairRead t) → (c .before .before .before .before .b
 unfolding Marked
 pair-room t c = let m = marked _ _ _ _ _ _ (head-is t (c .before .before .before) _ (c .before .code .given .1)) in (m .1, m .2)
 
--- The place where the left side begins to be read.
+-- The point where the left side begins, from the one where it is read.
 abbrev pair-of-left : (t : ℕ) → LeftRead t → PairRead t
 pair-of-left t c = c .before .before .before .before .before .before .before
 
@@ -127,7 +127,7 @@ test-room : (t : ℕ) (c : TestHead t) → (c .before .before .before .before .b
 unfolding Marked
 test-room t c = let m = marked _ _ _ _ _ _ (head-is t (c .before .before .before) _ (c .before .code2 .given .1)) in (m .1, m .2)
 
--- The place where the head of a test is read, from those where the test and the body are.
+-- The point where the head of a test is read, from those where the test and the body are.
 abbrev head-of-test : (t : ℕ) → TestRead t → TestHead t
 head-of-test t c = c .before .before .before .before
 

@@ -1,4 +1,4 @@
--- The shape says which case of `assignedOf` holds; an E of 32 bits and one more pass no limit.
+-- The shape says which case of `assignedOf` holds; an E of 32 bits plus one is within the cap.
 use Prim.Native.Nat.{_+_, _^_, min}
 use mathlib.Core.Path.{_≡_}
 use native.Mathlib.Omega.{arith}

@@ -1,4 +1,4 @@
--- At most 64 states and a capped body: the sum fits, and the cap of the body does not show in that of the sum.
+-- With at most 64 states and a capped body the sum fits, and capping the body does not change the capped sum.
 use Prim.Native.Nat.{_+_, _-_, _*_, _^_, _≤_}
 use native.Mathlib.Nat.{mul-le-mul}
 use native.Mathlib.Omega.{arith}

@@ -1,4 +1,4 @@
--- The sum is the definition's; its numbers are of 32 bits, so that it fits.
+-- The sum is the definition's. Its numbers have at most 32 bits, so it fits.
 use mathlib.Core.Path.{refl}
 use borrow.Author.Needs.{needs}
 use Rattle.handler.specs.StatementTable.{statementWord}
