@@ -143,19 +143,19 @@ of-first s at (suc n) = by (eqb (bitAt s at) 0) refl (firstSet s (suc at) n) (of
     by false t o later = (omega arith, eqb-false (bitAt s at) 0 t)
 
 -- What is known of a file that ends as it must after a last field that ends at `at`.
-pub record Filled (s : List ℕ) (at : ℕ) : Type 0 where
+pub record FillEnds (s : List ℕ) (at : ℕ) : Type 0 where
   pub zeros : (i : ℕ) → at ≤ i → i < at + fillBits at → bitAt s i ≡ 0
   pub over : 8 * length s < 2 ^ 64 → 8 * length s ≤ at + fillBits at
 
 -- What is known of a bit i that is wrong there.
-pub record Misfilled (s : List ℕ) (at i : ℕ) : Type 0 where
+pub record FillWrong (s : List ℕ) (at i : ℕ) : Type 0 where
   pub after : at ≤ i
   pub inside : i < 8 * length s
 
 -- What each answer about the fill shows.
 abbrev OfFill : List ℕ → ℕ → Fill → Type 0
-OfFill s at Ends = Filled s at
-OfFill s at (Wrong i) = Misfilled s at i
+OfFill s at Ends = FillEnds s at
+OfFill s at (Wrong i) = FillWrong s at i
 
 of-further : (s : List ℕ) (at next : ℕ) → at + fillBits at ≡ next → OfFirst s at (fillBits at) none → OfFill s at (furtherByte s next)
 unfolding furtherByte
@@ -179,8 +179,8 @@ of-fill s at = by (firstSet s at (fillBits at)) (of-first s at (fillBits at))
     by none zeros = of-further s at (at + fillBits at) refl zeros
     by (some i) set = record { after = set .0; inside = lt-of-not-le (λ past. set .1 (bit-past s i past)) }
 
-pub filled : (s : List ℕ) (at : ℕ) → fillAt s at ≡ Ends → Filled s at
-filled s at e = rw e at (of-fill s at)
+pub fill-ends : (s : List ℕ) (at : ℕ) → fillAt s at ≡ Ends → FillEnds s at
+fill-ends s at e = rw e at (of-fill s at)
 
-pub misfilled : (s : List ℕ) (at i : ℕ) → fillAt s at ≡ Wrong i → Misfilled s at i
-misfilled s at i e = rw e at (of-fill s at)
+pub fill-wrong : (s : List ℕ) (at i : ℕ) → fillAt s at ≡ Wrong i → FillWrong s at i
+fill-wrong s at i e = rw e at (of-fill s at)

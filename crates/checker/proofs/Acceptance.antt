@@ -15,7 +15,7 @@ use Rattle.semantics.specs.States.{product}
 use Rattle.semantics.specs.StepNumber.{steps}
 use Rattle.semantics.specs.Checking.{Broken, firstFault}
 use Rattle.handler.specs.Reading.{HandlerRead, handler, refused, readHandler}
-use Rattle.derivation.specs.Tables.{tableWord}
+use Rattle.derivation.specs.Tables.{workWords, tableWord}
 use Rattle.derivation.specs.Reading as Proofs
 use Rattle.checker.specs.declared.Verdict.the-variants.{Accepted}
 use Rattle.checker.specs.Verdicts.{tablesOf, onSteps, onFault, onProof, onHandler, answer}
@@ -40,16 +40,16 @@ by-fault (some b) n k words e = absurd (let z : _≡_ {A = ℕ} 0 1 = cc in omeg
 
 module _ (hb pb : List ℕ) (words k : ℕ) where
   -- 1 and 2: enough words, and no file is too long.
-  by-lengths : answer hb pb words .verdict ≡ Accepted k → (1040 ≤ words) × (length hb ≤ 16384) × (length pb ≤ 16384)
+  by-lengths : answer hb pb words .verdict ≡ Accepted k → (workWords ≤ words) × (length hb ≤ 16384) × (length pb ≤ 16384)
   by-lengths e =
-      let few : words < 1040 → ⊥ = λ low. let f = few-words hb pb words low in let z : _≡_ {A = ℕ} 0 1 = cc in omega arith in
-      let enough : 1040 ≤ words = omega arith in
+      let few : words < workWords → ⊥ = λ low. let f = few-words hb pb words low in let z : _≡_ {A = ℕ} 0 1 = cc in omega arith in
+      let enough : workWords ≤ words = omega arith in
       let long : 16384 < length hb → ⊥ = λ h. let f = long-handler hb pb words enough h in let z : _≡_ {A = ℕ} 0 1 = cc in omega arith in
       let short : length hb ≤ 16384 = omega arith in
       let long′ : 16384 < length pb → ⊥ = λ h. let f = long-proof hb pb words enough short h in let z : _≡_ {A = ℕ} 0 1 = cc in omega arith in
       (enough, short, omega arith)
 
-  module _ (enough : 1040 ≤ words) (short : length hb ≤ 16384) (short′ : length pb ≤ 16384) where
+  module _ (enough : workWords ≤ words) (short : length hb ≤ 16384) (short′ : length pb ≤ 16384) where
     -- 20 to 25: the proof file is read over the handler file's N.
     by-proof : (sizes : List ℕ) (at : ℕ) (S : Stmt) → readHandler hb ≡ handler sizes at S → (r : Proofs.ProofRead)
         → Proofs.readProof pb (product sizes) ≡ r → onProof pb sizes S r .verdict ≡ Accepted k → Acceptable hb pb words k

@@ -23,7 +23,7 @@ use Rattle.handler.specs.Kinds.{width, stmtWidth}
 use Rattle.handler.specs.StatementTable.{statements, statementIn, statementRecord}
 use Rattle.handler.proofs.StmtFolds.{TargetsBelow}
 use Rattle.handler.proofs.Parts.{Stands, StandsExpr, parts}
-use Rattle.handler.proofs.StatementTable.{Held, parts-held, statement-held}
+use Rattle.handler.proofs.StatementTable.{StatementIn, parts-held, statement-held}
 use Rattle.handler.proofs.Handlers.{target-small}
 use Rattle.derivation.specs.declared.Node.{Node}
 use Rattle.derivation.specs.NodeTable.{nodeIn, nodeBits, firstNodes, nodeRecord, nodeWords}
@@ -71,7 +71,7 @@ module _ (env : Decoded) where
     pub stands : Stands (env .bytes) (length (env .sizes)) place S
     pub targets : TargetsBelow (length (env .sizes)) S
     pub room : s + statements S ≤ 63
-    pub held : Held (env .statementTable) s place S
+    pub held : StatementIn (env .statementTable) s place S
 
   abbrev m : Machine
   m = machineIn (headOf (env .sizes))
@@ -135,7 +135,7 @@ module _ (env : Decoded) where
   module _ (s place : ℕ) where
     halves : (a b : Stmt) → Stands (env .bytes) (length (env .sizes)) (place + 3) a × Stands (env .bytes) (length (env .sizes)) (place + 3 + stmtWidth a) b
         → TargetsBelow (length (env .sizes)) a × TargetsBelow (length (env .sizes)) b → s + (1 + statements a + statements b) ≤ 63
-        → Held (env .statementTable) (suc s) (place + 3) a × Held (env .statementTable) (suc s + statements a) (place + 3 + stmtWidth a) b → Halves s place a b
+        → StatementIn (env .statementTable) (suc s) (place + 3) a × StatementIn (env .statementTable) (suc s + statements a) (place + 3 + stmtWidth a) b → Halves s place a b
     halves a b stands targets room held = (
       record { stands = stands .0; targets = targets .0; room = omega arith; held = held .0 },
       record { stands = stands .1; targets = targets .1; room = omega arith; held = held .1 },
@@ -148,7 +148,7 @@ module _ (env : Decoded) where
     of-parallel a b c = halves a b (parts (env .bytes) (length (env .sizes)) place (par a b) (c .stands)) (c .targets) (c .room) (parts-held (env .statementTable) s place (par a b) (c .held))
 
     body : (e : Expr) (b : Stmt) → Stands (env .bytes) (length (env .sizes)) (place + 3 + width e) b → TargetsBelow (length (env .sizes)) b → s + (1 + statements b) ≤ 63
-        → Held (env .statementTable) (suc s) (place + 3 + width e) b → StatementAt (suc s) (place + 3 + width e) b
+        → StatementIn (env .statementTable) (suc s) (place + 3 + width e) b → StatementAt (suc s) (place + 3 + width e) b
     body e b stands targets room held = record { stands = stands; targets = targets; room = omega arith; held = held }
 
     pub of-if : (e : Expr) (b : Stmt) → StatementAt s place (if e b) → StatementAt (suc s) (place + 3 + width e) b

@@ -18,7 +18,7 @@ use Rattle.handler.proofs.Heads.{Declared, head-read}
 use Rattle.handler.specs.declared.HandlerFile.{HandlerFile}
 use Rattle.handler.specs.declared.HandlerSummary.{HandlerSummary}
 use Rattle.handler.specs.declared.HandlerFound.the-variants as HandlerFound
-use Rattle.handler.specs.Shapes.{fileOf}
+use Rattle.handler.specs.Shapes.{handlerFile}
 use Rattle.handler.specs.Reading.{HandlerRead, handler, refused, readHandler}
 use Rattle.handler.specs.StatementTable.{statementTable}
 use Rattle.handler.proofs.Handlers.{KnownHandler, known-handler, found-handler}
@@ -28,13 +28,13 @@ use Rattle.derivation.specs.declared.ProofHead.{ProofHead}
 use Rattle.derivation.specs.declared.ProofFound.the-variants as Found
 use Rattle.derivation.specs.NodeTable.{padded, nodeTable}
 use Rattle.derivation.proofs.Files.{Shown, read-known}
-use Rattle.derivation.specs.Tables.{tableWord, written}
+use Rattle.derivation.specs.Tables.{workWords, tableWord, written}
 use Rattle.derivation.specs.Reading as Proofs
 use Rattle.checker.specs.declared.Place.the-variants.{Bit}
 use Rattle.checker.specs.declared.Fault.{Fault}
 use Rattle.checker.specs.declared.Verdict.the-variants.{Accepted, Refused}
 use Rattle.checker.specs.Verdicts.{refusedAt, untouched, cleared, tablesOf, onSteps, onFault, onProof, onHandler, answer}
-use Rattle.checker.specs.Nodes.{faultsFrom, firstOf}
+use Rattle.checker.specs.Nodes.{faultsFrom, faultFound}
 use Rattle.checker.specs.Refinement.{Handled, decided}
 use Rattle.checker.proofs.Loaded.{set-loaded, relation-loaded}
 use Rattle.checker.proofs.AtHand.{Decoded, NodeAt, StatementAt}
@@ -42,9 +42,9 @@ use Rattle.checker.proofs.Stages.{decided-answer, words-kept, words-cle
 use Rattle.checker.proofs.Meaning.{found-in-tables}
 
 -- A handler file that was read, by what the code found of it.
-pub handled : (hb : List ℕ) (file : HandlerFile) (w : HandlerSummary) → file ≡ fileOf (readHandler hb) → file .found ≡ HandlerFound.Handler w
+pub handled : (hb : List ℕ) (file : HandlerFile) (w : HandlerSummary) → file ≡ handlerFile (readHandler hb) → file .found ≡ HandlerFound.Handler w
     → Handled hb (file .head) (file .statements) (w .steps)
-unfolding fileOf
+unfolding handlerFile
 handled hb file w made found =
     let f = found-handler (readHandler hb) w (sym (ap (λ x. x .found) made) ∙ found) in
     record {
@@ -52,8 +52,8 @@ handled hb file w made found =
       place = w .at;
       S = f .S;
       reads = f .read;
-      head-is = ap (λ x. x .head) made ∙ ap (λ r. fileOf r .head) (f .read);
-      table-is = ap (λ x. x .statements) made ∙ ap (λ r. fileOf r .statements) (f .read);
+      head-is = ap (λ x. x .head) made ∙ ap (λ r. handlerFile r .head) (f .read);
+      table-is = ap (λ x. x .statements) made ∙ ap (λ r. handlerFile r .statements) (f .read);
       counted = f .stepping;
     }
 
@@ -102,7 +102,7 @@ module _ (hb pb : List ℕ) (head : Head) (statements : List ℕ) (k : ℕ) (h :
     on-read = rw (h .reads, e)
 
     -- What the loop finds decides.
-    module _ (before work table : List ℕ) (count : ℕ) (enough : 1040 ≤ length before)
+    module _ (before work table : List ℕ) (count : ℕ) (enough : workWords ≤ length before)
         (words : work ≡ written (Proofs.wordsOf pb n (Proofs.readProof pb n)) before) (is : table ≡ nodeTable root d) (counts : count ≡ nodes d) where
       known : KnownHandler hb (h .sizes) (h .place) (h .S)
       known = known-handler hb (h .sizes) (h .place) (h .S) (h .reads)
@@ -139,7 +139,7 @@ module _ (hb pb : List ℕ) (head : Head) (statements : List ℕ) (k : ℕ) (h :
       unfolding env
       statement-at = record { stands = known .stands; targets = known .targets; room = omega (arith, known .few); held = table-held (h .place) (h .S) }
 
-      pub judged : decided (firstOf (faultsFrom hb head work table statements count 0 0)) k ≡ onHandler pb (readHandler hb) .verdict
+      pub judged : decided (faultFound (faultsFrom hb head work table statements count 0 0)) k ≡ onHandler pb (readHandler hb) .verdict
       unfolding env
       judged =
           rw (h .head-is, h .table-is, is, counts, found-in-tables env root (h .place) d (h .S) node-at statement-at, h .counted)
@@ -158,21 +158,21 @@ module _ (hb pb : List ℕ) (head : Head) (statements : List ℕ) (k : ℕ) (h :
 
 -- The four ways out of the check.
 module _ (hb pb : List ℕ) (words : ℕ) where
-  pub few-words : words < 1040 → answer hb pb words ≡ untouched (refusedAt 1 (Bit 0))
+  pub few-words : words < workWords → answer hb pb words ≡ untouched (refusedAt 1 (Bit 0))
   unfolding answer
-  few-words low = rw (lt-ltb words 1040)
+  few-words low = rw (lt-ltb words workWords)
 
-  pub long-handler : 1040 ≤ words → 16384 < length hb → answer hb pb words ≡ untouched (refusedAt 2 (Bit 0))
+  pub long-handler : workWords ≤ words → 16384 < length hb → answer hb pb words ≡ untouched (refusedAt 2 (Bit 0))
   unfolding answer
-  long-handler enough long = rw (le-ltb words 1040, lt-ltb 16384 (length hb))
+  long-handler enough long = rw (le-ltb words workWords, lt-ltb 16384 (length hb))
 
-  pub long-proof : 1040 ≤ words → length hb ≤ 16384 → 16384 < length pb → answer hb pb words ≡ untouched (refusedAt 2 (Bit 0))
+  pub long-proof : workWords ≤ words → length hb ≤ 16384 → 16384 < length pb → answer hb pb words ≡ untouched (refusedAt 2 (Bit 0))
   unfolding answer
-  long-proof enough short long = rw (le-ltb words 1040, le-ltb 16384 (length hb), lt-ltb 16384 (length pb))
+  long-proof enough short long = rw (le-ltb words workWords, le-ltb 16384 (length hb), lt-ltb 16384 (length pb))
 
-  pub both-read : 1040 ≤ words → length hb ≤ 16384 → length pb ≤ 16384 → answer hb pb words ≡ onHandler pb (readHandler hb)
+  pub both-read : workWords ≤ words → length hb ≤ 16384 → length pb ≤ 16384 → answer hb pb words ≡ onHandler pb (readHandler hb)
   unfolding answer
-  both-read enough short short′ = rw (le-ltb words 1040, le-ltb 16384 (length hb), le-ltb 16384 (length pb))
+  both-read enough short short′ = rw (le-ltb words workWords, le-ltb 16384 (length hb), le-ltb 16384 (length pb))
 
 writes-fault : (o : Option Broken) (k : ℕ) (words : ℕ → ℕ) → onFault o k words .writes ≡ true
 writes-fault (some b) k words = refl

@@ -2,17 +2,17 @@
 use Prim.Native.Nat.{ℕ, _+_, _*_, _≤_, _<_}
 use mathlib.Core.Path.{_≡_, refl, fun-ext}
 use mathlib.Core.Bool.{Bool, true, false, _&&_}
-use mathlib.Core.List.{List, [], _∷_}
+use mathlib.Core.List.{List}
 use native.Mathlib.Omega.{arith}
-use lib.ListN.{length, getD}
-use lib.Seq.{getD-drop}
+use lib.ListN.{length}
 use lib.Dec.{ltb}
 use borrow.Author.Tests.{ltb-true}
-use Rattle.states.specs.Sets.{mem}
+use Rattle.states.specs.Sets.{capacity, mem, entryAt}
 use Rattle.states.specs.Relations.{rel}
+use Rattle.states.proofs.EntryLaws.{entry-from}
 use Rattle.semantics.specs.States.{product}
 use Rattle.semantics.specs.Derivations.{Derivation, Tables, setOf, relationOf}
-use Rattle.derivation.specs.Tables.{inSetOf, inRelationOf, written}
+use Rattle.derivation.specs.Tables.{mostTables, workWords, inSetOf, inRelationOf, written}
 use Rattle.derivation.specs.Reading.{proof, readProof, wordsOf}
 use Rattle.derivation.proofs.Membership.{set-member, pair-member}
 use Rattle.rules.specs.Words.{wordSet, wordRelation}
@@ -24,7 +24,7 @@ twice true b = refl
 twice false b = refl
 
 module _ (pb sizes before : List ℕ) (sets relations root : ℕ) (d : Derivation)
-    (reads : readProof pb (product sizes) ≡ proof sets relations root d) (enough : 1040 ≤ length before) (few : product sizes ≤ 64)
+    (reads : readProof pb (product sizes) ≡ proof sets relations root d) (enough : workWords ≤ length before) (few : product sizes ≤ capacity)
     (work : List ℕ) (words : work ≡ written (wordsOf pb (product sizes) (readProof pb (product sizes))) before) where
   abbrev n : ℕ
   n = product sizes
@@ -39,11 +39,11 @@ module _ (pb sizes before : List ℕ) (sets relations root : ℕ) (d : Derivatio
 
   pub relation-loaded : (r : ℕ) → r < relations → wordRelation n work r ≡ relationOf t r
   unfolding wordRelation rel
-  relation-loaded r below = fun-ext (λ s. fun-ext (λ u. rw getD-drop (by s u (ltb s n) refl)))
+  relation-loaded r below = fun-ext (λ s. fun-ext (λ u. rw (entry-from work (mostTables + capacity * r) s) (by s u (ltb s n) refl)))
     where
       by : (s u : ℕ) (b : Bool) → ltb s n ≡ b
-          → (ltb s n && ltb u n && mem (getD work (16 + 64 * r + s) 0 ∷ []) u) ≡ (ltb s n && ltb u n && inRelationOf pb n sets r s u)
+          → (ltb s n && ltb u n && mem (entryAt work (mostTables + capacity * r + s)) u) ≡ (ltb s n && ltb u n && inRelationOf pb n sets r s u)
       by s u true e =
-          let row : s < 64 = omega (arith, ltb-true s n e) in
+          let row : s < capacity = omega (arith, ltb-true s n e) in
           rw (words, pair-member pb n sets relations root d reads before enough r s u below row) (twice (ltb s n && ltb u n) _)
       by s u false e = rw e

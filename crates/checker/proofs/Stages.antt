@@ -10,31 +10,31 @@ use lib.Seq.{drop-at}
 use lib.Dec.{ltb}
 use borrow.Author.Tests.{ltb-true, ltb-false}
 use Rattle.semantics.specs.Checking.{Broken}
-use Rattle.derivation.specs.Tables.{tabulate, written}
+use Rattle.derivation.specs.Tables.{workWords, tabulate, written}
 use Rattle.derivation.proofs.Buffers.{length-tabulate, length-written}
 use Rattle.checker.specs.declared.Fault as Fault
 use Rattle.checker.specs.declared.Verdict.the-variants.{Accepted, Refused}
 use Rattle.checker.specs.Verdicts.{onSteps, onFault}
-use Rattle.checker.specs.Nodes.{firstOf}
+use Rattle.checker.specs.Nodes.{faultFound}
 use Rattle.checker.specs.Refinement.{decided}
 
 -- A buffer written twice holds what was written last.
-written-of : (f : ℕ → ℕ) (work : List ℕ) (n : ℕ) → length work ≡ n → written f work ≡ tabulate (min 1040 n) f ++ drop (min 1040 n) work
+written-of : (f : ℕ → ℕ) (work : List ℕ) (n : ℕ) → length work ≡ n → written f work ≡ tabulate (min workWords n) f ++ drop (min workWords n) work
 unfolding written
 written-of f work n e = rw e
 
 pub written-twice : (f g : ℕ → ℕ) (work : List ℕ) → written f (written g work) ≡ written f work
 written-twice f g work =
-    let n = min 1040 (length work) in
+    let n = min workWords (length work) in
     let behind : drop n (written g work) ≡ drop n work = rw (written-of g work (length work) refl) (drop-at (tabulate n g) (drop n work) n (length-tabulate g n)) in
     written-of f (written g work) (length work) (length-written g work) ∙ ap (λ l. tabulate n f ++ l) behind ∙ sym (written-of f work (length work) refl)
 
 -- The verdict after the loop, with the step number as far as 2 ^ 32.
-pub decided-answer : (o : Option Broken) (k : ℕ) (words : ℕ → ℕ) → decided (firstOf o) (min k (2 ^ 32)) ≡ onFault o k words .verdict
+pub decided-answer : (o : Option Broken) (k : ℕ) (words : ℕ → ℕ) → decided (faultFound o) (min k (2 ^ 32)) ≡ onFault o k words .verdict
 decided-answer (some b) k words = refl
 decided-answer none k words = by (ltb (2 ^ 32 - 1) k) refl
   where
-    by : (b : Bool) → ltb (2 ^ 32 - 1) k ≡ b → decided (firstOf none) (min k (2 ^ 32)) ≡ onSteps k words .verdict
+    by : (b : Bool) → ltb (2 ^ 32 - 1) k ≡ b → decided (faultFound none) (min k (2 ^ 32)) ≡ onSteps k words .verdict
     by true e =
         let past = ltb-true (2 ^ 32 - 1) k e in
         let capped : min k (2 ^ 32) ≡ 2 ^ 32 = omega arith in

@@ -7,11 +7,12 @@ use lib.ListN.{length}
 use Rattle.semantics.specs.States.{product}
 use Rattle.semantics.specs.StepNumber.{steps}
 use Rattle.semantics.specs.Checking.{firstFault}
+use Rattle.derivation.specs.Tables.{workWords}
 use Rattle.checker.specs.Verdicts.{PairRead, tablesIn}
 
 pub record Acceptable (hb pb : List ℕ) (words k : ℕ) : Type 0 where
   -- the work words suffice
-  pub enough : 1040 ≤ words
+  pub enough : workWords ≤ words
   -- both files are within their length, and read
   pub handler-length : length hb ≤ 16384
   pub proof-length : length pb ≤ 16384

@@ -7,7 +7,6 @@ use lib.Dec.{eqb}
 use Rattle.semantics.specs.Checking.{Condition, Broken, firstBroken, orBroken, atNode}
 use Rattle.handler.specs.declared.head.Head.{Head}
 use Rattle.handler.specs.StatementTable.{statementIn}
-use Rattle.derivation.specs.declared.Node.{Node}
 use Rattle.derivation.specs.NodeTable.{nodeIn}
 use Rattle.rules.specs.Obligations.{obligationsIn}
 use Rattle.checker.specs.declared.nodes.FirstFault.{FirstFault}
@@ -30,6 +29,6 @@ module _ (bytes : List ℕ) (head : Head) (work nodes statements : List ℕ) whe
       orBroken (atNode i (firstBroken (obligationsAt i s))) (faultsFrom count (suc i) (statementAfter (nodeIn nodes i .rule) s))
 
 -- What the code answers.
-abbrev pub firstOf : Option Broken → FirstFault
-firstOf none = first.Nothing
-firstOf (some b) = first.Broken (b .number) (b .node)
+abbrev pub faultFound : Option Broken → FirstFault
+faultFound none = first.Nothing
+faultFound (some b) = first.Broken (b .number) (b .node)

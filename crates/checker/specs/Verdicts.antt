@@ -14,7 +14,7 @@ use Rattle.semantics.specs.Derivations.{Derivation, Tables, Spec, namesOf, spec
 use Rattle.semantics.specs.Checking.{Broken, firstFault}
 use Rattle.semantics.specs.Promise.{Promise}
 use Rattle.handler.specs.Reading.{HandlerRead, handler, refused, readHandler}
-use Rattle.derivation.specs.Tables.{inSetOf, inRelationOf, tableWord, written}
+use Rattle.derivation.specs.Tables.{workWords, inSetOf, inRelationOf, tableWord, written}
 use Rattle.derivation.specs.Reading as Proofs
 use Rattle.checker.specs.declared.Place.{Place}
 use Rattle.checker.specs.declared.Place.the-variants.{Bit, Node}
@@ -68,7 +68,7 @@ module _ (hb pb : List ℕ) where
   -- The answer to two files with so many work words.
   unfoldable pub answer : ℕ → CheckResult
   answer words =
-      cond (ltb words 1040) (untouched (refusedAt 1 (Bit 0)))
+      cond (ltb words workWords) (untouched (refusedAt 1 (Bit 0)))
       (cond (ltb 16384 (length hb) || ltb 16384 (length pb)) (untouched (refusedAt 2 (Bit 0))) (onHandler pb (readHandler hb)))
 
   -- The work words at exit.

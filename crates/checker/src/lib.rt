@@ -11,7 +11,7 @@ ghost use mathlib.Core.Path.{_≡_};
 ghost use Prim.Native.Nat.{_≤_};
 ghost use lib.ListN.{length};
 ghost use Rattle.handler.specs.Reading.{readHandler};
-ghost use Rattle.derivation.specs.Tables.{written};
+ghost use Rattle.derivation.specs.Tables.{workWords, written};
 ghost use Rattle.checker.specs.declared.Place.the-variants.{Bit, Node};
 ghost use Rattle.checker.specs.Verdicts.{refusedAt, onHandler, answer, workAfter, AcceptedIsSound};
 ghost use Rattle.checker.specs.Refinement.{Handled, decided};
@@ -19,9 +19,9 @@ ghost use Rattle.checker.specs.Refinement.{Handled, decided};
 pub mod nodes;
 
 // The host lends at least so many work words, and a file has at most so many bytes.
-const WORK_WORDS: usize = 1040;
+pub const WORK_WORDS: usize = derivation::WORK_WORDS;
 
-const MOST_BYTES: usize = 16384;
+pub const MOST_BYTES: usize = 16384;
 
 // The largest step number that is stated.
 const MOST_STEPS: u64 = 4294967295;
@@ -96,7 +96,7 @@ fn check_proof(
     steps: u64,
 ) -> Verdict
     requires { ⌜ Handled (now handler) head (now statements) steps ⌝ }
-    requires { ⌜ 1040 ≤ length (now work) ⌝ }
+    requires { ⌜ workWords ≤ length (now work) ⌝ }
     ensures verdict { λ r. ⌜ r ≡ onHandler (now (proof .entry)) (readHandler (now (handler .entry))) .verdict ⌝ }
     ensures words { λ _.
         ⌜ now (work .exit) ≡ written (onHandler (now (proof .entry)) (readHandler (now (handler .entry))) .words) (now (work .entry)) ⌝ }

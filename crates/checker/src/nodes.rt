@@ -11,7 +11,7 @@ ghost use Prim.Native.Nat.{_+_, _^_, _<_};
 ghost use Rattle.derivation.specs.NodeTable.{nodeIn};
 ghost use Rattle.rules.specs.declared.NodeVerdict.the-variants.{Holds};
 ghost use Rattle.rules.specs.Asking.{askedAll};
-ghost use Rattle.checker.specs.Nodes.{statementAfter, obligationsAt, faultsFrom, firstOf};
+ghost use Rattle.checker.specs.Nodes.{statementAfter, obligationsAt, faultsFrom, faultFound};
 
 // No fault, or the number and the node of the first condition that is broken.
 pub enum FirstFault {
@@ -67,7 +67,7 @@ pub fn first_fault(
     count: u32,
 ) -> FirstFault
     ensures { λ r.
-        ⌜ r ≡ firstOf (faultsFrom (now (handler .entry)) head (now (work .entry)) (now (nodes .entry)) (now (statements .entry)) count 0 0) ⌝ }
+        ⌜ r ≡ faultFound (faultsFrom (now (handler .entry)) head (now (work .entry)) (now (nodes .entry)) (now (statements .entry)) count 0 0) ⌝ }
 {
     let mut s = 0;
     for i in 0..count {

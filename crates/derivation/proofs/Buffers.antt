@@ -11,7 +11,7 @@ use borrow.Author.Tests.{lt-ltb, le-ltb, ltb-true, ltb-false, eqb-true, eqb-fals
 use lib.Dec.{ltb, eqb}
 use lib.ListN.{length, drop, set, getD, length-append, length-drop, length-set, List·getD-append}
 use lib.Seq.{drop-cons, drop-at, append-snoc, set-at, set-append-left, getD-at, getD-set-same, getD-set-other, ext-getD}
-use Rattle.derivation.specs.Tables.{tabulate, written}
+use Rattle.derivation.specs.Tables.{tabulate, workWords, written}
 
 module _ (f : ℕ → ℕ) where
   pub length-tabulate : (k : ℕ) → length (tabulate k f) ≡ k
@@ -42,18 +42,18 @@ module _ (f : ℕ → ℕ) where
 
     pub length-written : length (written f work) ≡ length work
     unfolding written
-    length-written = length-filled (min 1040 (length work)) (omega arith)
+    length-written = length-filled (min workWords (length work)) (omega arith)
 
-    pub written-at : (i : ℕ) → i < 1040 → i < length work → getD (written f work) i 0 ≡ f i
+    pub written-at : (i : ℕ) → i < workWords → i < length work → getD (written f work) i 0 ≡ f i
     unfolding written
     written-at i table within =
-        let count = min 1040 (length work) in
+        let count = min workWords (length work) in
         List·getD-append (tabulate count f) (drop count work) 0 i (omega (arith, length-tabulate count)) ∙ tabulate-at count i (omega arith)
 
 -- A buffer depends only on the values that it has room for.
 pub written-agree : (f g : ℕ → ℕ) (work : List ℕ) → ((j : ℕ) → j < length work → f j ≡ g j) → written f work ≡ written g work
 unfolding written tabulate
-written-agree f g work same = ap (λ l. l ++ drop (min 1040 (length work)) work) (agree (min 1040 (length work)) (λ j under. same j (omega arith)))
+written-agree f g work same = ap (λ l. l ++ drop (min workWords (length work)) work) (agree (min workWords (length work)) (λ j under. same j (omega arith)))
   where
     agree : (k : ℕ) → ((j : ℕ) → j < k → f j ≡ g j) → tabulate k f ≡ tabulate k g
     agree zero same = refl
@@ -66,15 +66,15 @@ written-same f g work same = written-agree f g work (λ j under. same j)
 pub written-again : (f g : ℕ → ℕ) (work : List ℕ) → written f (written g work) ≡ written f work
 unfolding written
 written-again f g work =
-    let count = min 1040 (length work) in
+    let count = min workWords (length work) in
     rw (length-written g work, drop-at (tabulate count g) (drop count work) count (length-tabulate g count))
 
 -- One word written over.
-written-set : (f g : ℕ → ℕ) (work : List ℕ) (i : ℕ) → i < 1040 → i < length work → ((j : ℕ) → (j ≡ i → ⊥) → f j ≡ g j)
+written-set : (f g : ℕ → ℕ) (work : List ℕ) (i : ℕ) → i < workWords → i < length work → ((j : ℕ) → (j ≡ i → ⊥) → f j ≡ g j)
     → set (written f work) i (g i) ≡ written g work
 unfolding written
 written-set f g work i table within others =
-    let count = min 1040 (length work) in
+    let count = min workWords (length work) in
     set-append-left (tabulate count f) (drop count work) i (g i) (omega (arith, length-tabulate f count))
     ∙ ap (λ l. l ++ drop count work) (ext-getD 0 (set (tabulate count f) i (g i)) (tabulate count g) (length-set (tabulate count f) i (g i) ∙ length-tabulate f count ∙ sym (length-tabulate g count)) (λ j under.
     at count j (omega (arith, length-set (tabulate count f) i (g i), length-tabulate f count)) (eqb j i) refl))
@@ -96,7 +96,7 @@ module _ (f : ℕ → ℕ) (work : List ℕ) where
   upto-none = written-same _ _ work (λ j. rw (le-ltb j 0 (omega arith)))
 
   -- The next word that may not be 0.
-  pub upto-more : (k next : ℕ) → k < next → k < 1040 → k < length work → ((j : ℕ) → k < j → j < next → f j ≡ 0)
+  pub upto-more : (k next : ℕ) → k < next → k < workWords → k < length work → ((j : ℕ) → k < j → j < next → f j ≡ 0)
       → set (written (upto f k) work) k (f k) ≡ written (upto f next) work
   upto-more k next on table within zeros =
       ap (set (written (upto f k) work) k) (sym (rw (lt-ltb k next on))) ∙ written-set (upto f k) (upto f next) work k table within others

@@ -1,12 +1,13 @@
 -- Worked examples on small files: document 01's proof.bin over N = 2, and each fault from 20 to 25 with its place.
-use Prim.Native.Nat.{ℕ}
+use Prim.Native.Nat.{ℕ, _+_, _*_}
 use mathlib.Core.List.{List, [], _∷_, _++_}
 use mathlib.Core.Path.{_≡_, refl}
 use Rattle.bits.specs.Fields.{bitLength, bitAt, bitsAt, isThere, fieldAt, firstSet, fillBits, furtherByte, fillFrom, fillAt}
+use Rattle.states.specs.Sets.{setWords, capacity}
 use Rattle.semantics.specs.declared.Names.{Names}
 use Rattle.semantics.specs.Derivations.{skip, assignment, parallel, iteration, weaken}
 use Rattle.derivation.specs.declared.HeadFound.the-variants.{Head, Fault}
-use Rattle.derivation.specs.Tables.{setAt, rowAt, tablesThere, isCount, relationsRead, setsRead, tablesAt, wordAt, tableWord, tabulate, written}
+use Rattle.derivation.specs.Tables.{mostTables, setAt, rowAt, tablesThere, isCount, relationsRead, setsRead, tablesAt, wordAt, setWordAt, entryWord, tableWord, tabulate, written}
 use Rattle.derivation.specs.Nodes.{onName, named, loopHead, namesHead, ruleHead, nodeHead, nodeAt, wholeNode}
 use Rattle.derivation.specs.Reading.{ProofRead, proof, refused, readProof, tableOf}
 use Rattle.derivation.specs.NodeTable.{nodeWord, nodeOf, nodeIn, padded, nodeTable}
@@ -61,24 +62,30 @@ pub tree-nodes :
 unfolding nodeIn nodeOf nodeTable padded nodeWord
 tree-nodes = (refl, refl, refl, refl, refl)
 
--- Its set is word 0, row 0 of relation 1 is word 80, the rows of relation 2 are words 144 and 145.
+-- The first word of entry i of its work words, and that of row s of relation r.
+abbrev entry : ℕ → ℕ
+entry i = tableWord sample 2 1 3 (setWords * i)
+
+abbrev row : ℕ → ℕ → ℕ
+row r s = entry (mostTables + capacity * r + s)
+
+-- Its one set, relation 0 without a pair, one pair of relation 1, both of relation 2; there is no relation 3, and no state 2.
 pub sample-words :
-    (tableWord sample 2 1 3 0 ≡ 3) × (tableWord sample 2 1 3 1 ≡ 0) × (tableWord sample 2 1 3 16 ≡ 0) × (tableWord sample 2 1 3 17 ≡ 0)
-    × (tableWord sample 2 1 3 80 ≡ 2) × (tableWord sample 2 1 3 81 ≡ 0) × (tableWord sample 2 1 3 82 ≡ 0)
-    × (tableWord sample 2 1 3 144 ≡ 2) × (tableWord sample 2 1 3 145 ≡ 2) × (tableWord sample 2 1 3 146 ≡ 0) × (tableWord sample 2 1 3 208 ≡ 0)
-unfolding tableWord setAt rowAt wordAt bitAt
+    (entry 0 ≡ 3) × (entry 1 ≡ 0) × (row 0 0 ≡ 0) × (row 0 1 ≡ 0) × (row 1 0 ≡ 2) × (row 1 1 ≡ 0) × (row 1 2 ≡ 0)
+    × (row 2 0 ≡ 2) × (row 2 1 ≡ 2) × (row 2 2 ≡ 0) × (row 3 0 ≡ 0)
+unfolding tableWord entryWord setAt rowAt setWordAt wordAt bitAt
 sample-words = (refl, refl, refl, refl, refl, refl, refl, refl, refl, refl, refl)
 
 -- A shorter buffer is written as far as it goes.
 pub short-buffer : written (tableWord sample 2 1 3) (7 ∷ 7 ∷ []) ≡ 3 ∷ 0 ∷ []
-unfolding written tabulate tableWord setAt wordAt bitAt
+unfolding written tabulate tableWord entryWord setAt setWordAt wordAt bitAt
 short-buffer = refl
 
 -- 20: each field in turn, and a number of states that no field can have.
 pub past-the-end :
     (readProof [] 2 ≡ refused 20 0) × (readProof (0x08 ∷ []) 2 ≡ refused 20 8) × (readProof (0x08 ∷ 0xF0 ∷ []) 2 ≡ refused 20 16)
     × (readProof (over []) 2 ≡ refused 20 24) × (readProof (over (0x20 ∷ [])) 2 ≡ refused 20 32)
-    × (readProof sample 0 ≡ refused 20 48) × (readProof sample 65 ≡ refused 20 48)
+    × (readProof sample 0 ≡ refused 20 48) × (readProof sample (capacity + 1) ≡ refused 20 48)
 unfolding reading
 past-the-end = (refl, refl, refl, refl, refl, refl, refl)
 

@@ -12,14 +12,16 @@ use Rattle.bits.specs.declared.Field.{Field}
 use Rattle.bits.specs.declared.Field.the-variants.{Value, Missing}
 use Rattle.bits.specs.declared.Fill.{Fill}
 use Rattle.bits.specs.declared.Fill.the-variants.{Ends, Wrong}
+use Rattle.states.specs.Sets.{capacity}
 use Rattle.semantics.specs.Derivations.{Derivation, nodes}
+use Rattle.derivation.specs.declared.TablesHead.{TablesHead}
 use Rattle.derivation.specs.declared.TablesEnd.{TablesEnd}
 use Rattle.derivation.specs.declared.TablesEnd.the-variants.{Counts, Fault}
 use Rattle.derivation.specs.declared.ProofHead.{ProofHead}
 use Rattle.derivation.specs.declared.ProofFound.{ProofFound}
 use Rattle.derivation.specs.declared.ProofFound.the-variants as Found
 use Rattle.derivation.specs.declared.NodeEnd.the-variants as End
-use Rattle.derivation.specs.Tables.{rowAt, tablesThere, isCount, relationsRead, setsRead, tablesAt}
+use Rattle.derivation.specs.Tables.{mostTables, rowAt, tablesThere, isCount, tablesHead, relationsRead, setsRead, tablesAt}
 use Rattle.derivation.specs.Nodes.{NodeRead, whole, fault, wholeNode, endOf}
 use Rattle.derivation.specs.Reading.{ProofRead, proof, refused, onFill, onNodes, onTables, readProof, foundOf, fileOf, wordsOf}
 use Rattle.derivation.specs.NodeTable.{nodeWords, nodeTable}
@@ -29,16 +31,16 @@ use Rattle.derivation.proofs.NodesRead.{ended-whole, ended-faulty, read
 use Rattle.derivation.proofs.Filling.{stored-padded}
 
 -- Its counts, and that its tables are there in full.
-pub record Counted (bytes : List ℕ) (n sets relations at : ℕ) : Type 0 where
-  pub states-most : n ≤ 64
-  pub sets-most : sets ≤ 16
-  pub relations-most : relations ≤ 16
-  pub root : at ≡ rowAt n sets relations 0
-  pub inside : rowAt n sets relations 0 ≤ 8 * length bytes
+pub record Counted (bytes : List ℕ) (n : ℕ) (x : TablesHead) : Type 0 where
+  pub states-most : n ≤ capacity
+  pub sets-most : x .sets ≤ mostTables
+  pub relations-most : x .relations ≤ mostTables
+  pub at-root : x .root ≡ rowAt n (x .sets) (x .relations) 0
+  pub inside : x .root ≤ 8 * length bytes
 
 abbrev CountedIn : List ℕ → ℕ → TablesEnd → Type 0
 CountedIn bytes n (Fault k place) = Unit {0}
-CountedIn bytes n (Counts sets relations at) = Counted bytes n sets relations at
+CountedIn bytes n (Counts x) = Counted bytes n x
 
 module _ (bytes : List ℕ) (n : ℕ) where
   relations-counted : (sets : ℕ) → isCount sets ≡ true → (f : Field) → CountedIn bytes n (relationsRead bytes n sets f)
@@ -47,20 +49,20 @@ module _ (bytes : List ℕ) (n : ℕ) where
   relations-counted sets es (Value relations next) = count (isCount relations) refl
     where
       within : (b : Bool) → tablesThere bytes n sets relations ≡ b → isCount relations ≡ true
-          → CountedIn bytes n (cond b (Counts sets relations (rowAt n sets relations 0)) (Fault 20 (bitLength bytes)))
+          → CountedIn bytes n (cond b (Counts (tablesHead n sets relations)) (Fault 20 (bitLength bytes)))
       within true t er =
           let tests = simp and-eq-true-iff at t in
           record {
             states-most = omega (arith, leb-true);
             sets-most = count-range sets es .1;
             relations-most = count-range relations er .1;
-            root = refl;
+            at-root = refl;
             inside = omega (arith, leb-true);
           }
       within false t er = tt
 
       count : (b : Bool) → isCount relations ≡ b → CountedIn bytes n (cond b
-          (cond (tablesThere bytes n sets relations) (Counts sets relations (rowAt n sets relations 0)) (Fault 20 (bitLength bytes))) (Fault 21 5))
+          (cond (tablesThere bytes n sets relations) (Counts (tablesHead n sets relations)) (Fault 20 (bitLength bytes))) (Fault 21 5))
       count true er = within (tablesThere bytes n sets relations) refl er
       count false er = tt
 
@@ -76,46 +78,48 @@ module _ (bytes : List ℕ) (n : ℕ) where
       by Missing = tt
       by (Value sets next) = count sets (isCount sets) refl
 
-  pub counted : (sets relations at : ℕ) → tablesAt bytes n ≡ Counts sets relations at → Counted bytes n sets relations at
-  counted sets relations at e = rw e at tables-counted
+  pub counted : (x : TablesHead) → tablesAt bytes n ≡ Counts x → Counted bytes n x
+  counted x e = rw e at tables-counted
 
   -- The stages of a file that is read without fault, front to back.
-  pub record Stages (sets relations at : ℕ) (d : Derivation) : Type 0 where
-    pub tables : tablesAt bytes n ≡ Counts sets relations at
+  pub record Stages (x : TablesHead) (d : Derivation) : Type 0 where
+    pub tables : tablesAt bytes n ≡ Counts x
     pub count : ℕ
     pub next : ℕ
-    pub nodes-read : wholeNode bytes sets relations at ≡ whole d count next
+    pub nodes-read : wholeNode bytes (x .sets) (x .relations) (x .root) ≡ whole d count next
     pub ends : fillAt bytes next ≡ Ends
 
   abbrev StagesIn : ProofRead → Type 0
-  StagesIn (proof sets relations at d) = Stages sets relations at d
+  StagesIn (proof sets relations at d) = Stages (record { sets = sets; relations = relations; root = at }) d
   StagesIn (refused k place) = Unit {0}
 
   file-stages : StagesIn (readProof bytes n)
   unfolding readProof
   file-stages = head (tablesAt bytes n) refl
     where
-      fill : (sets relations at count next : ℕ) (d : Derivation) → tablesAt bytes n ≡ Counts sets relations at
-          → wholeNode bytes sets relations at ≡ whole d count next → (f : Fill) → fillAt bytes next ≡ f → StagesIn (onFill sets relations at d f)
-      fill sets relations at count next d t w Ends f = record { tables = t; count = count; next = next; nodes-read = w; ends = f }
-      fill sets relations at count next d t w (Wrong place) f = tt
+      fill : (x : TablesHead) (count next : ℕ) (d : Derivation) → tablesAt bytes n ≡ Counts x
+          → wholeNode bytes (x .sets) (x .relations) (x .root) ≡ whole d count next → (f : Fill) → fillAt bytes next ≡ f
+          → StagesIn (onFill (x .sets) (x .relations) (x .root) d f)
+      fill x count next d t w Ends f = record { tables = t; count = count; next = next; nodes-read = w; ends = f }
+      fill x count next d t w (Wrong place) f = tt
 
-      root : (sets relations at : ℕ) → tablesAt bytes n ≡ Counts sets relations at → (r : NodeRead) → wholeNode bytes sets relations at ≡ r
-          → StagesIn (onNodes bytes sets relations at r)
-      root sets relations at t (fault k place) w = tt
-      root sets relations at t (whole d count next) w = fill sets relations at count next d t w (fillAt bytes next) refl
+      root : (x : TablesHead) → tablesAt bytes n ≡ Counts x → (r : NodeRead) → wholeNode bytes (x .sets) (x .relations) (x .root) ≡ r
+          → StagesIn (onNodes bytes (x .sets) (x .relations) (x .root) r)
+      root x t (fault k place) w = tt
+      root x t (whole d count next) w = fill x count next d t w (fillAt bytes next) refl
 
       head : (t : TablesEnd) → tablesAt bytes n ≡ t → StagesIn (onTables bytes t)
       head (Fault k place) t = tt
-      head (Counts sets relations at) t = root sets relations at t (wholeNode bytes sets relations at) refl
+      head (Counts x) t = root x t (wholeNode bytes (x .sets) (x .relations) (x .root)) refl
 
-  pub stages : (sets relations at : ℕ) (d : Derivation) → readProof bytes n ≡ proof sets relations at d → Stages sets relations at d
+  pub stages : (sets relations at : ℕ) (d : Derivation) → readProof bytes n ≡ proof sets relations at d
+      → Stages (record { sets = sets; relations = relations; root = at }) d
   stages sets relations at d e = rw e at file-stages
 
   -- What is known of such a file: its counts, and that its nodes name tables that there are.
   pub record Shown (sets relations : ℕ) (d : Derivation) : Type 0 where
-    pub sets-most : sets ≤ 16
-    pub relations-most : relations ≤ 16
+    pub sets-most : sets ≤ mostTables
+    pub relations-most : relations ≤ mostTables
     pub nodes-most : nodes d ≤ 127
     pub known : Known sets relations d
 
@@ -124,7 +128,7 @@ module _ (bytes : List ℕ) (n : ℕ) where
   read-known sets relations at d e =
       let s = stages sets relations at d e in
       let r = read bytes sets relations 25 0 at d (s .count) (s .next) (s .nodes-read) in
-      let c = counted sets relations at (s .tables) in
+      let c = counted _ (s .tables) in
       record { sets-most = c .sets-most; relations-most = c .relations-most; nodes-most = omega (arith, r .counted, r .room); known = r .known }
 
   -- What reading into a table gives: the answer, and where there is a derivation the table has its words.
@@ -142,30 +146,33 @@ module _ (bytes : List ℕ) (n : ℕ) where
     unfolding readProof
     no-tables k place e = refused-done k place (rw e)
 
-    module _ (sets relations at : ℕ) (tables : tablesAt bytes n ≡ Counts sets relations at) where
-      pub no-nodes : (k place : ℕ) → endOf (wholeNode bytes sets relations at) ≡ End.Fault k place → FileDone (Found.Fault k place)
+    module _ (x : TablesHead) (tables : tablesAt bytes n ≡ Counts x) where
+      abbrev root-read : NodeRead
+      root-read = wholeNode bytes (x .sets) (x .relations) (x .root)
+
+      pub no-nodes : (k place : ℕ) → endOf root-read ≡ End.Fault k place → FileDone (Found.Fault k place)
       unfolding readProof
       no-nodes k place e = refused-done k place (rw (tables, ended-faulty _ k place e))
 
-      module _ (count next : ℕ) (nodes-end : endOf (wholeNode bytes sets relations at) ≡ End.Ends count next) where
-        d-read : (d : Derivation) × (wholeNode bytes sets relations at ≡ whole d count next)
-        d-read = ended-whole (wholeNode bytes sets relations at) count next nodes-end
+      module _ (count next : ℕ) (nodes-end : endOf root-read ≡ End.Ends count next) where
+        d-read : (d : Derivation) × (root-read ≡ whole d count next)
+        d-read = ended-whole root-read count next nodes-end
 
         pub wrong-fill : (place : ℕ) → fillAt bytes next ≡ Wrong place → FileDone (Found.Fault 25 place)
         unfolding readProof
         wrong-fill place e = refused-done 25 place (rw (tables, d-read .1, e))
 
         pub whole-file : fillAt bytes next ≡ Ends
-            → ((d : Derivation) (after next : ℕ) → wholeNode bytes sets relations at ≡ whole d after next → exit ≡ stored table 0 (nodeWords 0 at d))
-            → FileDone (Found.Proof (record { sets = sets; relations = relations; nodes = count; root = at }))
+            → ((d : Derivation) (after next : ℕ) → root-read ≡ whole d after next → exit ≡ stored table 0 (nodeWords 0 (x .root) d))
+            → FileDone (Found.Proof (record { sets = x .sets; relations = x .relations; nodes = count; root = x .root }))
         unfolding readProof wholeNode
         whole-file e filled =
-            let is : readProof bytes n ≡ proof sets relations at (d-read .0) = rw (tables, d-read .1, e) in
-            let shows = read bytes sets relations 25 0 at (d-read .0) count next (d-read .1) in
+            let is : readProof bytes n ≡ proof (x .sets) (x .relations) (x .root) (d-read .0) = rw (tables, d-read .1, e) in
+            let shows = read bytes (x .sets) (x .relations) 25 0 (x .root) (d-read .0) count next (d-read .1) in
             let counts : count ≡ nodes (d-read .0) = omega (arith, shows .counted) in (
-              ap (λ (k : ℕ). Found.Proof (record { sets = sets; relations = relations; nodes = k; root = at })) counts ∙ sym (ap foundOf is),
-              λ sets′ relations′ at′ d p.
-                  let same-at : at ≡ at′ = cc in
+              ap (λ (k : ℕ). Found.Proof (record { sets = x .sets; relations = x .relations; nodes = k; root = x .root })) counts ∙ sym (ap foundOf is),
+              λ sets relations at d p.
+                  let same-at : x .root ≡ at = cc in
                   let same-d : d-read .0 ≡ d = cc in
                   filled (d-read .0) count next (d-read .1) ∙ (λ i. stored table 0 (nodeWords 0 (same-at i) (same-d i))),
             )

@@ -1,19 +1,25 @@
--- A work word's bits are the file's, first bit lowest, so membership in the words is membership in the file.
-use Prim.Native.Nat.{ℕ, zero, suc, _+_, _-_, _*_, _/_, _%_, _^_, _≤_, _<_}
+-- A word's bits are the file's, first bit lowest. So bit s mod 64 of word s div 64 of a set that is read from the file is the set's bit
+-- s, for sets of any number of words, and membership in the entries of the work words is membership in the file.
+use Prim.Native.Nat.{ℕ, zero, suc, _+_, _-_, _*_, _/_, _%_, _^_, _≤_, _<_, min}
 use mathlib.Core.Bool.{Bool, true, false, cond, _&&_}
-use mathlib.Core.List.{List, [], _∷_}
-use mathlib.Core.Path.{_≡_, refl, ap, _∙_}
-use native.Mathlib.Nat.{pow-suc, pow-succ', add-zero, zero-add, suc-add, div-one, zero-div, div-eq-of-lt, div-div-eq-div-mul}
+use mathlib.Core.List.{List}
+use mathlib.Core.Path.{_≡_, refl, sym, ap, _∙_}
+use native.Mathlib.Decide.{decLt}
+use native.Mathlib.Nat.{pow-suc, pow-succ', add-zero, zero-add, suc-add, div-one, div-eq-of-lt, div-div-eq-div-mul}
 use native.Mathlib.Omega.{arith}
 use borrow.Author.Tests.{lt-ltb, le-ltb, ltb-true, ltb-false}
 use lib.Dec.{ltb, eqb}
-use lib.ListN.{length, getD, List·getD-eq-default}
+use lib.ListN.{length, getD, drop}
 use lib.Pow.{pow-mono, low}
+use lib.Seq.{getD-take, getD-drop}
 use Rattle.bits.specs.Fields.{bitAt}
 use Rattle.bits.proofs.Laws.{bit-below}
-use Rattle.states.specs.Sets.{mem}
+use Rattle.states.specs.Sets.{setWords, capacity, mem, entryAt}
+use Rattle.states.proofs.Search.{not-true-false}
+use Rattle.states.proofs.Bits.{bit}
+use Rattle.states.proofs.EntryLaws.{entry-below}
 use Rattle.semantics.specs.Derivations.{Derivation}
-use Rattle.derivation.specs.Tables.{setAt, rowAt, inSetOf, inRelationOf, wordAt, tableWord, written}
+use Rattle.derivation.specs.Tables.{mostTables, setAt, rowAt, inSetOf, inRelationOf, wordAt, setWordAt, entryWord, tableWord, workWords, written}
 use Rattle.derivation.specs.Reading.{proof, readProof, wordsOf}
 use Rattle.derivation.proofs.Buffers.{written-at}
 use Rattle.derivation.proofs.Files.{Counted, counted, stages}
@@ -47,62 +53,87 @@ module _ (bytes : List ℕ) where
       let next : at + suc s ≡ suc at + s = omega arith in
       rw (pow-succ' 2 s, ← div-div-eq-div-mul, half, next) (word-bit (suc at) n s (omega arith))
 
-  -- No state past the n that the word was read for is a member.
-  word-member : (at n s : ℕ) → n ≤ 64 → mem (wordAt bytes at n ∷ []) s ≡ (ltb s n && eqb (bitAt bytes (at + s)) 1)
-  unfolding mem
-  word-member at n s most = by (ltb s n) refl (ltb s 64) refl
+  -- No bit past the n that the word was read for is set.
+  word-past : (at n s : ℕ) → n ≤ s → wordAt bytes at n / 2 ^ s ≡ 0
+  word-past at n s over = div-eq-of-lt (omega (arith, word-below at n, pow-mono over))
+
+  -- State s of the set that n bits hold.
+  set-bit : (at n s : ℕ) → bit (setWordAt bytes at n (s / 64)) (s % 64) ≡ (ltb s n && eqb (bitAt bytes (at + s)) 1)
+  unfolding setWordAt
+  set-bit at n s = by (ltb s n) refl
     where
-      by : (b : Bool) → ltb s n ≡ b → (c : Bool) → ltb s 64 ≡ c
-          → eqb (getD (wordAt bytes at n ∷ []) (s / 64) 0 / 2 ^ (s % 64) % 2) 1 ≡ (b && eqb (bitAt bytes (at + s)) 1)
-      by true t c u =
+      by : (b : Bool) → ltb s n ≡ b
+          → bit (wordAt bytes (at + 64 * (s / 64)) (min 64 (n - 64 * (s / 64)))) (s % 64) ≡ (b && eqb (bitAt bytes (at + s)) 1)
+      by true t =
           let under = ltb-true s n t in
-          let word : s / 64 ≡ 0 = omega arith in
-          let place : s % 64 ≡ s = omega arith in
-          rw (word, place, word-bit at n s under)
-      by false t true u =
+          let place : at + 64 * (s / 64) + s % 64 ≡ at + s = omega arith in
+          rw (word-bit (at + 64 * (s / 64)) (min 64 (n - 64 * (s / 64))) (s % 64) (omega arith), place)
+      by false t =
           let over = ltb-false s n t in
-          let within = ltb-true s 64 u in
-          let word : s / 64 ≡ 0 = omega arith in
-          let place : s % 64 ≡ s = omega arith in
-          rw (word, place, div-eq-of-lt {n = wordAt bytes at n} {m = 2 ^ s} (omega (arith, word-below at n, pow-mono over)))
-      by false t false u =
-          let past = ltb-false s 64 u in
-          rw (List·getD-eq-default (wordAt bytes at n ∷ []) 0 {n = s / 64} (omega arith), zero-div)
+          rw (word-past (at + 64 * (s / 64)) (min 64 (n - 64 * (s / 64))) (s % 64) (omega arith))
 
--- A buffer of 1,040 words or more after a proof file was loaded into it.
+  -- An entry with the words of a set that is read from a cursor on has its states.
+  entry-member : (words : List ℕ) (i at n : ℕ) → n ≤ capacity
+      → ((k : ℕ) → k < setWords → getD words (setWords * i + k) 0 ≡ setWordAt bytes at n k)
+      → (s : ℕ) → mem (entryAt words i) s ≡ (ltb s n && eqb (bitAt bytes (at + s)) 1)
+  unfolding mem entryAt
+  entry-member words i at n most held s = by (decLt s capacity)
+    where
+      within : s < capacity → mem (entryAt words i) s ≡ bit (setWordAt bytes at n (s / 64)) (s % 64)
+      within l =
+          let part : s / 64 < setWords = omega arith in
+          rw (getD-take setWords (drop (setWords * i) words) (s / 64) 0 part, getD-drop (setWords * i) words (s / 64) 0, held (s / 64) part)
+
+      by : Dec (s < capacity) → mem (entryAt words i) s ≡ (ltb s n && eqb (bitAt bytes (at + s)) 1)
+      by (yes l) = within l ∙ set-bit at n s
+      by (no l) = not-true-false _ (λ h. l (entry-below words i s h)) ∙ sym (rw (le-ltb s n (omega arith)))
+
+-- A buffer with room for all work words after a proof file was loaded into it.
 module _ (bytes : List ℕ) (n sets relations at : ℕ) (d : Derivation) (read : readProof bytes n ≡ proof sets relations at d)
-    (work : List ℕ) (enough : 1040 ≤ length work) where
-  abbrev word : ℕ → ℕ
-  word j = getD (written (wordsOf bytes n (readProof bytes n)) work) j 0
+    (work : List ℕ) (enough : workWords ≤ length work) where
+  abbrev words : List ℕ
+  words = written (wordsOf bytes n (readProof bytes n)) work
 
-  few : Counted bytes n sets relations at
-  few = counted bytes n sets relations at (stages bytes n sets relations at d read .tables)
+  few : Counted bytes n (record { sets = sets; relations = relations; root = at })
+  few = counted bytes n _ (stages bytes n sets relations at d read .tables)
 
-  word-is : (j : ℕ) → j < 1040 → word j ≡ tableWord bytes n sets relations j
-  word-is j table = written-at (wordsOf bytes n (readProof bytes n)) work j table (omega arith) ∙ rw read
+  word-is : (i k : ℕ) → i < mostTables + mostTables * capacity → k < setWords
+      → getD words (setWords * i + k) 0 ≡ entryWord bytes n sets relations i k
+  unfolding tableWord
+  word-is i k table part =
+      let entry : (setWords * i + k) / setWords ≡ i = omega arith in
+      let place : (setWords * i + k) % setWords ≡ k = omega arith in
+      written-at (wordsOf bytes n (readProof bytes n)) work (setWords * i + k) (omega arith) (omega arith) ∙ rw (read, entry, place)
 
   -- State s is in set i as the words hold it iff it is a state and the file has it in the set.
   pub set-member : (i s : ℕ) → i < sets
-      → mem (getD (written (wordsOf bytes n (readProof bytes n)) work) i 0 ∷ []) s ≡ (ltb s n && inSetOf bytes n i s)
-  unfolding tableWord inSetOf
+      → mem (entryAt (written (wordsOf bytes n (readProof bytes n)) work) i) s ≡ (ltb s n && inSetOf bytes n i s)
+  unfolding entryWord inSetOf
   set-member i s under =
-      let c = few in
-      let first : i < 16 = omega (arith, c .sets-most) in
-      rw (word-is i (omega arith), lt-ltb i 16, lt-ltb i sets) (word-member bytes (setAt n i) n s (c .states-most))
+      let first : i < mostTables = omega (arith, few .sets-most) in
+      entry-member bytes words i (setAt n i) n (few .states-most) (λ k part. word-is i k (omega arith) part ∙ rw (lt-ltb i mostTables, lt-ltb i sets)) s
 
-  -- The pair (s,t) likewise, for each of the 64 rows that the words have room for.
-  pub pair-member : (r s t : ℕ) → r < relations → s < 64
-      → mem (getD (written (wordsOf bytes n (readProof bytes n)) work) (16 + 64 * r + s) 0 ∷ []) t
+  -- The pair (s,t) likewise, for each row that the words have room for.
+  pub pair-member : (r s t : ℕ) → r < relations → s < capacity
+      → mem (entryAt (written (wordsOf bytes n (readProof bytes n)) work) (mostTables + capacity * r + s)) t
       ≡ (ltb s n && ltb t n && inRelationOf bytes n sets r s t)
-  unfolding tableWord inRelationOf wordAt
-  pair-member r s t under row =
-      let c = few in
-      let past : 16 ≤ 16 + 64 * r + s = omega arith in
-      let relation : (16 + 64 * r + s - 16) / 64 ≡ r = omega arith in
-      let state : (16 + 64 * r + s - 16) % 64 ≡ s = omega arith in
-      rw (word-is (16 + 64 * r + s) (omega (arith, c .relations-most)), le-ltb (16 + 64 * r + s) 16, relation, state, lt-ltb r relations)
-      (by (ltb s n))
+  unfolding inRelationOf entryWord setWordAt wordAt
+  pair-member r s t under row = by (ltb s n) refl
     where
-      by : (b : Bool) → mem (cond b (wordAt bytes (rowAt n sets r s) n) 0 ∷ []) t ≡ (b && ltb t n && eqb (bitAt bytes (rowAt n sets r s + t)) 1)
-      by true = word-member bytes (rowAt n sets r s) n t (few .states-most)
-      by false = word-member bytes 0 0 t (omega arith) ∙ rw (le-ltb t 0 (omega arith))
+      entry : ℕ
+      entry = mostTables + capacity * r + s
+
+      is : (k : ℕ) → k < setWords → getD words (setWords * entry + k) 0 ≡ cond (ltb s n) (setWordAt bytes (rowAt n sets r s) n k) 0
+      is k part =
+          let past : mostTables ≤ entry = omega arith in
+          let relation : (entry - mostTables) / capacity ≡ r = omega arith in
+          let state : (entry - mostTables) % capacity ≡ s = omega arith in
+          word-is entry k (omega (arith, few .relations-most)) part ∙ rw (le-ltb entry mostTables, relation, state, lt-ltb r relations)
+
+      -- No bits.
+      none : (k : ℕ) → setWordAt bytes 0 0 k ≡ 0
+      none k = let no-bits : min 64 (0 - 64 * k) ≡ 0 = omega arith in rw no-bits
+
+      by : (b : Bool) → ltb s n ≡ b → mem (entryAt words entry) t ≡ (b && ltb t n && eqb (bitAt bytes (rowAt n sets r s + t)) 1)
+      by true e = entry-member bytes words entry (rowAt n sets r s) n (few .states-most) (λ k part. is k part ∙ rw e) t
+      by false e = entry-member bytes words entry 0 0 (omega arith) (λ k part. is k part ∙ rw e (sym (none k))) t ∙ rw (le-ltb t 0 (omega arith))

@@ -8,6 +8,7 @@ use lib.Seq.{getD-drop}
 use Rattle.semantics.specs.Derivations.{Derivation, skip, assignment, sequence, parallel, conditional, iteration, weaken, namesOf, nodes}
 use Rattle.derivation.specs.declared.Node.{Node}
 use Rattle.derivation.specs.declared.NodeHead.{NodeHead}
+use Rattle.derivation.specs.Tables.{mostTables}
 use Rattle.derivation.specs.NodeTable.{nodeWord, nodeOf, nodeIn, nodeBits, nodeRecord, nodeWords}
 use Rattle.derivation.specs.Storing.{Fits, recordOf}
 use Rattle.derivation.proofs.Heads.{Named, Within, plain, loop}
@@ -94,7 +95,7 @@ first-word i bit (iteration h K W d) rest = refl
 first-word i bit (weaken h d) rest = refl
 
 -- A node that names tables that there are has room in a word.
-module _ (sets relations : ℕ) (few-sets : sets ≤ 16) (few-relations : relations ≤ 16) where
+module _ (sets relations : ℕ) (few-sets : sets ≤ mostTables) (few-relations : relations ≤ mostTables) where
   fits : (x : Node) → Named sets relations (x .names) → (x .rule < 8) × (x .k < 16) × (x .w < 16) × (x .after < 128) → Fits x
   fits x n under = record {
     rule-fits = under .0;

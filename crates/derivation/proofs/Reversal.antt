@@ -15,7 +15,7 @@ use Rattle.bits.proofs.Laws.{bit-below, bits-more, bits-below}
 use Rattle.bits.proofs.Bytes.{bits-first}
 use Rattle.states.specs.Search.{all}
 use Rattle.states.proofs.Search.{and-left, and-right, all-at}
-use Rattle.states.proofs.Words.{bit, and-bits, or-bits, bits-ext}
+use Rattle.states.proofs.Bits.{bit, and-bits, or-bits, bits-ext}
 use Rattle.derivation.specs.Tables.{wordAt}
 use Rattle.derivation.proofs.Membership.{word-below, word-bit}
 

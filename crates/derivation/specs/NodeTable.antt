@@ -28,7 +28,7 @@ nodeOf word =
 unfoldable pub nodeIn : List ℕ → ℕ → Node
 nodeIn table i = nodeOf (getD table i 0)
 
--- The rule of a derivation's root, and K and W, which are 0 but at a while.
+-- The rule of a derivation's root.
 abbrev pub ruleOf : Derivation → ℕ
 ruleOf (skip h) = 0
 ruleOf (assignment h) = 1
@@ -38,23 +38,15 @@ ruleOf (conditional h d) = 4
 ruleOf (iteration h K W d) = 5
 ruleOf (weaken h d) = 6
 
-abbrev pub kOf : Derivation → ℕ
-kOf (skip h) = 0
-kOf (assignment h) = 0
-kOf (sequence h l r) = 0
-kOf (parallel h l r) = 0
-kOf (conditional h d) = 0
-kOf (iteration h K W d) = K
-kOf (weaken h d) = 0
-
-abbrev pub wOf : Derivation → ℕ
-wOf (skip h) = 0
-wOf (assignment h) = 0
-wOf (sequence h l r) = 0
-wOf (parallel h l r) = 0
-wOf (conditional h d) = 0
-wOf (iteration h K W d) = W
-wOf (weaken h d) = 0
+-- K and W, which are 0 but at a while.
+abbrev pub loopNames : Derivation → ℕ × ℕ
+loopNames (skip h) = (0, 0)
+loopNames (assignment h) = (0, 0)
+loopNames (sequence h l r) = (0, 0)
+loopNames (parallel h l r) = (0, 0)
+loopNames (conditional h d) = (0, 0)
+loopNames (iteration h K W d) = (K, W)
+loopNames (weaken h d) = (0, 0)
 
 -- How many nodes the first child of a derivation has; 0 where it has no child.
 abbrev pub firstNodes : Derivation → ℕ
@@ -79,7 +71,7 @@ nodeBits (weaken h d) = 19 + nodeBits d
 -- The root of a derivation as node i, which begins at a bit.
 abbrev pub nodeRecord : ℕ → ℕ → Derivation → Node
 nodeRecord i bit d =
-    record { rule = ruleOf d; names = namesOf d; k = kOf d; w = wOf d; after = suc i + firstNodes d; bit = bit }
+    record { rule = ruleOf d; names = namesOf d; k = loopNames d .0; w = loopNames d .1; after = suc i + firstNodes d; bit = bit }
 
 -- The words of a derivation whose root is node i and begins at a bit: the root's, then its children's.
 abbrev pub nodeWords : ℕ → ℕ → Derivation → List ℕ

@@ -27,7 +27,7 @@ named bytes limit at f = onName bytes limit at (fieldAt bytes at 4) f
 
 -- What two tables read one after the other give to what is read after them.
 unfoldable pub onPair : TwoNames → (ℕ → ℕ → ℕ → HeadFound) → HeadFound
-onPair (Two.Pair i j next) f = f i j next
+onPair (Two.Pair x) f = f (x .first) (x .second) (x .next)
 onPair (Two.Fault k place) f = Fault k place
 
 module _ (bytes : List ℕ) (sets relations : ℕ) where

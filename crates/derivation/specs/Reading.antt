@@ -31,7 +31,7 @@ onNodes bytes sets relations at (whole d before next) = onFill sets relations at
 
 abbrev pub onTables : List ℕ → TablesEnd → ProofRead
 onTables bytes (Fault k place) = refused k place
-onTables bytes (Counts sets relations at) = onNodes bytes sets relations at (wholeNode bytes sets relations at)
+onTables bytes (Counts x) = onNodes bytes (x .sets) (x .relations) (x .root) (wholeNode bytes (x .sets) (x .relations) (x .root))
 
 -- The proof file over n states.
 unfoldable pub readProof : List ℕ → ℕ → ProofRead

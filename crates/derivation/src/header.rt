@@ -1,24 +1,28 @@
 // The head of the proof file: its two counts, and whether its sets and relations are there in full.
+use super::MOST_TABLES;
 use super::TablesEnd;
+use super::TablesHead;
 use bits::Field;
+use states::CAPACITY;
 ghost use mathlib.Core.Path.{_≡_};
 ghost use Prim.Native.Nat.{_≤_};
 ghost use Rattle.bits.specs.Fields.{fieldAt};
-ghost use Rattle.derivation.specs.Tables.{rowAt, tablesThere, isCount, relationsRead, tablesAt};
+ghost use Rattle.states.specs.Sets.{capacity};
+ghost use Rattle.derivation.specs.Tables.{mostTables, rowAt, tablesThere, isCount, relationsRead, tablesAt};
 
-// Whether a count of sets or relations is 1 to 16.
+// Whether there can be so many sets or relations: 1 to 16.
 fn is_count(k: u64) -> bool
     ensures { λ r. ⌜ r ≡ isCount k ⌝ }
 {
     if k < 1 {
         return false;
     }
-    k <= 16
+    k <= MOST_TABLES as u64
 }
 
 // The first bit of a relation's row; the root node is where the first relation too many would be.
 pub(crate) fn row_cursor(n: usize, sets: usize, relation: usize, state: usize) -> usize
-    requires { ⌜ (n ≤ 64) × (sets ≤ 16) × (relation ≤ 16) × (state ≤ 64) ⌝ }
+    requires { ⌜ (n ≤ capacity) × (sets ≤ mostTables) × (relation ≤ mostTables) × (state ≤ capacity) ⌝ }
     ensures { λ r. ⌜ r ≡ rowAt n sets relation state ⌝ }
 {
     10 + n * (sets + n * relation + state)
@@ -26,10 +30,10 @@ pub(crate) fn row_cursor(n: usize, sets: usize, relation: usize, state: usize) -
 
 // Whether every set and row is there in full.
 fn are_there(src: &[u8], n: u32, sets: u32, relations: u32) -> bool
-    requires { ⌜ (sets ≤ 16) × (relations ≤ 16) ⌝ }
+    requires { ⌜ (sets ≤ mostTables) × (relations ≤ mostTables) ⌝ }
     ensures { λ r. ⌜ r ≡ tablesThere (now (src .entry)) n sets relations ⌝ }
 {
-    if n < 1 || n > 64 {
+    if n < 1 || n > CAPACITY {
         return false;
     }
     let end = row_cursor(n as usize, sets as usize, relations as usize, 0);
@@ -38,7 +42,7 @@ fn are_there(src: &[u8], n: u32, sets: u32, relations: u32) -> bool
 
 // The number of relations, and then the tables of a file with so many sets.
 fn read_relations(src: &[u8], n: u32, sets: u32) -> TablesEnd
-    requires { ⌜ sets ≤ 16 ⌝ }
+    requires { ⌜ sets ≤ mostTables ⌝ }
     ensures { λ r. ⌜ r ≡ relationsRead (now (src .entry)) n sets (fieldAt (now (src .entry)) 5 5) ⌝ }
 {
     let Field::Value(count, _) = bits::read(src, 5, 5) else {
@@ -48,7 +52,11 @@ fn read_relations(src: &[u8], n: u32, sets: u32) -> TablesEnd
         let relations = count as u32;
         if are_there(src, n, sets, relations) {
             let root = row_cursor(n as usize, sets as usize, relations as usize, 0);
-            return TablesEnd::Counts(sets, relations, root);
+            return TablesEnd::Counts(TablesHead {
+                sets,
+                relations,
+                root,
+            });
         }
         return TablesEnd::Fault(20, bits::bit_length(src));
     }

@@ -1,5 +1,7 @@
 // The proof file, read from its bits once: the tables go into the caller's work words, and the nodes into a table, a word each.
 use semantics::Names;
+use states::CAPACITY;
+use states::SET_WORDS;
 
 pub mod header;
 mod nodes;
@@ -22,14 +24,26 @@ pub const WHILE: u32 = 5;
 
 pub const WEAKEN: u32 = 6;
 
+// At most 16 sets and 16 relations, and the work words that hold them: a set for each set and for each row of a relation.
+pub const MOST_TABLES: usize = 16;
+
+pub const WORK_WORDS: usize = SET_WORDS * (MOST_TABLES + MOST_TABLES * CAPACITY as usize);
+
 // At most 127 nodes and 24 levels.
 pub const MOST_NODES: usize = 127;
 
 pub const MOST_LEVELS: u32 = 24;
 
-// What the head of the file finds over N states: how many sets and relations, and the root node's first bit; or a fault.
+// The head of the file: how many sets and relations, and the bit at which the root node begins.
+pub struct TablesHead {
+    pub sets: u32,
+    pub relations: u32,
+    pub root: usize,
+}
+
+// The head of the file over N states, or a fault.
 pub enum TablesEnd {
-    Counts(u32, u32, usize),
+    Counts(TablesHead),
     Fault(u32, usize),
 }
 
@@ -48,9 +62,16 @@ enum HeadFound {
     Fault(u32, usize),
 }
 
-// Two tables that a node names one after the other, and the bit after them; or a fault.
+// Two tables that a node names one after the other, and the bit after them.
+struct NamePair {
+    first: u32,
+    second: u32,
+    next: usize,
+}
+
+// Two such names, or a fault.
 enum TwoNames {
-    Pair(u32, u32, usize),
+    Pair(NamePair),
     Fault(u32, usize),
 }
 

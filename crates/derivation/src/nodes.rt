@@ -3,6 +3,7 @@ use super::HeadFound;
 use super::IF;
 use super::MOST_LEVELS;
 use super::MOST_NODES;
+use super::NamePair;
 use super::Node;
 use super::NodeEnd;
 use super::NodeHead;
@@ -19,6 +20,7 @@ ghost use lib.Dec.{ltb};
 ghost use lib.ListN.{set};
 ghost use lib.Seq.{sets as stored};
 ghost use Rattle.semantics.specs.Derivations.{Derivation};
+ghost use Rattle.derivation.specs.Tables.{mostTables};
 ghost use Rattle.derivation.specs.Nodes.{named, onPair, loopHead, namesHead, nodeHead, whole, nodeAt, wholeNode, endOf};
 ghost use Rattle.derivation.specs.NodeTable.{nodeWord, nodeWords};
 ghost use Rattle.derivation.specs.Storing.{Fits, recordOf};
@@ -43,7 +45,11 @@ fn names_at(src: &[u8], first: u32, second: u32, at: usize) -> TwoNames
     if j >= second as u64 {
         return TwoNames::Fault(23, next);
     }
-    TwoNames::Pair(i as u32, j as u32, end)
+    TwoNames::Pair(NamePair {
+        first: i as u32,
+        second: j as u32,
+        next: end,
+    })
 }
 
 // K and W of a while, which are 0 at any other rule.
@@ -61,12 +67,12 @@ fn loop_head(src: &[u8], sets: u32, relations: u32, rule: u32, names: Names, at:
     }
     match names_at(src, sets, relations, at) {
         TwoNames::Fault(fault, place) => HeadFound::Fault(fault, place),
-        TwoNames::Pair(k, w, next) => HeadFound::Head(NodeHead {
+        TwoNames::Pair(pair) => HeadFound::Head(NodeHead {
             rule,
             names,
-            k,
-            w,
-            next,
+            k: pair.first,
+            w: pair.second,
+            next: pair.next,
         }),
     }
 }
@@ -77,10 +83,16 @@ fn names_in_turn(src: &[u8], sets: u32, relations: u32, rule: u32, at: usize) ->
 {
     match names_at(src, sets, relations, at) {
         TwoNames::Fault(fault, place) => HeadFound::Fault(fault, place),
-        TwoNames::Pair(p, r, middle) => match names_at(src, relations, relations, middle) {
+        TwoNames::Pair(front) => match names_at(src, relations, relations, front.next) {
             TwoNames::Fault(fault, place) => HeadFound::Fault(fault, place),
-            TwoNames::Pair(g, q, next) => {
-                loop_head(src, sets, relations, rule, Names { p, r, g, q }, next)
+            TwoNames::Pair(back) => {
+                let names = Names {
+                    p: front.first,
+                    r: front.second,
+                    g: back.first,
+                    q: back.second,
+                };
+                loop_head(src, sets, relations, rule, names, back.next)
             }
         },
     }
@@ -93,7 +105,7 @@ fn all_there(sets: u32, relations: u32, names: Names) -> bool
     (names.p < sets) & (names.r < relations) & (names.g < relations) & (names.q < relations)
 }
 
-// The same tables, read at once where they are all there.
+// The same tables, read at once where they are all there: four names of 4 bits, the first the highest.
 fn names_head(src: &[u8], sets: u32, relations: u32, rule: u32, at: usize) -> HeadFound
     ensures { λ r. ⌜ r ≡ namesHead (now (src .entry)) sets relations rule at ⌝ }
 {
@@ -179,7 +191,7 @@ fn node_walk(
     at: usize,
     table: &mut [u64; MOST_NODES],
 ) -> NodeEnd
-    requires { ⌜ (sets ≤ 16) × (relations ≤ 16) × (at ≤ 2 ^ 20 + 27 * before) ⌝ }
+    requires { ⌜ (sets ≤ mostTables) × (relations ≤ mostTables) × (at ≤ 2 ^ 20 + 27 * before) ⌝ }
     ensures ends { λ r. ⌜ r ≡ endOf (nodeAt levels (now (src .entry)) sets relations before at) ⌝ }
     ensures filled { λ _. ⌜ ((d : Derivation) (after next : ℕ) → nodeAt levels (now (src .entry)) sets relations before at ≡ whole d after next
         → now (table .exit) ≡ stored (now (table .entry)) before (nodeWords before at d)) ⌝ }
@@ -220,7 +232,7 @@ pub(crate) fn read_nodes(
     at: usize,
     table: &mut [u64; MOST_NODES],
 ) -> NodeEnd
-    requires { ⌜ (sets ≤ 16) × (relations ≤ 16) × (at ≤ 2 ^ 20) ⌝ }
+    requires { ⌜ (sets ≤ mostTables) × (relations ≤ mostTables) × (at ≤ 2 ^ 20) ⌝ }
     ensures ends { λ r. ⌜ r ≡ endOf (wholeNode (now (src .entry)) sets relations at) ⌝ }
     ensures filled { λ _. ⌜ ((d : Derivation) (after next : ℕ) → wholeNode (now (src .entry)) sets relations at ≡ whole d after next
         → now (table .exit) ≡ stored (now (table .entry)) 0 (nodeWords 0 at d)) ⌝ }

@@ -25,7 +25,10 @@ fn read_into(src: &[u8], n: u32, table: &mut [u64; MOST_NODES]) -> ProofFound
 {
     match header::read_tables(src, n) {
         TablesEnd::Fault(fault, place) => ProofFound::Fault(fault, place),
-        TablesEnd::Counts(sets, relations, root) => {
+        TablesEnd::Counts(head) => {
+            let sets = head.sets;
+            let relations = head.relations;
+            let root = head.root;
             match nodes::read_nodes(src, sets, relations, root, table) {
                 NodeEnd::Fault(fault, place) => ProofFound::Fault(fault, place),
                 NodeEnd::Ends(nodes, next) => match bits::read_fill(src, next) {

@@ -1,4 +1,5 @@
-// The table of a derivation's nodes, one word for each node, in file order.
+// The table of a derivation's nodes, one word for each node, in file order. A word has, lowest first, 3 bits rule, 4 bits each for P, R,
+// G, Q, K and W, 7 bits the number of the node after its first child, and then the bit of the file at which the node begins.
 use super::Node;
 use semantics::Names;
 ghost use mathlib.Core.Path.{_≡_};

@@ -1,11 +1,22 @@
-// The work words: a word for each set and for each row of a relation, as document 01 lays them out.
+// The work words: a set for each set and for each row of a relation, as document 01 lays them out.
+use super::MOST_TABLES;
+use super::WORK_WORDS;
 use super::header::row_cursor;
+use states::CAPACITY;
+use states::RELATION_WORDS;
+use states::SET_WORDS;
 ghost use mathlib.Core.List.{List};
 ghost use mathlib.Core.Path.{_≡_};
-ghost use Prim.Native.Nat.{ℕ, _+_, _*_, _/_, _%_, _^_, _≤_, _<_, min};
+ghost use Prim.Native.Nat.{ℕ, _+_, _-_, _*_, _/_, _%_, _^_, _≤_, _<_, min};
 ghost use lib.Bits.{bitAnd, bitOr};
 ghost use Rattle.bits.specs.Fields.{bitsAt};
-ghost use Rattle.derivation.specs.Tables.{wordAt, tableWord, written};
+ghost use Rattle.states.specs.Sets.{setWords, capacity};
+ghost use Rattle.derivation.specs.Tables.{mostTables, wordAt, setWordAt, tableWord, workWords, written};
+
+// How many rows a relation has, and the word at which the rows begin, after the sets.
+const ROWS: usize = CAPACITY as usize;
+
+const ROWS_FROM: usize = SET_WORDS * MOST_TABLES;
 
 // Swaps the bits selected by `mask` with those `by` places higher.
 fn swapped(word: u64, by: u32, mask: u64) -> u64
@@ -37,56 +48,83 @@ fn word_at(src: &[u8], at: usize, n: usize) -> u64
     if n < 64 { word % (1 << n) } else { word }
 }
 
-// Work word j of a file with so many tables: a set, a row of a relation, or 0 where it has none.
+// How many bits word `part` of a set has over n states.
+fn bits_in_word(n: usize, part: usize) -> usize
+    requires { ⌜ part < setWords ⌝ }
+    ensures { λ r. ⌜ r ≡ min 64 (n - 64 * part) ⌝ }
+{
+    let before = 64 * part;
+    if n < before {
+        return 0;
+    }
+    let left = n - before;
+    if left < 64 { left } else { 64 }
+}
+
+// Word `part` of the set that n bits of the file from a cursor on hold.
+fn set_word_at(src: &[u8], at: usize, n: usize, part: usize) -> u64
+    requires { ⌜ (at ≤ 2 ^ 20) × (part < setWords) ⌝ }
+    ensures { λ r. ⌜ r ≡ setWordAt (now (src .entry)) at n part ⌝ }
+{
+    word_at(src, at + 64 * part, bits_in_word(n, part))
+}
+
+// Work word j of a file with so many tables: a word of a set, of a row of a relation, or 0 where it has none.
 fn table_word(src: &[u8], n: usize, sets: usize, relations: usize, j: usize) -> u64
-    requires { ⌜ (n ≤ 64) × (sets ≤ 16) × (relations ≤ 16) ⌝ }
+    requires { ⌜ (n ≤ capacity) × (sets ≤ mostTables) × (relations ≤ mostTables) ⌝ }
     ensures { λ r. ⌜ r ≡ tableWord (now (src .entry)) n sets relations j ⌝ }
 {
-    if j < 16 {
-        if j < sets {
-            return word_at(src, 10 + n * j, n);
+    let entry = j / SET_WORDS;
+    let part = j % SET_WORDS;
+    if entry < MOST_TABLES {
+        if entry < sets {
+            return set_word_at(src, 10 + n * entry, n, part);
         }
         return 0;
     }
-    let row = j - 16;
-    let relation = row / 64;
-    let state = row % 64;
+    let row = entry - MOST_TABLES;
+    let relation = row / ROWS;
+    let state = row % ROWS;
     if relation >= relations || state >= n {
         return 0;
     }
-    word_at(src, row_cursor(n, sets, relation, state), n)
+    set_word_at(src, row_cursor(n, sets, relation, state), n, part)
 }
 
 // The next word after word j that a table may have: rows past the n states of a relation have none.
 fn next_word(n: usize, j: usize) -> usize
-    requires { ⌜ (n ≤ 64) × (j < 1040) ⌝ }
+    requires { ⌜ (n ≤ capacity) × (j < workWords) ⌝ }
     ensures { λ r. ⌜ (j < r) × ((s : List ℕ) (sets relations i : ℕ) → j < i → i < r → tableWord s n sets relations i ≡ 0) ⌝ }
 {
     let next = j + 1;
-    if next < 16 {
+    if next < ROWS_FROM {
         return next;
     }
-    let state = (next - 16) % 64;
-    if state < n { next } else { next + (64 - state) }
+    let passed = (next - ROWS_FROM) % RELATION_WORDS;
+    if passed < SET_WORDS * n {
+        next
+    } else {
+        next + (RELATION_WORDS - passed)
+    }
 }
 
-// How many of the 1,040 table words a buffer has.
+// How many of the work words a buffer has.
 fn table_words(len: usize) -> usize
-    ensures { λ r. ⌜ r ≡ min 1040 len ⌝ }
+    ensures { λ r. ⌜ r ≡ min workWords len ⌝ }
 {
-    if len < 1040 { len } else { 1040 }
+    if len < WORK_WORDS { len } else { WORK_WORDS }
 }
 
 // How many of a buffer's words hold the sets and so many relations.
 fn used_words(relations: usize, len: usize) -> usize
-    requires { ⌜ relations ≤ 16 ⌝ }
-    ensures { λ r. ⌜ r ≡ min (16 + 64 * relations) len ⌝ }
+    requires { ⌜ relations ≤ mostTables ⌝ }
+    ensures { λ r. ⌜ r ≡ min (setWords * (mostTables + capacity * relations)) len ⌝ }
 {
-    let used = 16 + 64 * relations;
+    let used = SET_WORDS * (MOST_TABLES + ROWS * relations);
     if len < used { len } else { used }
 }
 
-// Sets the 1,040 table words to 0: those of a file with no tables.
+// Sets the work words to 0: those of a file with no tables.
 pub fn clear(work: &mut [u64])
     ensures { λ _. ⌜ now (work .exit) ≡ written (λ j. 0) (now (work .entry)) ⌝ }
 {
@@ -99,7 +137,7 @@ pub fn clear(work: &mut [u64])
 // Writes the tables of a file with so many sets and relations; a shorter buffer is written as far as it goes. Most words
 // are of no table, so all are set to 0 first.
 pub(crate) fn fill(src: &[u8], n: usize, sets: usize, relations: usize, work: &mut [u64])
-    requires { ⌜ (n ≤ 64) × (sets ≤ 16) × (relations ≤ 16) ⌝ }
+    requires { ⌜ (n ≤ capacity) × (sets ≤ mostTables) × (relations ≤ mostTables) ⌝ }
     ensures { λ _. ⌜ now (work .exit) ≡ written (tableWord (now (src .entry)) n sets relations) (now (work .entry)) ⌝ }
 {
     clear(work);

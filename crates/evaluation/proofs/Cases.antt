@@ -1,4 +1,4 @@
--- Values, by computation, on files of two variables, of sizes 2 and 3, with an expression at bit 13.
+-- Values by computation, for files that declare two variables, of sizes 2 and 3, and have an expression at bit 13.
 use Prim.Native.Nat.{ℕ}
 use mathlib.Core.Bool.{true, false}
 use mathlib.Core.List.{List, [], _∷_, map}
@@ -30,14 +30,15 @@ less = 66 ∷ 30 ∷ 164 ∷ 2 ∷ []
 two : Head
 two = headOf (2 ∷ 3 ∷ [])
 
--- As many variables, and a state too many.
+-- The same variables, with one state too many.
 wrong : Head
 wrong = record { count = 2; sizes = 2 ∷ 3 ∷ 1 ∷ 1 ∷ []; states = 7 }
 
--- Values 1 and 2 are state 5; a difference below 0 is exact; the test is true at the states whose variable 1 is 0 or 1, and false at
--- the others; 6 is no state. At state 5, a store of 1 in variable 1 leads to state 4; of 2, its size, in variable 0, nowhere, as of what
--- cannot be read. States 5 and 3 agree in variable 0 and not in variable 1. Of the 6 states one more of variable 0's value counts
--- 3, and it has 2 values; with a weight of 0 no states agree. With a state too many there is none.
+-- At state 5 the variables have the values 1 and 2. A negative difference is exact. The test is true at the states where variable 1
+-- is 0 or 1 and false at the others; 6 is not a state. At state 5, a store of 1 in variable 1 leads to state 4; a store of 2 in
+-- variable 0, whose size is 2, leads nowhere, and neither does a store of what cannot be read. States 5 and 3 agree in variable 0
+-- and not in variable 1. Variable 0 has weight 3 and size 2 among 6 states; with a weight of 0 no states agree. A head with one
+-- state too many has no states.
 values :
     (value (machineIn two) (exprIn two-variables 2 13) 5 ≡ some (int (pos 1)))
     × (value (machineIn two) (exprIn two-variables 2 17) 5 ≡ some (int (pos 2)))

@@ -1,4 +1,4 @@
--- Sums and differences of integers stay within the sum of their magnitudes and one, and so fit; each by the signs.
+-- The magnitude of a sum or a difference is at most the sum of the magnitudes plus 1, so the result fits. By cases on the signs.
 use Prim.Native.Nat.{ℕ, zero, suc, _+_, _-_, _≤_}
 use native.Mathlib.Omega.{arith}
 use mathlib.Core.Bool.{Bool, true, false, cond}

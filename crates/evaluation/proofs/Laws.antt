@@ -1,4 +1,4 @@
--- What the variables of a head and the expression at a cursor are: laws for callers.
+-- Laws for callers: the variables of a head, and the expression at a cursor.
 use Prim.Native.Nat.{ℕ, suc, _/_, _≤_, _<_}
 use native.Mathlib.Nat.{mod-one, mod-lt}
 use native.Mathlib.Omega.{arith}
@@ -11,6 +11,7 @@ use lib.Dec.{leb, ltb, eqb}
 use lib.IntN.{ℤ, pos, negsuc}
 use lib.ListN.{getD}
 use lib.Signed.{mag}
+use Rattle.states.specs.Sets.{capacity}
 use Rattle.states.proofs.Search.{and-left, and-right, and-both, bool-ext}
 use Rattle.semantics.specs.Language.{Val, int, truth, Expr, eqZ}
 use Rattle.semantics.specs.States.{product, weight, valueOf, stored, machineOf, value, storeOf}
@@ -22,20 +23,20 @@ use Rattle.handler.specs.Expressions.{good, wholeExpr}
 use Rattle.handler.proofs.Heads.{size-past, known-head}
 use Rattle.evaluation.specs.declared.Variable.{Variable}
 use Rattle.evaluation.specs.Values.{exprIn, leadsTo, agree, variableIn, valueBy, isSmall, agreeIn}
-use Rattle.evaluation.specs.Refinement.{storedBy}
+use Rattle.evaluation.specs.Refinement.{nodeBound, storedBy}
 use Rattle.evaluation.proofs.Sizes.{later-sizes, one-size}
 
--- Where an expression can be read at the cursor.
+-- The expression at a cursor is the one that is read there, if there is one.
 pub expr-read : (bytes : List ℕ) (count at : ℕ) (e : Expr) (nodes next : ℕ) → wholeExpr bytes count at ≡ good e nodes next → exprIn bytes count at ≡ e
 unfolding exprIn
 expr-read bytes count at e nodes next read = rw read
 
--- A variable that is not declared has one value.
+-- A variable that is not declared has the same value at all states.
 pub get-past : (head : Head) (v s t : ℕ) → head .count ≤ v → machineIn head .get s v ≡ machineIn head .get t v
 unfolding machineIn
 get-past head v s t h = rw (size-past head v h) (ap pos (mod-one (s / weight (sizesIn head) v) ∙ sym (mod-one (t / weight (sizesIn head) v))))
 
--- Where there is a state, the head is such as a file's.
+-- A head with a state is one that a file can have.
 pub state-head : (head : Head) (s : ℕ) → s < machineIn head .states → isHead head ≡ true
 unfolding machineIn
 state-head head s = by (isHead head)
@@ -44,11 +45,11 @@ state-head head s = by (isHead head)
     by true below = refl
     by false below = absurd (omega arith)
 
-pub states-most : (head : Head) → machineIn head .states ≤ 64
+pub states-most : (head : Head) → machineIn head .states ≤ capacity
 unfolding machineIn
 states-most head = by (isHead head) refl
   where
-    by : (b : Bool) → isHead head ≡ b → machineIn head .states ≤ 64
+    by : (b : Bool) → isHead head ≡ b → machineIn head .states ≤ capacity
     by true h = rw h (omega (arith, known-head head h))
     by false h = rw h (omega arith)
 
@@ -74,36 +75,36 @@ after-below head v e s t below =
     = rw (known-head head (state-head head s below) .machine) (stored-below (sizesIn head) v e s t) in
     all below
 
--- Two numbers are the same as integers.
+-- Two natural numbers are equal as integers exactly if they are equal.
 same-number : (a b : ℕ) → eqZ (pos a) (pos b) ≡ eqb a b
 same-number a b =
     bool-ext _ _
     (λ h. eq-eqb a b (omega (arith, leb-true a b (and-left (leb a b) _ h), leb-true b a (and-right (leb a b) _ h))))
     (λ h. let e = eqb-true a b h in and-both _ _ (le-leb a b (omega arith)) (le-leb b a (omega arith)))
 
--- What a variable's numbers are where they are small.
+-- What `isSmall` says about a variable's numbers.
 pub record Small (x : Variable) : Type 0 where
-  pub few : x .states ≤ 64
+  pub few : x .states ≤ capacity
   pub weighs : 0 < x .weight
-  pub light : x .weight ≤ 64
+  pub light : x .weight ≤ capacity
   pub sized : 0 < x .size
-  pub short : x .size ≤ 64
+  pub short : x .size ≤ capacity
 
 pub small : (x : Variable) → isSmall x ≡ true → Small x
 unfolding isSmall
 small x h =
-    let c = and-left _ (leb (x .size) 64) h in
+    let c = and-left _ (leb (x .size) capacity) h in
     let b = and-left _ (ltb 0 (x .size)) c in
-    let a = and-left _ (leb (x .weight) 64) b in
+    let a = and-left _ (leb (x .weight) capacity) b in
     record {
-      few = leb-true (x .states) 64 (and-left _ (ltb 0 (x .weight)) a);
-      weighs = ltb-true 0 (x .weight) (and-right (leb (x .states) 64) _ a);
-      light = leb-true (x .weight) 64 (and-right (leb (x .states) 64 && ltb 0 (x .weight)) _ b);
-      sized = ltb-true 0 (x .size) (and-right (leb (x .states) 64 && ltb 0 (x .weight) && leb (x .weight) 64) _ c);
-      short = leb-true (x .size) 64 (and-right (leb (x .states) 64 && ltb 0 (x .weight) && leb (x .weight) 64 && ltb 0 (x .size)) _ h);
+      few = leb-true (x .states) capacity (and-left _ (ltb 0 (x .weight)) a);
+      weighs = ltb-true 0 (x .weight) (and-right (leb (x .states) capacity) _ a);
+      light = leb-true (x .weight) capacity (and-right (leb (x .states) capacity && ltb 0 (x .weight)) _ b);
+      sized = ltb-true 0 (x .size) (and-right (leb (x .states) capacity && ltb 0 (x .weight) && leb (x .weight) capacity) _ c);
+      short = leb-true (x .size) capacity (and-right (leb (x .states) capacity && ltb 0 (x .weight) && leb (x .weight) capacity && ltb 0 (x .size)) _ h);
     }
 
--- A variable as the code carries it.
+-- The variables of a head, as the code holds them: their numbers are small, and their values and stores are those of the machine.
 pub variable-small : (head : Head) (v : ℕ) → isSmall (variableIn head v) ≡ true
 unfolding variableIn isSmall
 variable-small head v = by (isHead head) refl
@@ -115,11 +116,11 @@ variable-small head v = by (isHead head) refl
         let z = one-size (sizesIn head) v (known .least) in
         rw (
           h,
-          le-leb (head .states) 64 (omega (arith, known)),
+          le-leb (head .states) capacity (omega (arith, known)),
           lt-ltb 0 (weight (sizesIn head) v) (w .0),
-          le-leb (weight (sizesIn head) v) 64 (omega (arith, known)),
+          le-leb (weight (sizesIn head) v) capacity (omega (arith, known)),
           lt-ltb 0 (getD (sizesIn head) v 1) (z .0),
-          le-leb (getD (sizesIn head) v 1) 64 (omega (arith, known)),
+          le-leb (getD (sizesIn head) v 1) capacity (omega (arith, known)),
         )
     by false h = rw h
 
@@ -133,7 +134,7 @@ variable-states head v = by (isHead head) refl
 
 pub variable-values : (head : Head) (v n : ℕ) (x : Variable) (values : List ℤ) → x ≡ variableIn head v → n ≡ machineIn head .states
     → ((s : ℕ) → s < n → getD values s (pos 0) ≡ pos (valueBy x s))
-    → (s : ℕ) → s < n → (getD values s (pos 0) ≡ machineIn head .get s v) × (mag (getD values s (pos 0)) < 128)
+    → (s : ℕ) → s < n → (getD values s (pos 0) ≡ machineIn head .get s v) × (mag (getD values s (pos 0)) < nodeBound)
 unfolding machineIn variableIn
 variable-values head v n x values is all each s l =
     let known = small x (ap isSmall is ∙ variable-small head v) in

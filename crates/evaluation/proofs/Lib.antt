@@ -1,4 +1,4 @@
--- Laws of values that the proofs here and callers cite; each function's proof is in its own folder.
+-- Laws about values that the proofs here and those of callers cite; each function's proof is in its own folder.
 pub mod Sizes
 pub mod Integers
 pub mod Walking

@@ -1,4 +1,4 @@
--- The sizes of a head. Where their product is not 0, neither is that of the later ones, nor is it larger.
+-- The sizes of a head. If their product is not 0, the product of the later ones is not 0 and no larger.
 use Prim.Native.Nat.{ℕ, zero, suc, _*_, _≤_, _<_}
 use native.Mathlib.Nat.{mul-comm, le-mul-of-pos-right, zero-mul, mul-zero}
 use native.Mathlib.Omega.{arith}
@@ -9,7 +9,7 @@ use Rattle.semantics.specs.States.{product}
 use Rattle.handler.specs.declared.head.Head.{Head}
 use Rattle.handler.specs.Header.{sizesIn}
 
--- A factor of a product that is not 0.
+-- A factor of a product that is not 0 is not 0 and no larger.
 factor : (a b : ℕ) → 0 < a * b → (0 < b) × (b ≤ a * b)
 factor zero b h = absurd (omega (arith, zero-mul b))
 factor (suc a) zero h = absurd (omega (arith, mul-zero (suc a)))
@@ -31,7 +31,7 @@ one-size (size ∷ sizes) (suc v) h =
     let one = one-size sizes v (rest .0) in
     (one .0, omega arith)
 
--- The product of the sizes from k on, from that of those after k; there are none past the count.
+-- The product of the sizes from k on is size k times that of the sizes after k; there are no sizes past the count.
 pub product-before : (sizes : List ℕ) (k : ℕ) → product (drop (suc k) sizes) * getD sizes k 1 ≡ product (drop k sizes)
 product-before [] zero = refl
 product-before [] (suc k) = refl

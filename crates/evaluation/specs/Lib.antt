@@ -1,3 +1,3 @@
--- Document 01, "States and steps", of the expressions of a handler file.
+-- Document 01, "States and steps", for the expressions of a handler file.
 pub mod Values
 pub mod Refinement

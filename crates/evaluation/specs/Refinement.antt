@@ -1,4 +1,4 @@
--- What the private functions promise of the values that they work out, and of a store. No public promise cites it.
+-- What the private functions promise about the values and stores that they compute. No public promise cites it.
 use Prim.Native.Nat.{ℕ, _+_, _-_, _*_, _≤_, _<_}
 use mathlib.Core.Path.{_≡_}
 use mathlib.Core.Bool.{cond}
@@ -18,28 +18,59 @@ use Rattle.evaluation.specs.declared.Values.{Values}
 use Rattle.evaluation.specs.declared.Variable.{Variable}
 use Rattle.evaluation.specs.Values.{exprIn, valueBy}
 
--- The integer at a state, and the value: of kind 0 an integer, of kind 1 a truth value, else none.
+-- The kinds of a row: an integer at each state, a truth value at each state, or no value.
+abbrev pub integersKind : ℕ
+integersKind = 0
+
+abbrev pub truthsKind : ℕ
+truthsKind = 1
+
+abbrev pub nothingKind : ℕ
+nothingKind = 2
+
+-- The codes of < and ∧: the operations below < give an integer, and those from < to below ∧ compare two integers.
+abbrev pub lessCode : ℕ
+lessCode = 2
+
+abbrev pub andCode : ℕ
+andCode = 5
+
+-- The most nodes that an expression has, and the levels to which it is read.
+abbrev pub mostNodes : ℕ
+mostNodes = 31
+
+abbrev pub exprLevels : ℕ
+exprLevels = mostNodes + 1
+
+-- The most that a node adds to the magnitude of an integer, and a bound that follows for the magnitudes of two operands together.
+abbrev pub nodeBound : ℕ
+nodeBound = 128
+
+abbrev pub operandsBound : ℕ
+operandsBound = 2 * nodeBound * exprLevels
+
+-- The integer at a state, and the value there: by the row's kind an integer, a truth value or none.
 abbrev pub integerIn : Values → ℕ → ℤ
 integerIn row s = getD (row .integers) s (pos 0)
 
 abbrev pub valueIn : Values → ℕ → Option Val
 valueIn row s = getD (some (int (integerIn row s)) ∷ some (truth (has (row .truths) s)) ∷ []) (row .kind) none
 
--- The values of an operation at n states, from those of its operands: the cursor is after the right one, and an
--- integer is no larger than those of the operands together and one.
+-- The values of an operation at n states, from those of its operands. The cursor is after the right operand, and the magnitude of
+-- an integer is at most the sum of the operands' magnitudes plus 1.
 abbrev pub Applied : ℕ → (ℕ → Option Val) → Values → Values → Values → Type 0
 Applied n f left right row =
     (row .nodes ≡ right .nodes) × (row .next ≡ right .next)
     × ((s : ℕ) → s < n → (valueIn row s ≡ f s) × (mag (integerIn row s) ≤ mag (integerIn left s) + mag (integerIn right s) + 1))
 
--- The values of an expression at n states, by what reading finds: each state's value, and where there is one, what comes after the
--- expression. Each node adds at most 128 to what an integer can be, and there are at most 31.
+-- The values of an expression at n states, by what reading it gives: the value at each state and, for a row with values, the nodes
+-- so far, the cursor after the expression, and the bound on the integers, to which each node adds.
 abbrev pub Walked : ℕ → Machine → ℕ → Values → ExprRead → Type 0
 Walked n m nodes row (good e after next) =
     ((s : ℕ) → s < n → valueIn row s ≡ value m e s)
-    × (row .kind < 2 → (row .nodes ≡ after) × (row .next ≡ next) × (nodes < after) × (after ≤ 31)
-    × ((s : ℕ) → s < n → mag (integerIn row s) < 128 * (after - nodes)))
-Walked n m nodes row (bad k place) = 2 ≤ row .kind
+    × (row .kind < nothingKind → (row .nodes ≡ after) × (row .next ≡ next) × (nodes < after) × (after ≤ mostNodes)
+    × ((s : ℕ) → s < n → mag (integerIn row s) < nodeBound * (after - nodes)))
+Walked n m nodes row (bad k place) = nothingKind ≤ row .kind
 
 -- The values of the expression at a cursor of a file, at the states of its head.
 pub record Evaluated (head : Head) (bytes : List ℕ) (at : ℕ) (row : Values) : Type 0 where

@@ -7,6 +7,7 @@ use mathlib.Core.Option.{Option, none, some}
 use lib.Dec.{leb, ltb, eqb}
 use lib.IntN.{pos}
 use lib.ListN.{getD}
+use Rattle.states.specs.Sets.{capacity}
 use Rattle.semantics.specs.Language.{Expr, lit, op, int, eqZ}
 use Rattle.semantics.specs.States.{Machine, weight}
 use Rattle.handler.specs.declared.head.Head.{Head}
@@ -14,16 +15,16 @@ use Rattle.handler.specs.Header.{isHead, sizesIn}
 use Rattle.handler.specs.Expressions.{ExprRead, good, bad, wholeExpr}
 use Rattle.evaluation.specs.declared.Variable.{Variable}
 
--- What was read, or an expression that has no variable and no value: operation 7 is not used.
+-- What was read. Where nothing can be read, an expression with no variable and no value: there is no operation 7.
 abbrev pub exprRead : ExprRead → Expr
 exprRead (good e nodes next) = e
 exprRead (bad k place) = op 7 (lit (int (pos 0))) (lit (int (pos 0)))
 
--- The expression at a cursor of a file that declares so many variables.
+-- The expression at a cursor of a file that declares `count` variables.
 unfoldable pub exprIn : List ℕ → ℕ → ℕ → Expr
 exprIn bytes count at = exprRead (wholeExpr bytes count at)
 
--- Whether a store leads to t; one that is out of range leads nowhere.
+-- Whether a store leads to t; a store that is out of range leads nowhere.
 abbrev pub leadsTo : Option ℕ → ℕ → Bool
 leadsTo none t = false
 leadsTo (some s′) t = eqb s′ t
@@ -32,21 +33,21 @@ leadsTo (some s′) t = eqb s′ t
 unfoldable pub agree : Machine → ℕ → ℕ → ℕ → Bool
 agree m v s t = ltb s (m .states) && ltb t (m .states) && eqZ (m .get s v) (m .get t v)
 
--- A variable as a state's number counts it; one that is not declared has one value. For numbers that are not a head's there is no
--- state.
+-- A variable as it is encoded in a state's number; one that is not declared has a single value. Where the head is one that no file
+-- has, there are no states.
 unfoldable pub variableIn : Head → ℕ → Variable
 variableIn head v =
     cond (isHead head) (record { states = head .states; weight = weight (sizesIn head) v; size = getD (sizesIn head) v 1 })
     (record { states = 0; weight = 1; size = 1 })
 
--- Its value at a state.
+-- The variable's value at a state.
 abbrev pub valueBy : Variable → ℕ → ℕ
 valueBy x s = s / x .weight % x .size
 
--- Whether the numbers are such as a head of at most 64 states gives.
+-- Whether there are no more states than a set can hold, and the weight and the size are not 0 and no larger, as for every head.
 unfoldable pub isSmall : Variable → Bool
-isSmall x = leb (x .states) 64 && ltb 0 (x .weight) && leb (x .weight) 64 && ltb 0 (x .size) && leb (x .size) 64
+isSmall x = leb (x .states) capacity && ltb 0 (x .weight) && leb (x .weight) capacity && ltb 0 (x .size) && leb (x .size) capacity
 
--- Whether s and t are states with the same value of such a variable; with other numbers no states are.
+-- Whether s and t are states with the same value of the variable; where its numbers are not small, no two states are.
 unfoldable pub agreeIn : Variable → ℕ → ℕ → Bool
 agreeIn x s t = isSmall x && ltb s (x .states) && ltb t (x .states) && eqb (valueBy x s) (valueBy x t)

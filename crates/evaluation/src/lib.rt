@@ -1,5 +1,5 @@
 // The values of the expressions of a handler file at its states, and where stores lead. An expression is walked once for all
-// states: each node gives a row.
+// states: each node gives a row, with a value for each state.
 mod pointwise;
 
 use handler::expressions::ExprHead;
@@ -16,17 +16,19 @@ use pointwise::states_with;
 use pointwise::sum_row;
 use pointwise::variable_row;
 use semantics::Kind;
+use states::CAPACITY;
+use states::RELATION_WORDS;
 use states::StateSet;
+use states::entries::put_entry;
 ghost use mathlib.Core.Path.{_≡_};
 ghost use mathlib.Core.Bool.{true, _&&_};
-ghost use mathlib.Core.List.{[], _∷_};
 ghost use mathlib.Core.Option.{none};
 ghost use Prim.Native.Nat.{ℕ, _+_, _≤_, _<_};
 ghost use lib.Dec.{ltb};
 ghost use lib.IntN.{pos};
 ghost use lib.ListN.{getD};
 ghost use lib.Signed.{mag};
-ghost use Rattle.states.specs.Sets.{mem, has};
+ghost use Rattle.states.specs.Sets.{capacity, mem, has, entryAt};
 ghost use Rattle.semantics.specs.Language.{ofIntegers, ofTruths, apply};
 ghost use Rattle.semantics.specs.States.{both, weight};
 ghost use Rattle.semantics.specs.Conditions.{isTrue, isFalse, afterStore, occurrences};
@@ -34,10 +36,12 @@ ghost use Rattle.handler.specs.Header.{isHead, sizesIn, machineIn};
 ghost use Rattle.handler.specs.Expressions.{exprAt};
 ghost use Rattle.handler.specs.Shapes.{inMask};
 ghost use Rattle.evaluation.specs.Values.{exprIn, leadsTo, variableIn, isSmall, agreeIn};
-ghost use Rattle.evaluation.specs.Refinement.{integerIn, valueIn, Applied, Walked, Evaluated, storedBy};
+ghost use Rattle.evaluation.specs.Refinement.{integersKind, truthsKind, nothingKind, mostNodes, operandsBound, integerIn, valueIn, Applied, Walked, Evaluated, storedBy};
 
-// An expression is read to 32 levels, one more than it can have nodes.
-const LEVELS: u32 = 32;
+// An expression has at most 31 nodes, so it is read to one level more.
+const MOST_NODES: u32 = 31;
+
+const LEVELS: u32 = MOST_NODES + 1;
 
 // The kinds of a row: an integer at each state, a truth value at each state, or no value.
 const INTEGERS: u32 = 0;
@@ -46,18 +50,25 @@ const TRUTHS: u32 = 1;
 
 const NOTHING: u32 = 2;
 
-// The operations are + − < = > ∧ ∨, from 0: the first that compares, and the first of truth values.
+// The codes of the operations + − < = > ∧ ∨, from 0. Those below LESS give an integer, those from LESS to below AND compare two
+// integers, and the last two take truth values.
+const PLUS: u32 = 0;
+
 const LESS: u32 = 2;
+
+const EQUAL: u32 = 3;
 
 const AND: u32 = 5;
 
-// The value of an expression at each state, by its kind; it has none where the kinds of its operands do not fit. With it go the
-// number of the expression's nodes so far and the cursor after it.
+const OR: u32 = 6;
+
+// The value of an expression at each state, by kind; it has no value where its operands are of the wrong kinds. `nodes` counts the
+// nodes of the whole expression up to here, and `next` is the cursor after this part of it.
 struct Values {
     kind: u32,
     nodes: u32,
     next: usize,
-    integers: [i64; 64],
+    integers: [i64; CAPACITY as usize],
     truths: StateSet,
 }
 
@@ -67,15 +78,15 @@ pub struct Truths {
     pub fails: StateSet,
 }
 
-// A variable as a state's number counts it: the number of states, the variable's weight, which is the product of the later sizes,
-// and its size.
+// A variable as it is encoded in a state's number: the number of states, the variable's weight, which is the product of the sizes
+// of the later variables, and its size.
 pub struct Variable {
     pub states: u32,
     pub weight: u32,
     pub size: u32,
 }
 
-// How many states one more of variable v's value counts: the product of the later sizes.
+// The weight of variable v, the product of the sizes of the later variables: adding 1 to v's value adds this to the state's number.
 fn weight_of(head: Head, v: u32) -> u32
     requires { ⌜ isHead head ≡ true ⌝ }
     ensures { λ r. ⌜ r ≡ weight (sizesIn head) v ⌝ }
@@ -92,7 +103,7 @@ fn weight_of(head: Head, v: u32) -> u32
     product
 }
 
-// Variable v of a head.
+// Variable v of a head; with no states where the head is one that no file has.
 pub fn variable_of(head: Head, v: u32) -> Variable
     ensures { λ r. ⌜ r ≡ variableIn head v ⌝ }
 {
@@ -111,22 +122,22 @@ pub fn variable_of(head: Head, v: u32) -> Variable
     }
 }
 
-// No value at any state.
+// A row with no value at any state.
 fn nothing(nodes: u32, next: usize) -> Values
-    ensures { λ r. ⌜ (r .kind ≡ 2) × (r .nodes ≡ nodes) × (r .next ≡ next) × ((s : ℕ) → integerIn r s ≡ pos 0) ⌝ }
+    ensures { λ r. ⌜ (r .kind ≡ nothingKind) × (r .nodes ≡ nodes) × (r .next ≡ next) × ((s : ℕ) → integerIn r s ≡ pos 0) ⌝ }
 {
     Values {
         kind: NOTHING,
         nodes,
         next,
-        integers: [0; 64],
+        integers: [0; CAPACITY as usize],
         truths: StateSet::empty(),
     }
 }
 
-// An integer at each state.
-fn integers_of(nodes: u32, next: usize, integers: [i64; 64]) -> Values
-    ensures { λ r. ⌜ (r .kind ≡ 0) × (r .nodes ≡ nodes) × (r .next ≡ next) × (r .integers ≡ integers) ⌝ }
+// A row with an integer at each state.
+fn integers_of(nodes: u32, next: usize, integers: [i64; CAPACITY as usize]) -> Values
+    ensures { λ r. ⌜ (r .kind ≡ integersKind) × (r .nodes ≡ nodes) × (r .next ≡ next) × (r .integers ≡ integers) ⌝ }
 {
     Values {
         kind: INTEGERS,
@@ -137,23 +148,23 @@ fn integers_of(nodes: u32, next: usize, integers: [i64; 64]) -> Values
     }
 }
 
-// A truth value at each state.
+// A row with a truth value at each state.
 fn truths_of(nodes: u32, next: usize, truths: StateSet) -> Values
     ensures { λ r.
-        ⌜ (r .kind ≡ 1) × (r .nodes ≡ nodes) × (r .next ≡ next) × (r .truths ≡ truths) × ((s : ℕ) → integerIn r s ≡ pos 0) ⌝ }
+        ⌜ (r .kind ≡ truthsKind) × (r .nodes ≡ nodes) × (r .next ≡ next) × (r .truths ≡ truths) × ((s : ℕ) → integerIn r s ≡ pos 0) ⌝ }
 {
     Values {
         kind: TRUTHS,
         nodes,
         next,
-        integers: [0; 64],
+        integers: [0; CAPACITY as usize],
         truths,
     }
 }
 
-// What operation o makes of two integers at each state.
+// The results of operation o on two integers, state by state.
 fn of_integers(n: u32, o: u32, left: Values, right: Values) -> Values
-    requires { ⌜ (n ≤ 64) × ((s : ℕ) → s < n → mag (integerIn left s) + mag (integerIn right s) < 8192) ⌝ }
+    requires { ⌜ (n ≤ capacity) × ((s : ℕ) → s < n → mag (integerIn left s) + mag (integerIn right s) < operandsBound) ⌝ }
     ensures { λ r. ⌜ Applied n (λ s. getD (ofIntegers (integerIn left s) (integerIn right s)) o none) left right r ⌝ }
 {
     let a = left.integers;
@@ -167,23 +178,23 @@ fn of_integers(n: u32, o: u32, left: Values, right: Values) -> Values
     }
 }
 
-// What operation o makes of two truth values at each state.
+// The results of operation o on two truth values, state by state.
 fn of_truths(n: u32, o: u32, left: Values, right: Values) -> Values
     ensures { λ r. ⌜ Applied n (λ s. getD (ofTruths (has (left .truths) s) (has (right .truths) s)) o none) left right r ⌝ }
 {
     let a = left.truths;
     let b = right.truths;
     match o {
-        5 => truths_of(right.nodes, right.next, a.meet(b)),
-        6 => truths_of(right.nodes, right.next, a.join(b)),
+        AND => truths_of(right.nodes, right.next, a.meet(b)),
+        OR => truths_of(right.nodes, right.next, a.join(b)),
         _ => nothing(right.nodes, right.next),
     }
 }
 
-// What operation o makes of its operands, both of them needed.
+// The results of operation o on its operands, both of which have values.
 fn apply_op(n: u32, o: u32, left: Values, right: Values) -> Values
-    requires { ⌜ (n ≤ 64) × (left .kind < 2) × (right .kind < 2)
-        × ((s : ℕ) → s < n → mag (integerIn left s) + mag (integerIn right s) < 8192) ⌝ }
+    requires { ⌜ (n ≤ capacity) × (left .kind < nothingKind) × (right .kind < nothingKind)
+        × ((s : ℕ) → s < n → mag (integerIn left s) + mag (integerIn right s) < operandsBound) ⌝ }
     ensures { λ r. ⌜ Applied n (λ s. both (apply o) (valueIn left s) (valueIn right s)) left right r ⌝ }
 {
     if left.kind == right.kind {
@@ -197,10 +208,11 @@ fn apply_op(n: u32, o: u32, left: Values, right: Values) -> Values
     }
 }
 
-// The values at n states of the expression at a cursor, where `nodes` of its nodes are before it. A node adds at most 128 to what
-// an integer can be, so that sums of 31 nodes fit. What has no value ends the walk: the whole has none either.
+// The values at n states of the expression at a cursor, which is part of an expression with `nodes` nodes before it. A node adds at
+// most 128 to the magnitude of an integer, so the sums of 31 nodes fit. An operand without a value ends the walk, because then the
+// whole expression has none either.
 fn values_walk(src: &[u8], head: Head, n: u32, levels: u32, nodes: u32, at: usize) -> Values
-    requires { ⌜ (n ≡ machineIn head .states) × (nodes ≤ 31) ⌝ }
+    requires { ⌜ (n ≡ machineIn head .states) × (nodes ≤ mostNodes) ⌝ }
     ensures { λ r. ⌜ Walked n (machineIn head) nodes r (exprAt levels (now (src .entry)) (head .count) nodes at) ⌝ }
 {
     if levels == 0 {
@@ -208,7 +220,7 @@ fn values_walk(src: &[u8], head: Head, n: u32, levels: u32, nodes: u32, at: usiz
     }
     let node = expr_head_at(src, head.count, nodes, at);
     match node {
-        ExprHead::Integer(z, next) => integers_of(nodes + 1, next, [z; 64]),
+        ExprHead::Integer(z, next) => integers_of(nodes + 1, next, [z; CAPACITY as usize]),
         ExprHead::Truth(b, next) => truths_of(nodes + 1, next, always(b)),
         ExprHead::Variable(v, next) => {
             let x = variable_of(head, v);
@@ -258,7 +270,7 @@ pub fn truths_at(src: &[u8], head: Head, at: usize) -> Truths
     }
 }
 
-// How many variable occurrences in the expression at a cursor are of the variables in a mask. R mostly moves no variable, and then
+// How many variable occurrences in the expression at a cursor are of variables in a mask. R usually moves no variable, and then
 // nothing is read.
 pub fn occurrences_at(src: &[u8], head: Head, mask: u32, at: usize) -> u32
     ensures { λ r. ⌜ r ≡ occurrences (inMask mask) (exprIn (now (src .entry)) (head .count) at) ⌝ }
@@ -272,14 +284,19 @@ pub fn occurrences_at(src: &[u8], head: Head, mask: u32, at: usize) -> u32
     summary.occurs
 }
 
-// Whether there are at most 64 states, and numbers to divide by that are not 0 and no larger.
+// Whether there are no more states than a set can hold, and the weight and the size, by which states are divided, are not 0 and no
+// larger.
 fn is_small(x: Variable) -> bool
     ensures { λ r. ⌜ r ≡ isSmall x ⌝ }
 {
-    (x.states <= 64) & (0 < x.weight) & (x.weight <= 64) & (0 < x.size) & (x.size <= 64)
+    (x.states <= CAPACITY)
+        & (0 < x.weight)
+        & (x.weight <= CAPACITY)
+        & (0 < x.size)
+        & (x.size <= CAPACITY)
 }
 
-// The states that agree with s in a variable; none where s is no state. A caller with many states to ask for makes the variable
+// The states that agree with s in a variable; none where s is not a state. A caller that asks about many states makes the variable
 // once.
 pub fn agreeing(x: Variable, s: u32) -> StateSet
     ensures { λ r. ⌜ ((t : ℕ) → has r t ≡ agreeIn x s t) ⌝ }
@@ -291,10 +308,10 @@ pub fn agreeing(x: Variable, s: u32) -> StateSet
     }
 }
 
-// The one state after a store of z at state s, or none where the value is out of range.
+// The one state after a store of z at state s; none where z is out of range.
 fn store(x: Variable, s: u32, z: i64) -> StateSet
-    requires { ⌜ (isSmall x ≡ true) × (s < 64) ⌝ }
-    ensures { λ r. ⌜ ((t : ℕ) → has r t ≡ (ltb t 64 && leadsTo (storedBy x s z) t)) ⌝ }
+    requires { ⌜ (isSmall x ≡ true) × (s < capacity) ⌝ }
+    ensures { λ r. ⌜ ((t : ℕ) → has r t ≡ (ltb t capacity && leadsTo (storedBy x s z) t)) ⌝ }
 {
     if z < 0 {
         return StateSet::empty();
@@ -307,12 +324,12 @@ fn store(x: Variable, s: u32, z: i64) -> StateSet
     StateSet::single(s - value * x.weight + n as u32 * x.weight)
 }
 
-// Where a store in variable v of the expression at a cursor leads: in row s the one state after it at s, or none.
-pub fn successors(src: &[u8], head: Head, v: u32, at: usize) -> [u64; 64]
-    ensures { λ r. ⌜ ((s t : ℕ) → mem (getD r s 0 ∷ []) t
+// Where a store of the expression at a cursor in variable v leads: row s holds the one state after the store at s, or none.
+pub fn successors(src: &[u8], head: Head, v: u32, at: usize) -> [u64; RELATION_WORDS]
+    ensures { λ r. ⌜ ((s t : ℕ) → mem (entryAt r s) t
         ≡ (ltb s (machineIn head .states) && leadsTo (afterStore (machineIn head) v (exprIn (now (src .entry)) (head .count) at) s) t)) ⌝ }
 {
-    let mut rows = [0u64; 64];
+    let mut rows = [0u64; RELATION_WORDS];
     let row = values_at(src, head, at);
     if row.kind != INTEGERS {
         return rows;
@@ -321,7 +338,7 @@ pub fn successors(src: &[u8], head: Head, v: u32, at: usize) -> [u64; 64]
     let x = variable_of(head, v);
     for s in 0..x.states {
         let end = store(x, s, integers[s as usize]);
-        rows[s as usize] = end.bits;
+        put_entry(&mut rows, s as usize, end);
     }
     rows
 }

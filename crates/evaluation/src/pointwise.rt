@@ -1,4 +1,9 @@
-// What is worked out state by state for rows of 64 integers: a variable's values, sums and differences, comparisons.
+// What is computed state by state: a variable's values, sums and differences, comparisons. A row has an integer for each state that
+// a set can hold.
+use crate::EQUAL;
+use crate::LESS;
+use crate::PLUS;
+use states::CAPACITY;
 use states::StateSet;
 ghost use mathlib.Core.Path.{_≡_};
 ghost use mathlib.Core.Bool.{cond, not, _&&_, _||_};
@@ -8,10 +13,11 @@ ghost use lib.Dec.{ltb, eqb};
 ghost use lib.IntN.{pos};
 ghost use lib.ListN.{getD};
 ghost use lib.Signed.{mag};
-ghost use Rattle.states.specs.Sets.{has};
+ghost use Rattle.states.specs.Sets.{capacity, has};
 ghost use Rattle.semantics.specs.Language.{int, truth, ofIntegers};
+ghost use Rattle.evaluation.specs.Refinement.{lessCode, andCode, operandsBound};
 
-// The number after x, and 0 after the last one below the limit.
+// The number after x, or 0 after the last number below the limit.
 fn next_below(limit: u32, x: u32) -> u32
     requires { ⌜ x < limit ⌝ }
     ensures { λ r. ⌜ r ≡ (x + 1) % limit ⌝ }
@@ -19,7 +25,8 @@ fn next_below(limit: u32, x: u32) -> u32
     if x + 1 < limit { x + 1 } else { 0 }
 }
 
-// A variable's value at a state, from its value at the state before: the next one where a run of states with the same value ended.
+// A variable's value at a state, from its value at the previous state: the next value if the state is the first of a run of states
+// with the same value, at place 0.
 fn next_value(size: u32, value: u32, place: u32) -> u32
     requires { ⌜ value < size ⌝ }
     ensures { λ r. ⌜ r ≡ cond (eqb place 0) ((value + 1) % size) value ⌝ }
@@ -31,12 +38,13 @@ fn next_value(size: u32, value: u32, place: u32) -> u32
     }
 }
 
-// The value at each of n states of a variable of this weight and size, counted along with the state's place in its run.
-pub(crate) fn variable_row(n: u32, weight: u32, size: u32) -> [i64; 64]
-    requires { ⌜ (n ≤ 64) × (0 < weight) × (0 < size) ⌝ }
+// The values at n states of a variable of this weight and size. The loop counts each state's place in its run, so that nothing is
+// divided.
+pub(crate) fn variable_row(n: u32, weight: u32, size: u32) -> [i64; CAPACITY as usize]
+    requires { ⌜ (n ≤ capacity) × (0 < weight) × (0 < size) ⌝ }
     ensures { λ r. ⌜ ((s : ℕ) → s < n → getD r s (pos 0) ≡ pos (s / weight % size)) ⌝ }
 {
-    let mut row = [0i64; 64];
+    let mut row = [0i64; CAPACITY as usize];
     let mut place = 0;
     let mut value = 0;
     for s in 0..n {
@@ -47,55 +55,60 @@ pub(crate) fn variable_row(n: u32, weight: u32, size: u32) -> [i64; 64]
     row
 }
 
-// A truth value as the set of the states at which it is true.
+// The states at which a truth constant is true: all or none.
 pub(crate) fn always(b: bool) -> StateSet
-    ensures { λ r. ⌜ ((s : ℕ) → s < 64 → has r s ≡ b) ⌝ }
+    ensures { λ r. ⌜ ((s : ℕ) → s < capacity → has r s ≡ b) ⌝ }
 {
     if b {
-        StateSet::below(64)
+        StateSet::below(CAPACITY)
     } else {
         StateSet::empty()
     }
 }
 
-// The sum of two integers where o is 0, their difference where it is 1. The operands are small, so that it fits.
+// The sum of two integers where o is PLUS, their difference where it is the code of −. The operands are small, so the result fits.
 fn sum(o: u32, a: i64, b: i64) -> i64
-    requires { ⌜ (o < 2) × (mag a + mag b < 8192) ⌝ }
+    requires { ⌜ (o < lessCode) × (mag a + mag b < operandsBound) ⌝ }
     ensures exact { λ r. ⌜ some (int r) ≡ getD (ofIntegers a b) o none ⌝ }
     ensures bounded { λ r. ⌜ mag r ≤ mag a + mag b + 1 ⌝ }
 {
-    if o == 0 { a + b } else { a - b }
+    if o == PLUS { a + b } else { a - b }
 }
 
-// The sums or the differences at each state.
-pub(crate) fn sum_row(n: u32, o: u32, left: [i64; 64], right: [i64; 64]) -> [i64; 64]
-    requires { ⌜ (n ≤ 64) × (o < 2) × ((s : ℕ) → s < n → mag (getD left s (pos 0)) + mag (getD right s (pos 0)) < 8192) ⌝ }
+// The sums or the differences of two rows, state by state.
+pub(crate) fn sum_row(
+    n: u32,
+    o: u32,
+    left: [i64; CAPACITY as usize],
+    right: [i64; CAPACITY as usize],
+) -> [i64; CAPACITY as usize]
+    requires { ⌜ (n ≤ capacity) × (o < lessCode) × ((s : ℕ) → s < n → mag (getD left s (pos 0)) + mag (getD right s (pos 0)) < operandsBound) ⌝ }
     ensures { λ r.
         ⌜ ((s : ℕ) → s < n → (some (int (getD r s (pos 0))) ≡ getD (ofIntegers (getD left s (pos 0)) (getD right s (pos 0))) o none)
         × (mag (getD r s (pos 0)) ≤ mag (getD left s (pos 0)) + mag (getD right s (pos 0)) + 1)) ⌝ }
 {
-    let mut row = [0i64; 64];
+    let mut row = [0i64; CAPACITY as usize];
     for s in 0..n {
         row[s as usize] = sum(o, left[s as usize], right[s as usize]);
     }
     row
 }
 
-// Whether two integers compare as operation o asks: 2 is <, 3 is = and 4 is >.
+// Whether two integers compare as operation o asks, which is <, = or >.
 fn compares(o: u32, a: i64, b: i64) -> bool
-    requires { ⌜ (1 < o) × (o < 5) ⌝ }
+    requires { ⌜ (lessCode ≤ o) × (o < andCode) ⌝ }
     ensures { λ r. ⌜ some (truth r) ≡ getD (ofIntegers a b) o none ⌝ }
 {
     match o {
-        2 => a < b,
-        3 => (a <= b) & (b <= a),
+        LESS => a < b,
+        EQUAL => (a <= b) & (b <= a),
         _ => a > b,
     }
 }
 
-// The states found so far, with s where it is one of those looked for.
+// The states found so far, with s added if `one` is true.
 fn with_state(found: StateSet, s: u32, one: bool) -> StateSet
-    ensures { λ r. ⌜ ((t : ℕ) → has r t ≡ (has found t || one && (ltb t 64 && eqb s t))) ⌝ }
+    ensures { λ r. ⌜ ((t : ℕ) → has r t ≡ (has found t || one && (ltb t capacity && eqb s t))) ⌝ }
 {
     if one {
         found.join(StateSet::single(s))
@@ -105,8 +118,13 @@ fn with_state(found: StateSet, s: u32, one: bool) -> StateSet
 }
 
 // The states at which two integers compare as operation o asks.
-pub(crate) fn compared(n: u32, o: u32, left: [i64; 64], right: [i64; 64]) -> StateSet
-    requires { ⌜ (n ≤ 64) × (1 < o) × (o < 5) ⌝ }
+pub(crate) fn compared(
+    n: u32,
+    o: u32,
+    left: [i64; CAPACITY as usize],
+    right: [i64; CAPACITY as usize],
+) -> StateSet
+    requires { ⌜ (n ≤ capacity) × (lessCode ≤ o) × (o < andCode) ⌝ }
     ensures { λ r.
         ⌜ ((s : ℕ) → s < n → some (truth (has r s)) ≡ getD (ofIntegers (getD left s (pos 0)) (getD right s (pos 0))) o none) ⌝ }
 {
@@ -117,17 +135,17 @@ pub(crate) fn compared(n: u32, o: u32, left: [i64; 64], right: [i64; 64]) -> Sta
     found
 }
 
-// The states found so far, and those from `from` on that are below `end`.
+// The states found so far, with those from `from` to below `end` added.
 fn with_run(found: StateSet, from: u32, end: u32) -> StateSet
-    ensures { λ r. ⌜ ((t : ℕ) → has r t ≡ (has found t || ltb t 64 && (ltb t end && not (ltb t from)))) ⌝ }
+    ensures { λ r. ⌜ ((t : ℕ) → has r t ≡ (has found t || ltb t capacity && (ltb t end && not (ltb t from)))) ⌝ }
 {
     found.join(StateSet::below(end).narrow(StateSet::below(from)))
 }
 
-// The states below n at which a variable of this weight and size has this value: a run of `weight` states in every weight * size,
-// so that no state is divided.
+// The states below n at which a variable of this weight and size has this value. They are found as runs of `weight` states, one in
+// every weight * size, so that no state's number is divided.
 pub(crate) fn states_with(n: u32, weight: u32, size: u32, value: u32) -> StateSet
-    requires { ⌜ (n ≤ 64) × (0 < weight) × (weight ≤ 64) × (size ≤ 64) × (value < size) ⌝ }
+    requires { ⌜ (n ≤ capacity) × (0 < weight) × (weight ≤ capacity) × (size ≤ capacity) × (value < size) ⌝ }
     ensures { λ r. ⌜ ((t : ℕ) → has r t ≡ (ltb t n && eqb value (t / weight % size))) ⌝ }
 {
     let period = weight * size;

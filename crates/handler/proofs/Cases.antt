@@ -13,11 +13,11 @@ use Rattle.handler.specs.Expressions.{signed, integerHead, truthHead, va
 use Rattle.handler.specs.Statements.{targetHead, codeHead, markHead, stmtHead, stmtAt, wholeStmt}
 use Rattle.handler.specs.StatementTable.{statementWord, wordOf, statementTable}
 use Rattle.handler.specs.Reading.{handler, refused, readHandler}
-use Rattle.handler.specs.Shapes.{fileOf}
+use Rattle.handler.specs.Shapes.{handlerFile}
 
 -- Unfolds all that reading a file computes with.
 opened : Unit {0}
-unfolding fileOf headOf statementTable wordOf statementWord readHandler headAt countRead sizesRead addSize sizeRead wholeStmt stmtAt stmtHead markHead codeHead targetHead wholeExpr exprAt exprHead tagHead payloadHead integerHead truthHead variableHead operationHead signed fieldAt isThere bitsAt bitAt bitLength fillAt fillFrom furtherByte fillBits firstSet
+unfolding handlerFile headOf statementTable wordOf statementWord readHandler headAt countRead sizesRead addSize sizeRead wholeStmt stmtAt stmtHead markHead codeHead targetHead wholeExpr exprAt exprHead tagHead payloadHead integerHead truthHead variableHead operationHead signed fieldAt isThere bitsAt bitAt bitLength fillAt fillFrom furtherByte fillBits firstSet
 opened = tt
 
 -- One variable of size 2; 16 sequences, each the left side of the one before, leave the 17th level at bit 56.
@@ -48,14 +48,14 @@ loops = 0x48 ∷ 0x45 ∷ 0x75 ∷ 0xD7 ∷ 0x5D ∷ 0x75 ∷ 0xD7 ∷ 0x5D ∷ 
 pub handlers :
     (readHandler (0x22 ∷ 0x20 ∷ 0x02 ∷ []) ≡ handler (2 ∷ []) 8 (assign 0 (lit (int (pos 1)))))
     × (readHandler (0x30 ∷ 0x00 ∷ []) ≡ handler (16 ∷ []) 8 nil)
-    × (fileOf (readHandler (0x22 ∷ 0x20 ∷ 0x02 ∷ [])) ≡ record {
+    × (handlerFile (readHandler (0x22 ∷ 0x20 ∷ 0x02 ∷ [])) ≡ record {
       found = Handler (record { at = 8; statements = 1; steps = 1 });
       head = record { count = 1; sizes = 2 ∷ 1 ∷ 1 ∷ 1 ∷ []; states = 2 };
       statements = (1 + 8 * (0 + 4 * (1 + 128 * 13))) ∷ replicate 62 0;
     })
-    × (fileOf (readHandler many) .found ≡ Handler (record { at = 8; statements = 63; steps = 31 }))
-    × (fileOf (readHandler loops) .found ≡ Handler (record { at = 13; statements = 16; steps = 2 ^ 32 }))
-    × (fileOf (readHandler []) .head ≡ noHead)
+    × (handlerFile (readHandler many) .found ≡ Handler (record { at = 8; statements = 63; steps = 31 }))
+    × (handlerFile (readHandler loops) .found ≡ Handler (record { at = 13; statements = 16; steps = 2 ^ 32 }))
+    × (handlerFile (readHandler []) .head ≡ noHead)
 unfolding opened
 handlers = (refl, refl, refl, refl, refl, refl)
 

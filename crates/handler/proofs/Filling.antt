@@ -15,7 +15,7 @@ use Rattle.handler.specs.declared.table.Statement.{Statement}
 use Rattle.handler.specs.declared.StmtHead.the-variants.{Nil, Assign, Pair, Test}
 use Rattle.handler.specs.Statements.{stmtHead, StmtRead, whole, fault, onAssigned, onRight, stmtAt}
 use Rattle.handler.specs.Kinds.{width, stmtWidth}
-use Rattle.handler.specs.StatementTable.{statements, statementWord, wordOf, statementWords, Filled}
+use Rattle.handler.specs.StatementTable.{statements, statementWord, wordOf, statementWords, StatementsStored}
 use Rattle.handler.specs.declared.StmtShape.the-variants as stmt
 use Rattle.handler.specs.Shapes.{stmtShape}
 use Rattle.handler.proofs.StatementTable.{length-statementWords}
@@ -82,32 +82,32 @@ module _ (bytes : List ℕ) (count levels before at : ℕ) (more : 0 < levels) w
   abbrev below : ℕ → ℕ → StmtRead
   below = stmtAt (levels - 1) bytes count
 
-  pub fault-filled : (N k place : ℕ) (table₀ table₁ : List ℕ) → stmt.Fault k place ≡ stmtShape N at here → Filled table₀ table₁ before at here
+  pub fault-filled : (N k place : ℕ) (table₀ table₁ : List ℕ) → stmt.Fault k place ≡ stmtShape N at here → StatementsStored table₀ table₁ before at here
   fault-filled N k place table₀ table₁ e = rw (stmt-faulted N at here k place (sym e)) tt
 
   pub nil-filled : (next : ℕ) → stmtHead bytes count (levels - 1) before at ≡ Nil next → (table₀ table₁ : List ℕ)
-      → table₁ ≡ set table₀ before (statementWord (entry 0 0 (before + 1) 0)) → Filled table₀ table₁ before at here
+      → table₁ ≡ set table₀ before (statementWord (entry 0 0 (before + 1) 0)) → StatementsStored table₀ table₁ before at here
   unfolding wordOf
   nil-filled next head table₀ table₁ own = rw (stmt-step bytes count levels before at _ more head) (rw (add-one before) at own)
 
   pub assign-filled : (v next : ℕ) → stmtHead bytes count (levels - 1) before at ≡ Assign v next → (table₀ table₁ : List ℕ)
-      → table₁ ≡ set table₀ before (statementWord (entry 1 v (before + 1) next)) → Filled table₀ table₁ before at here
+      → table₁ ≡ set table₀ before (statementWord (entry 1 v (before + 1) next)) → StatementsStored table₀ table₁ before at here
   unfolding wordOf Marked
   assign-filled v next head table₀ table₁ own = rw (stmt-step bytes count levels before at _ more head) (by (wholeExpr bytes count next))
     where
-      by : (x : ExprRead) → Filled table₀ table₁ before at (onAssigned v (suc before) x)
+      by : (x : ExprRead) → StatementsStored table₀ table₁ before at (onAssigned v (suc before) x)
       by (bad k place) = tt
       by (good e nodes behind) = own ∙ rw (add-one before, marked bytes count (levels - 1) before at _ head .2)
 
   pub pair-filled : (code next : ℕ) → stmtHead bytes count (levels - 1) before at ≡ Pair code next
       → (l : Stmt) (so-far behind : ℕ) → below (before + 1) next ≡ whole l so-far behind → (table₀ table₁ table₂ table₃ : List ℕ)
-      → Filled table₀ table₁ (before + 1) next (below (before + 1) next) → table₂ ≡ set table₁ before (statementWord (entry code 0 so-far 0))
-      → Filled table₂ table₃ so-far behind (below so-far behind) → Filled table₀ table₃ before at here
+      → StatementsStored table₀ table₁ (before + 1) next (below (before + 1) next) → table₂ ≡ set table₁ before (statementWord (entry code 0 so-far 0))
+      → StatementsStored table₂ table₃ so-far behind (below so-far behind) → StatementsStored table₀ table₃ before at here
   unfolding Marked
   pair-filled code next head l so-far behind was table₀ table₁ table₂ table₃ first own second =
       rw (stmt-step bytes count levels before at _ more head, ← add-one before, was) (by (below so-far behind) second)
     where
-      by : (x : StmtRead) → Filled table₂ table₃ so-far behind x → Filled table₀ table₃ before at (onRight code l x)
+      by : (x : StmtRead) → StatementsStored table₂ table₃ so-far behind x → StatementsStored table₀ table₃ before at (onRight code l x)
       by (fault k place) f = tt
       by (whole r after end) f =
           let known = marked bytes count (levels - 1) before at _ head in
@@ -122,8 +122,8 @@ module _ (bytes : List ℕ) (count levels before at : ℕ) (more : 0 < levels) w
   pub test-filled : (code next : ℕ) → stmtHead bytes count (levels - 1) before at ≡ Test code next
       → (e : Expr) (nodes behind : ℕ) → wholeExpr bytes count next ≡ good e nodes behind
       → (b : Stmt) (after end : ℕ) → below (before + 1) behind ≡ whole b after end → (table₀ table₁ table₂ : List ℕ)
-      → Filled table₀ table₁ (before + 1) behind (below (before + 1) behind) → table₂ ≡ set table₁ before (statementWord (entry code 0 after next))
-      → Filled table₀ table₂ before at here
+      → StatementsStored table₀ table₁ (before + 1) behind (below (before + 1) behind) → table₂ ≡ set table₁ before (statementWord (entry code 0 after next))
+      → StatementsStored table₀ table₂ before at here
   unfolding Marked
   test-filled code next head e nodes behind test b after end was table₀ table₁ table₂ first own =
       let known = marked bytes count (levels - 1) before at _ head in

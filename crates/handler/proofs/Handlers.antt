@@ -18,8 +18,8 @@ use Rattle.handler.specs.declared.HandlerFound.the-variants as found
 use Rattle.handler.specs.Statements.{StmtRead, whole, fault, wholeStmt}
 use Rattle.handler.specs.Kinds.{stmtKindError}
 use Rattle.handler.specs.StatementTable.{statements}
-use Rattle.handler.specs.Reading.{HandlerRead, handler, refused, onKinds, onFill, onStmt, onHead, readHandler}
-use Rattle.handler.specs.Shapes.{fileOf}
+use Rattle.handler.specs.Reading.{HandlerRead, handler, refused, onKinds, onHandlerFill, onStmt, onHead, readHandler}
+use Rattle.handler.specs.Shapes.{handlerFile}
 use Rattle.handler.proofs.StmtFolds.{TargetsBelow, stmt-read}
 use Rattle.handler.proofs.Parts.{Stands}
 
@@ -36,7 +36,7 @@ module _ (bytes sizes : List ℕ) (at : ℕ) (S : Stmt) where
   by-kinds xs i T none e = (refl, e)
   by-kinds xs i T (some place) e = absurd (let z : _≡_ {A = ℕ} 0 1 = cc in omega arith)
 
-  by-fill : (xs : List ℕ) (i : ℕ) (T : Stmt) (f : Fill) → onFill xs i T f ≡ handler sizes at S
+  by-fill : (xs : List ℕ) (i : ℕ) (T : Stmt) (f : Fill) → onHandlerFill xs i T f ≡ handler sizes at S
       → (stmtKindError i T ≡ none) × (handler xs i T ≡ handler sizes at S)
   by-fill xs i T Ends e = by-kinds xs i T (stmtKindError i T) e
   by-fill xs i T (Wrong place) e = absurd (let z : _≡_ {A = ℕ} 0 1 = cc in omega arith)
@@ -69,8 +69,8 @@ module _ (bytes sizes : List ℕ) (at : ℕ) (S : Stmt) where
   known-handler e = by-head (head.headAt bytes) refl e
 
 -- What is found in a file says what was read.
-pub found-refused : (r : HandlerRead) (k place : ℕ) → fileOf r .found ≡ found.Fault k place → r ≡ refused k place
-unfolding fileOf
+pub found-refused : (r : HandlerRead) (k place : ℕ) → handlerFile r .found ≡ found.Fault k place → r ≡ refused k place
+unfolding handlerFile
 found-refused (handler sizes at S) k place f = absurd (let z : _≡_ {A = ℕ} 0 1 = cc in omega arith)
 found-refused (refused j i) k place f = cc
 
@@ -81,8 +81,8 @@ pub record FoundHandler (r : HandlerRead) (w : HandlerSummary) : Type 0 where
   pub counted : w .statements ≡ statements S
   pub stepping : w .steps ≡ min (steps (product sizes) S) (2 ^ 32)
 
-pub found-handler : (r : HandlerRead) (w : HandlerSummary) → fileOf r .found ≡ found.Handler w → FoundHandler r w
-unfolding fileOf
+pub found-handler : (r : HandlerRead) (w : HandlerSummary) → handlerFile r .found ≡ found.Handler w → FoundHandler r w
+unfolding handlerFile
 found-handler (handler sizes at S) w f =
     let same : _≡_ {A = HandlerSummary} (record { at = at; statements = statements S; steps = min (steps (product sizes) S) (2 ^ 32) }) w = cc in
     rw (← same) (record { sizes = sizes; S = S; read = refl; counted = refl; stepping = refl })

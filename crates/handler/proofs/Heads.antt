@@ -3,17 +3,17 @@ use Prim.Native.Nat.{ℕ, zero, suc, _+_, _-_, _*_, _≤_, _<_}
 use native.Mathlib.Nat.{mul-assoc, mul-one, one-mul, mul-pos, mul-le-mul-left}
 use native.Mathlib.Omega.{arith}
 use borrow.Author.Tests.{leb-true, ltb-false, le-leb, eqb-true, eq-eqb}
-use mathlib.Core.Bool.{Bool, true, false, cond, _&&_, _||_, and-eq-true-iff, true≢false}
+use mathlib.Core.Bool.{Bool, true, false, cond, _&&_, _||_, true≢false}
 use mathlib.Core.List.{List, [], _∷_, _++_}
-use mathlib.Core.Path.{_≡_, refl, sym, ap, ap₂, _∙_}
+use mathlib.Core.Path.{_≡_, refl, sym, ap, _∙_}
 use lib.Dec.{leb, ltb}
 use lib.ListN.{length, getD, take, replicate, length-take, length-append, getD-replicate, List·getD-eq-default}
 use lib.Seq.{take-append-seam, getD-take}
+use Rattle.states.specs.Sets.{capacity}
 use Rattle.bits.specs.Fields.{fieldAt}
 use Rattle.bits.specs.declared.Field.{Field}
 use Rattle.bits.specs.declared.Field.the-variants.{Value, Missing}
 use Rattle.bits.proofs.Laws.{there}
-use Rattle.states.specs.Search.{all}
 use Rattle.states.proofs.Search.{and-left, and-right, and-both, all-intro, all-at}
 use Rattle.semantics.specs.States.{product, Machine, machineOf}
 use Rattle.handler.specs.declared.head.Head.{Head}
@@ -26,7 +26,7 @@ pub record Sized (k at : ℕ) (sizes : List ℕ) : Type 0 where
   pub counted : length sizes ≡ k
   pub starts : at ≡ 3 + 5 * k
   pub least : 1 ≤ product sizes
-  pub most : product sizes ≤ 64
+  pub most : product sizes ≤ capacity
   pub each : (v : ℕ) → (1 ≤ getD sizes v 1) × (getD sizes v 1 ≤ 16)
 
 pub product-snoc : (sizes : List ℕ) (size : ℕ) → product (sizes ++ size ∷ []) ≡ product sizes * size
@@ -54,7 +54,7 @@ module _ (s : List ℕ) where
   next-size k (fault code place) u = tt
   next-size k (declared sizes at) u = by (fieldAt s at 5) refl
     where
-      fits : (size next : ℕ) → fieldAt s at 5 ≡ Value size next → (ltb size 2 || ltb 16 size) ≡ false → (b : Bool) → ltb 64 (product sizes * size) ≡ b
+      fits : (size next : ℕ) → fieldAt s at 5 ≡ Value size next → (ltb size 2 || ltb 16 size) ≡ false → (b : Bool) → ltb capacity (product sizes * size) ≡ b
           → Upto (suc k) (cond b (fault 13 at) (declared (sizes ++ size ∷ []) next))
       fits size next e in-range true t = tt
       fits size next e in-range false t =
@@ -66,14 +66,14 @@ module _ (s : List ℕ) where
             counted = simp length-append (omega (arith, u .counted));
             starts = omega arith;
             least = rw (product-snoc sizes size) (omega (arith, mul-le-mul-left (product sizes) least));
-            most = rw (product-snoc sizes size) (ltb-false 64 (product sizes * size) t);
+            most = rw (product-snoc sizes size) (ltb-false capacity (product sizes * size) t);
             each = each-snoc (λ x. (1 ≤ x) × (x ≤ 16)) sizes size (omega arith) (omega arith) (u .each);
           }
 
       tests : (size next : ℕ) → fieldAt s at 5 ≡ Value size next → (b : Bool) → (ltb size 2 || ltb 16 size) ≡ b
-          → Upto (suc k) (cond b (fault 12 at) (cond (ltb 64 (product sizes * size)) (fault 13 at) (declared (sizes ++ size ∷ []) next)))
+          → Upto (suc k) (cond b (fault 12 at) (cond (ltb capacity (product sizes * size)) (fault 13 at) (declared (sizes ++ size ∷ []) next)))
       tests size next e true t = tt
-      tests size next e false t = fits size next e t (ltb 64 (product sizes * size)) refl
+      tests size next e false t = fits size next e t (ltb capacity (product sizes * size)) refl
 
       by : (f : Field) → fieldAt s at 5 ≡ f → Upto (suc k) (sizeRead s sizes at f)
       by Missing e = tt
@@ -114,7 +114,7 @@ size-at head v there few = getD-take (head .count) (head .sizes) v 1 few ∙ eit
 -- What is known of a head whose numbers are within the limits.
 pub record Limited (head : Head) : Type 0 where
   pub few : head .count ≤ 4
-  pub most : head .states ≤ 64
+  pub most : head .states ≤ capacity
   pub each : (v : ℕ) → getD (sizesIn head) v 1 ≤ 16
   pub least : 1 ≤ product (sizesIn head)
 
@@ -134,18 +134,18 @@ sizes-small (suc k) (size ∷ l) each =
 pub limited : (head : Head) → inLimits head ≡ true → Limited head
 unfolding inLimits sizesIn
 limited head h =
-    let both = and-left (leb (head .count) 4 && leb (head .states) 64) _ h in
+    let both = and-left (leb (head .count) 4 && leb (head .states) capacity) _ h in
     let few = leb-true (head .count) 4 (and-left (leb (head .count) 4) _ both) in
-    let sizes = all-at 4 _ (and-right (leb (head .count) 4 && leb (head .states) 64) _ h) in
+    let sizes = all-at 4 _ (and-right (leb (head .count) 4 && leb (head .states) capacity) _ h) in
     let known = sizes-small (head .count) (head .sizes) (λ v l. sizes v (omega arith)) in
-    record { few = few; most = leb-true (head .states) 64 (and-right (leb (head .count) 4) _ both); each = known .0; least = known .1 }
+    record { few = few; most = leb-true (head .states) capacity (and-right (leb (head .count) 4) _ both); each = known .0; least = known .1 }
 
 -- What is known if the numbers make a head.
 pub record KnownHead (head : Head) : Type 0 where
   pub few : head .count ≤ 4
   pub total : head .states ≡ product (sizesIn head)
   pub least : 1 ≤ product (sizesIn head)
-  pub most : product (sizesIn head) ≤ 64
+  pub most : product (sizesIn head) ≤ capacity
   pub machine : machineIn head ≡ machineOf (sizesIn head)
 
 pub known-head : (head : Head) → isHead head ≡ true → KnownHead head
@@ -199,7 +199,7 @@ pub record Declared (sizes : List ℕ) (at : ℕ) : Type 0 where
   pub few : length sizes ≤ 4
   pub starts : at ≡ 3 + 5 * length sizes
   pub least : 1 ≤ product sizes
-  pub most : product sizes ≤ 64
+  pub most : product sizes ≤ capacity
   pub head : isHead (headOf sizes) ≡ true
   pub machine : machineIn (headOf sizes) ≡ machineOf sizes
 
@@ -208,7 +208,7 @@ unfolding inLimits isHead headOf
 declares sizes k at few known =
     let same = known .counted in
     let limits : inLimits (headOf sizes) ≡ true =
-    and-both _ _ (and-both _ _ (le-leb (length sizes) 4 (omega arith)) (le-leb _ 64 (known .most)))
+    and-both _ _ (and-both _ _ (le-leb (length sizes) 4 (omega arith)) (le-leb _ capacity (known .most)))
     (all-intro 4 (λ v. isSize (getD (sizes ++ replicate (4 - length sizes) 1) v 0))
     (λ v small. rw (getD-padded sizes (4 - length sizes) v (omega arith)) (and-both _ _ (le-leb 1 _ (known .each v .0)) (le-leb _ 16 (known .each v .1))))) in
     let fits : isHead (headOf sizes) ≡ true = and-both _ _ limits (eq-eqb (product sizes) _ (rw (sizes-of sizes))) in

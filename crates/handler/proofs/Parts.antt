@@ -11,7 +11,7 @@ use Rattle.semantics.specs.Language.{Expr, Stmt, nil, assign, seq, par, if, whi
 use Rattle.handler.specs.declared.StmtHead.{StmtHead}
 use Rattle.handler.specs.declared.StmtHead.the-variants.{Nil, Assign, Pair, Test, Fault}
 use Rattle.handler.specs.Expressions.{ExprRead, good, bad, wholeExpr}
-use Rattle.handler.specs.Statements.{markHead, stmtHead, StmtRead, whole, fault, onAssigned, onBody, onTest, onRight, onLeft, onStmtHead, stmtAt, wholeStmt}
+use Rattle.handler.specs.Statements.{markHead, stmtHead, StmtRead, whole, fault, onAssigned, onBody, onTest, onRight, onLeftSide, onStmtHead, stmtAt, wholeStmt}
 use Rattle.handler.specs.Kinds.{width, stmtWidth}
 use Rattle.handler.proofs.StmtFolds.{Marked, marked, whole-read, stmt-read}
 
@@ -44,7 +44,7 @@ module _ (bytes : List ℕ) (count d : ℕ) where
       right code l (whole r n i) y f = (f .0, rw (f .1), f .2)
 
       left : (code : ℕ) (x y : StmtRead) → Fresh d x y → ((n m i : ℕ) → n ≡ m + d → Fresh d (stmtAt levels bytes count n i) (stmtAt levels′ bytes count m i))
-          → Fresh d (onLeft code x (stmtAt levels bytes count)) (onLeft code y (stmtAt levels′ bytes count))
+          → Fresh d (onLeftSide code x (stmtAt levels bytes count)) (onLeftSide code y (stmtAt levels′ bytes count))
       left code (fault k place) y f later = tt
       left code (whole l n i) y f later =
           rw (f .1) (right code l (stmtAt levels bytes count n i) (stmtAt levels′ bytes count (f .0) i) (later n (f .0) i (sym (f .2))))
@@ -138,7 +138,7 @@ module _ (bytes : List ℕ) (count at : ℕ) where
       right code next placed l behind ends first so-far (whole r n j) e =
           pair next placed l behind ends first r (standing so-far behind r n j e) (eqb code 2)
 
-      left : (code next : ℕ) → next ≡ at + 3 → (x : StmtRead) → below 1 next ≡ x → Apart (onLeft code x below)
+      left : (code next : ℕ) → next ≡ at + 3 → (x : StmtRead) → below 1 next ≡ x → Apart (onLeftSide code x below)
       left code next placed (fault k place) e = tt
       left code next placed (whole l n behind) e =
           right code next placed l behind (stmt-read 16 bytes count 1 next l n behind e .ends) (standing 1 next l n behind e) n (below n behind) refl

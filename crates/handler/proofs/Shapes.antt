@@ -51,13 +51,13 @@ faulted wanted moved at (good t n i) k place p = absurd (let z : _≡_ {A = ℕ}
 faulted wanted moved at (bad j i) k place p = cc
 
 -- Its numbers are those of at most 31 nodes.
-pub record Small (w : ExprSummary) : Type 0 where
+pub record FewNodes (w : ExprSummary) : Type 0 where
   pub steps : w .e ≤ 31
   pub occurring : w .occurs ≤ 31
   pub room : w .nodes ≤ 31
 
 pub shape-small : (levels : ℕ) (bytes : List ℕ) (count nodes at : ℕ) (wanted : Kind) (moved : ℕ) (w : ExprSummary)
-    → exprShape wanted moved at (exprAt levels bytes count nodes at) ≡ expr.Whole w → Small w
+    → exprShape wanted moved at (exprAt levels bytes count nodes at) ≡ expr.Whole w → FewNodes w
 shape-small levels bytes count nodes at wanted moved w p =
     let s = shaped wanted moved at _ w p in
     let read = expr-read levels bytes count nodes at (s .tree) (w .nodes) (w .next) (s .was) in

@@ -46,7 +46,7 @@ length-statementWords j bit (if e b) = omega (arith, length-statementWords (suc 
 length-statementWords j bit (while e b) = omega (arith, length-statementWords (suc j) (bit + 3 + width e) b)
 
 -- A table holds the words of a statement that is number j, at a bit.
-pub record Held (table : List ℕ) (j bit : ℕ) (S : Stmt) : Type 0 where
+pub record StatementIn (table : List ℕ) (j bit : ℕ) (S : Stmt) : Type 0 where
   pub rest : List ℕ
   pub is : drop j table ≡ statementWords j bit S ++ rest
 
@@ -54,10 +54,10 @@ pub record Held (table : List ℕ) (j bit : ℕ) (S : Stmt) : Type 0 where
 abbrev pub PartsHeld : List ℕ → ℕ → ℕ → Stmt → Type 0
 PartsHeld table j bit nil = Unit {0}
 PartsHeld table j bit (assign v e) = Unit {0}
-PartsHeld table j bit (seq l r) = Held table (suc j) (bit + 3) l × Held table (suc j + statements l) (bit + 3 + stmtWidth l) r
-PartsHeld table j bit (par l r) = Held table (suc j) (bit + 3) l × Held table (suc j + statements l) (bit + 3 + stmtWidth l) r
-PartsHeld table j bit (if e b) = Held table (suc j) (bit + 3 + width e) b
-PartsHeld table j bit (while e b) = Held table (suc j) (bit + 3 + width e) b
+PartsHeld table j bit (seq l r) = StatementIn table (suc j) (bit + 3) l × StatementIn table (suc j + statements l) (bit + 3 + stmtWidth l) r
+PartsHeld table j bit (par l r) = StatementIn table (suc j) (bit + 3) l × StatementIn table (suc j + statements l) (bit + 3 + stmtWidth l) r
+PartsHeld table j bit (if e b) = StatementIn table (suc j) (bit + 3 + width e) b
+PartsHeld table j bit (while e b) = StatementIn table (suc j) (bit + 3 + width e) b
 
 module _ (table : List ℕ) (j bit : ℕ) where
   later : (word : ℕ) (rest : List ℕ) → drop j table ≡ word ∷ rest → drop (suc j) table ≡ rest
@@ -67,7 +67,7 @@ module _ (table : List ℕ) (j bit : ℕ) where
 
   two : (l r : Stmt) (word : ℕ) (rest : List ℕ)
       → drop j table ≡ word ∷ (statementWords (suc j) (bit + 3) l ++ statementWords (suc j + statements l) (bit + 3 + stmtWidth l) r ++ rest)
-      → Held table (suc j) (bit + 3) l × Held table (suc j + statements l) (bit + 3 + stmtWidth l) r
+      → StatementIn table (suc j) (bit + 3) l × StatementIn table (suc j + statements l) (bit + 3 + stmtWidth l) r
   two l r word rest e =
       let first = statementWords (suc j) (bit + 3) l in
       let second = statementWords (suc j + statements l) (bit + 3 + stmtWidth l) r in
@@ -79,7 +79,7 @@ module _ (table : List ℕ) (j bit : ℕ) where
         },
       )
 
-  pub parts-held : (S : Stmt) → Held table j bit S → PartsHeld table j bit S
+  pub parts-held : (S : Stmt) → StatementIn table j bit S → PartsHeld table j bit S
   parts-held nil h = tt
   parts-held (assign v e) h = tt
   parts-held (seq l r) h = two l r (wordOf j bit (seq l r)) (h .rest) (h .is)
@@ -112,7 +112,7 @@ module _ (table : List ℕ) (j bit : ℕ) where
   after-small (while e b) = omega arith
 
   -- If a table holds the words of a statement, its entry j is the statement's record.
-  pub statement-held : (S : Stmt) → Held table j bit S → targetOf S < 4 → j + statements S ≤ 63 → statementIn table j ≡ statementRecord j bit S
+  pub statement-held : (S : Stmt) → StatementIn table j bit S → targetOf S < 4 → j + statements S ≤ 63 → statementIn table j ≡ statementRecord j bit S
   unfolding statementIn wordOf
   statement-held S h target few =
       let here : j + 0 ≡ j = omega arith in
@@ -134,6 +134,6 @@ table-made bit S few =
     sets-eq words (replicate 63 0) 0 (omega arith) ∙ rw (long, drop-replicate (statements S) 63)
 
 -- The table of a handler holds its statement.
-pub table-held : (bit : ℕ) (S : Stmt) → Held (statementTable bit S) 0 bit S
+pub table-held : (bit : ℕ) (S : Stmt) → StatementIn (statementTable bit S) 0 bit S
 unfolding statementTable
 table-held bit S = record { rest = replicate (63 - statements S) 0; is = refl }

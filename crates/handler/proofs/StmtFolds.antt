@@ -14,7 +14,7 @@ use Rattle.semantics.specs.Language.{Expr, Stmt, nil, assign, seq, par, if, whi
 use Rattle.handler.specs.declared.StmtHead.{StmtHead}
 use Rattle.handler.specs.declared.StmtHead.the-variants.{Nil, Assign, Pair, Test, Fault}
 use Rattle.handler.specs.Expressions.{ExprRead, good, bad, wholeExpr}
-use Rattle.handler.specs.Statements.{targetHead, codeHead, markHead, stmtHead, StmtRead, whole, fault, onAssigned, onBody, onTest, onRight, onLeft, onStmtHead, stmtAt}
+use Rattle.handler.specs.Statements.{targetHead, codeHead, markHead, stmtHead, StmtRead, whole, fault, onAssigned, onBody, onTest, onRight, onLeftSide, onStmtHead, stmtAt}
 use Rattle.handler.specs.Kinds.{width, stmtWidth}
 use Rattle.handler.specs.StatementTable.{statements}
 use Rattle.handler.proofs.Folds.{expr-read}
@@ -141,7 +141,7 @@ all-read (suc levels) bytes count before at =
         pair-read (eqb code 2) count before at next l r so-far behind after end placed first known
 
     left : (code next : ℕ) → next ≡ at + 3 → (x : StmtRead) → AllRead count (suc before) next x → (stmt : ℕ → ℕ → StmtRead)
-        → ((n i : ℕ) → AllRead count n i (stmt n i)) → AllRead count before at (onLeft code x stmt)
+        → ((n i : ℕ) → AllRead count n i (stmt n i)) → AllRead count before at (onLeftSide code x stmt)
     left code next placed (fault k place) known stmt later = tt
     left code next placed (whole l so-far behind) known stmt later =
         right code next placed l so-far behind known (stmt so-far behind) (later so-far behind)

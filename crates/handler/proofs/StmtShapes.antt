@@ -28,8 +28,8 @@ use Rattle.handler.specs.Expressions.{ExprRead, good, bad, wholeExpr}
 use Rattle.handler.specs.Statements.{stmtHead, StmtRead, whole, fault, tested, onAssigned, onRight, stmtAt, wholeStmt}
 use Rattle.handler.specs.Kinds.{width, orPlace, kindError, stmtWidth, stmtKindError}
 use Rattle.handler.specs.StatementTable.{statements}
-use Rattle.handler.specs.Shapes.{asKindError, exprSummary, exprShape, stmtSummary, stmtShape, assignedOf, pairOf, testedOf, fittingOf, filledOf, foundOf, fileOf}
-use Rattle.handler.specs.Reading.{onKinds, onFill, onStmt}
+use Rattle.handler.specs.Shapes.{asKindError, exprSummary, exprShape, stmtSummary, stmtShape, assignedOf, pairOf, testedOf, fittingOf, filledOf, handlerFound, handlerFile}
+use Rattle.handler.specs.Reading.{onKinds, onHandlerFill, onStmt}
 use Rattle.handler.proofs.Shapes.{or-earlier, shaped, faulted}
 use Rattle.handler.proofs.StmtFolds.{stmt-step, Marked, marked, whole-read, stmt-read}
 
@@ -186,8 +186,8 @@ module _ (bytes : List ℕ) (count levels before at N : ℕ) (more : 0 < levels)
 
 -- What is found in a file is what is read.
 found-made : (bytes sizes : List ℕ) (at : ℕ) (x : StmtRead) → wholeStmt bytes (length sizes) at ≡ x
-    → foundOf bytes at (stmtShape (product sizes) at x) ≡ fileOf (onStmt bytes sizes at x) .found
-unfolding stmtShape fileOf wholeStmt
+    → handlerFound bytes at (stmtShape (product sizes) at x) ≡ handlerFile (onStmt bytes sizes at x) .found
+unfolding stmtShape handlerFile wholeStmt
 found-made bytes sizes at (fault k place) read = refl
 found-made bytes sizes at (whole S after next) read = by (fillAt bytes next)
   where
@@ -197,15 +197,15 @@ found-made bytes sizes at (whole S after next) read = by (fillAt bytes next)
     counted : after ≡ statements S
     counted = omega (arith, stmt-read 17 bytes (length sizes) 0 at S after next read .counted)
 
-    kinds : (o : Option ℕ) → fittingOf at w (asKindError o) ≡ fileOf (onKinds sizes at S o) .found
+    kinds : (o : Option ℕ) → fittingOf at w (asKindError o) ≡ handlerFile (onKinds sizes at S o) .found
     kinds none = rw counted
     kinds (some place) = refl
 
-    by : (f : Fill) → filledOf at w f ≡ fileOf (onFill sizes at S f) .found
+    by : (f : Fill) → filledOf at w f ≡ handlerFile (onHandlerFill sizes at S f) .found
     by Ends = kinds (stmtKindError at S)
     by (Wrong place) = refl
 
 pub found-read : (bytes sizes : List ℕ) (at : ℕ)
-    → foundOf bytes at (stmtShape (product sizes) at (stmtAt 17 bytes (length sizes) 0 at)) ≡ fileOf (onStmt bytes sizes at (wholeStmt bytes (length sizes) at)) .found
+    → handlerFound bytes at (stmtShape (product sizes) at (stmtAt 17 bytes (length sizes) 0 at)) ≡ handlerFile (onStmt bytes sizes at (wholeStmt bytes (length sizes) at)) .found
 unfolding wholeStmt
 found-read bytes sizes at = found-made bytes sizes at (stmtAt 17 bytes (length sizes) 0 at) refl

@@ -9,6 +9,7 @@ use Rattle.bits.specs.Fields.{bitLength, fieldAt}
 use Rattle.bits.specs.declared.Field.{Field}
 use Rattle.bits.specs.declared.Field.the-variants.{Value, Missing}
 use Rattle.states.specs.Search.{all}
+use Rattle.states.specs.Sets.{capacity}
 use Rattle.semantics.specs.States.{product, Machine, machineOf}
 use Rattle.handler.specs.declared.head.Head.{Head}
 use Rattle.handler.specs.declared.head.HeadFile.{HeadFile}
@@ -19,12 +20,12 @@ pub data HeadRead : Type 0 where
   declared : List ℕ → ℕ → HeadRead
   fault : ℕ → ℕ → HeadRead
 
--- One more size, at its place: 10 if it is missing, 12 if it is not 2 to 16, 13 at the size that brings N over 64.
+-- One more size, at its place: 10 if it is missing, 12 if it is not 2 to 16, 13 at the size that brings N over 64, the capacity of a set.
 unfoldable pub sizeRead : List ℕ → List ℕ → ℕ → Field → HeadRead
 sizeRead bytes sizes at Missing = fault 10 (bitLength bytes)
 sizeRead bytes sizes at (Value size next) =
     cond (ltb size 2 || ltb 16 size) (fault 12 at)
-    (cond (ltb 64 (product sizes * size)) (fault 13 at) (declared (sizes ++ size ∷ []) next))
+    (cond (ltb capacity (product sizes * size)) (fault 13 at) (declared (sizes ++ size ∷ []) next))
 
 unfoldable pub addSize : List ℕ → HeadRead → HeadRead
 addSize bytes (fault k place) = fault k place
@@ -60,12 +61,13 @@ headFile (fault k place) = record { head = noHead; end = end.Fault k place }
 unfoldable pub sizesIn : Head → List ℕ
 sizesIn head = take (head .count) (head .sizes)
 
--- Whether the numbers are within the limits of a head: at most 4 variables, sizes of 1 to 16, at most 64 states.
+-- Whether the numbers are within the limits of a head: at most 4 variables, sizes of 1 to 16, no more states than
+-- a set can hold.
 abbrev pub isSize : ℕ → Bool
 isSize size = leb 1 size && leb size 16
 
 unfoldable pub inLimits : Head → Bool
-inLimits head = leb (head .count) 4 && leb (head .states) 64 && all 4 (λ v. isSize (getD (head .sizes) v 0))
+inLimits head = leb (head .count) 4 && leb (head .states) capacity && all 4 (λ v. isSize (getD (head .sizes) v 0))
 
 -- Whether the numbers make a head: they are within the limits, and N is the product of the sizes.
 unfoldable pub isHead : Head → Bool

@@ -21,13 +21,13 @@ onKinds sizes at S none = handler sizes at S
 onKinds sizes at S (some place) = refused 16 place
 
 -- 18: a fill bit is not zero, or a byte follows the last field.
-abbrev pub onFill : List ℕ → ℕ → Stmt → Fill → HandlerRead
-onFill sizes at S Ends = onKinds sizes at S (stmtKindError at S)
-onFill sizes at S (Wrong place) = refused 18 place
+abbrev pub onHandlerFill : List ℕ → ℕ → Stmt → Fill → HandlerRead
+onHandlerFill sizes at S Ends = onKinds sizes at S (stmtKindError at S)
+onHandlerFill sizes at S (Wrong place) = refused 18 place
 
 abbrev pub onStmt : List ℕ → List ℕ → ℕ → StmtRead → HandlerRead
 onStmt bytes sizes at (fault k place) = refused k place
-onStmt bytes sizes at (whole S after next) = onFill sizes at S (fillAt bytes next)
+onStmt bytes sizes at (whole S after next) = onHandlerFill sizes at S (fillAt bytes next)
 
 abbrev pub onHead : List ℕ → head.HeadRead → HandlerRead
 onHead bytes (head.fault k place) = refused k place

@@ -92,14 +92,14 @@ testedOf N code e b =
     }
 
 -- What reading a handler file gives.
-unfoldable pub fileOf : HandlerRead → HandlerFile
-fileOf (handler sizes at S) =
+unfoldable pub handlerFile : HandlerRead → HandlerFile
+handlerFile (handler sizes at S) =
     record {
       found = found.Handler (record { at = at; statements = statements S; steps = min (steps (product sizes) S) (2 ^ 32) });
       head = headOf sizes;
       statements = statementTable at S;
     }
-fileOf (refused k place) = record { found = found.Fault k place; head = noHead; statements = replicate 63 0 }
+handlerFile (refused k place) = record { found = found.Fault k place; head = noHead; statements = replicate 63 0 }
 
 -- What is found in the file, from the shape of its statement: 18, then 16.
 abbrev pub fittingOf : ℕ → StmtSummary → KindError → HandlerFound
@@ -110,6 +110,6 @@ abbrev pub filledOf : ℕ → StmtSummary → Fill → HandlerFound
 filledOf at w (Wrong place) = found.Fault 18 place
 filledOf at w Ends = fittingOf at w (w .error)
 
-abbrev pub foundOf : List ℕ → ℕ → StmtShape → HandlerFound
-foundOf bytes at (stmt.Whole w) = filledOf at w (fillAt bytes (w .next))
-foundOf bytes at (stmt.Fault k place) = found.Fault k place
+abbrev pub handlerFound : List ℕ → ℕ → StmtShape → HandlerFound
+handlerFound bytes at (stmt.Whole w) = filledOf at w (fillAt bytes (w .next))
+handlerFound bytes at (stmt.Fault k place) = found.Fault k place

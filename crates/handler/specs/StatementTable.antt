@@ -69,9 +69,9 @@ statementWords j bit (while e b) = wordOf j bit (while e b) ∷ statementWords (
 
 -- What reading the statement at a bit does to a table, with `before` statements before it: the words of the statement are stored one
 -- after the other. Nothing is said if reading finds a fault.
-abbrev pub Filled : List ℕ → List ℕ → ℕ → ℕ → StmtRead → Type 0
-Filled entry exit before bit (whole S after next) = exit ≡ sets entry before (statementWords before bit S)
-Filled entry exit before bit (fault k place) = Unit {0}
+abbrev pub StatementsStored : List ℕ → List ℕ → ℕ → ℕ → StmtRead → Type 0
+StatementsStored entry exit before bit (whole S after next) = exit ≡ sets entry before (statementWords before bit S)
+StatementsStored entry exit before bit (fault k place) = Unit {0}
 
 -- The table of a handler whose statement is at a bit: 63 words, 0 past the last statement.
 unfoldable pub statementTable : ℕ → Stmt → List ℕ

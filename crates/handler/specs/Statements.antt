@@ -1,6 +1,6 @@
 -- Document 01, "The two files": a statement is 3 bits, then what its code asks for; at most 63 statements on at most 16 levels.
 use Prim.Native.Nat.{ℕ, zero, suc}
-use mathlib.Core.Bool.{Bool, false, cond, _||_}
+use mathlib.Core.Bool.{Bool, cond, _||_}
 use mathlib.Core.List.{List}
 use lib.Dec.{leb, ltb, eqb}
 use Rattle.bits.specs.Fields.{bitLength, fieldAt}
@@ -59,14 +59,14 @@ abbrev pub onRight : ℕ → Stmt → StmtRead → StmtRead
 onRight code l (fault k place) = fault k place
 onRight code l (whole r before next) = whole (paired code l r) before next
 
-abbrev pub onLeft : ℕ → StmtRead → (ℕ → ℕ → StmtRead) → StmtRead
-onLeft code (fault k place) right = fault k place
-onLeft code (whole l before next) right = onRight code l (right before next)
+abbrev pub onLeftSide : ℕ → StmtRead → (ℕ → ℕ → StmtRead) → StmtRead
+onLeftSide code (fault k place) right = fault k place
+onLeftSide code (whole l before next) right = onRight code l (right before next)
 
 abbrev pub onStmtHead : StmtHead → (ℕ → ExprRead) → ℕ → (ℕ → ℕ → StmtRead) → StmtRead
 onStmtHead (Nil next) expr before stmt = whole nil (suc before) next
 onStmtHead (Assign v next) expr before stmt = onAssigned v (suc before) (expr next)
-onStmtHead (Pair code next) expr before stmt = onLeft code (stmt (suc before) next) stmt
+onStmtHead (Pair code next) expr before stmt = onLeftSide code (stmt (suc before) next) stmt
 onStmtHead (Test code next) expr before stmt = onTest code (suc before) (expr next) stmt
 onStmtHead (Fault k place) expr before stmt = fault k place
 

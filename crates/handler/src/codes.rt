@@ -6,7 +6,7 @@ pub const MISSING: u32 = 10;
 pub const VARIABLES: u32 = 11;
 // A size is not 2 to 16.
 pub const SIZE: u32 = 12;
-// N is over 64.
+// N is over what a set can hold, 64.
 pub const STATES: u32 = 13;
 // An unused statement code, or the unused operation.
 pub const UNUSED: u32 = 14;

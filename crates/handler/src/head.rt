@@ -4,6 +4,7 @@ use crate::codes::SIZE;
 use crate::codes::STATES;
 use crate::codes::VARIABLES;
 use bits::Field;
+use states::CAPACITY;
 ghost use mathlib.Core.Path.{_≡_};
 ghost use mathlib.Core.Bool.{true};
 ghost use Prim.Native.Nat.{_+_, _<_};
@@ -11,14 +12,14 @@ ghost use lib.ListN.{getD};
 ghost use Rattle.semantics.specs.States.{product};
 ghost use Rattle.handler.specs.Header.{fault, sizesRead, headAt, noHead, headFile, isSize, inLimits, isHead, sizesIn, machineIn};
 
-// Document 01: 1 to 4 variables, sizes of 2 to 16, at most 64 states.
+// Document 01: 1 to 4 variables, sizes of 2 to 16, and no more states than a set can hold.
 const MOST_VARIABLES: u64 = 4;
 
 const LEAST_SIZE: u64 = 2;
 
 const MOST_SIZE: u64 = 16;
 
-const MOST_STATES: u64 = 64;
+const MOST_STATES: u64 = CAPACITY as u64;
 
 // The widths in bits of the number of variables and of a size.
 const COUNT_BITS: usize = 3;

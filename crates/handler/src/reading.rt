@@ -14,11 +14,11 @@ use crate::statements::stmt_walk;
 use bits::Fill;
 ghost use mathlib.Core.Path.{_≡_};
 ghost use Rattle.handler.specs.Reading.{refused, readHandler};
-ghost use Rattle.handler.specs.Shapes.{foundOf, fileOf};
+ghost use Rattle.handler.specs.Shapes.{handlerFound, handlerFile};
 
 // A file with a fault.
 fn faulty(code: u32, place: usize) -> HandlerFile
-    ensures { λ r. ⌜ r ≡ fileOf (refused code place) ⌝ }
+    ensures { λ r. ⌜ r ≡ handlerFile (refused code place) ⌝ }
 {
     let head = no_head();
     HandlerFile {
@@ -30,7 +30,7 @@ fn faulty(code: u32, place: usize) -> HandlerFile
 
 // What is found in the file, from the shape of its statement: 18 at the end of the file, then 16 if there is no other fault.
 fn found_of(src: &[u8], at: usize, read: StmtShape) -> HandlerFound
-    ensures { λ r. ⌜ r ≡ foundOf (now (src .entry)) at read ⌝ }
+    ensures { λ r. ⌜ r ≡ handlerFound (now (src .entry)) at read ⌝ }
 {
     match read {
         StmtShape::Fault(code, place) => HandlerFound::Fault(code, place),
@@ -53,7 +53,7 @@ fn found_of(src: &[u8], at: usize, read: StmtShape) -> HandlerFound
 
 // Reads the handler file, or finds its first fault.
 pub fn read_handler(src: &[u8]) -> HandlerFile
-    ensures { λ r. ⌜ r ≡ fileOf (readHandler (now (src .entry))) ⌝ }
+    ensures { λ r. ⌜ r ≡ handlerFile (readHandler (now (src .entry))) ⌝ }
 {
     let file = read_head(src);
     let head = file.head;

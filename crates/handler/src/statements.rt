@@ -23,9 +23,10 @@ ghost use mathlib.Core.Path.{_≡_};
 ghost use Prim.Native.Nat.{_+_, _*_, _^_, _≤_, min};
 ghost use lib.ListN.{length};
 ghost use Rattle.bits.specs.Fields.{fieldAt};
+ghost use Rattle.states.specs.Sets.{capacity};
 ghost use Rattle.handler.specs.Shapes.{stmtShape, assignedOf, pairOf, testSteps, testedOf};
 ghost use Rattle.handler.specs.Statements.{targetHead, codeHead, stmtHead, stmtAt};
-ghost use Rattle.handler.specs.StatementTable.{Filled};
+ghost use Rattle.handler.specs.StatementTable.{StatementsStored};
 
 // A handler has at most 63 statements on at most 16 levels. One level more than that is read.
 const MOST_STATEMENTS: u32 = 63;
@@ -138,7 +139,7 @@ fn pair_of(left: StmtSummary, right: StmtShape) -> StmtShape
 
 // The step number of an if or while over n states, from the E of its test and the step number of its body, capped as in a pair.
 fn test_steps(n: u32, code: u32, e: u32, body: u64) -> u64
-    requires { ⌜ (1 ≤ n) × (n ≤ 64) ⌝ }
+    requires { ⌜ (1 ≤ n) × (n ≤ capacity) ⌝ }
     ensures { λ r. ⌜ r ≡ min (testSteps n code e body) (2 ^ 32) ⌝ }
 {
     let part = capped(body);
@@ -152,7 +153,7 @@ fn test_steps(n: u32, code: u32, e: u32, body: u64) -> u64
 
 // The shape of an if or while, from those of its test and its body.
 fn tested_of(n: u32, code: u32, test: ExprSummary, body: StmtSummary) -> StmtShape
-    requires { ⌜ (1 ≤ n) × (n ≤ 64) ⌝ }
+    requires { ⌜ (1 ≤ n) × (n ≤ capacity) ⌝ }
     ensures { λ r. ⌜ r ≡ StmtShape.Whole (testedOf n code test body) ⌝ }
 {
     let test_error = test.error;
@@ -177,10 +178,10 @@ pub(crate) fn stmt_walk(
     before: u32,
     at: usize,
 ) -> StmtShape
-    requires { ⌜ (1 ≤ n) × (n ≤ 64) × (before ≤ 63) × (at ≤ 23 + 315 * before) × (63 ≤ length (now table)) ⌝ }
+    requires { ⌜ (1 ≤ n) × (n ≤ capacity) × (before ≤ 63) × (at ≤ 23 + 315 * before) × (63 ≤ length (now table)) ⌝ }
     ensures { λ r. ⌜ r ≡ stmtShape n at (stmtAt levels (now (src .entry)) count before at) ⌝ }
     ensures { λ r.
-        ⌜ Filled (now (table .entry)) (now (table .exit)) before at (stmtAt levels (now (src .entry)) count before at) ⌝ }
+        ⌜ StatementsStored (now (table .entry)) (now (table .exit)) before at (stmtAt levels (now (src .entry)) count before at) ⌝ }
 {
     if levels == 0 {
         return StmtShape::Fault(TOO_MANY, at);

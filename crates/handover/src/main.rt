@@ -5,7 +5,9 @@
 ghost use Prim.Native.Nat.{_≤_};
 ghost use lib.ListN.{length};
 ghost use Rattle.handover.specs.Reading.{amount};
+use checker::MOST_BYTES;
 use checker::Verdict;
+use checker::WORK_WORDS;
 use libc::STDOUT_FILENO;
 
 // What reading a file gives: how many bytes, or that it failed and was named on standard error.
@@ -73,16 +75,18 @@ fn print(v: Verdict) {
     }
 }
 
-// 16,385 bytes of a file are enough to refuse it as too long, so none is read further.
+// One byte more than a file may have. So many are enough to refuse it as too long, so none is read further.
+const BUFFER_BYTES: usize = MOST_BYTES + 1;
+
 fn main() {
-    let mut handler = [0u8; 16385];
+    let mut handler = [0u8; BUFFER_BYTES];
     let Reading::Bytes(n) = read_argument(1, b"handler.bin", &mut handler) else {
         return;
     };
-    let mut proof = [0u8; 16385];
+    let mut proof = [0u8; BUFFER_BYTES];
     let Reading::Bytes(m) = read_argument(2, b"proof.bin", &mut proof) else {
         return;
     };
-    let mut work = [0u64; 1040];
+    let mut work = [0u64; WORK_WORDS];
     print(checker::check(&handler[..n], &proof[..m], &mut work));
 }

@@ -3,19 +3,19 @@ use Prim.Native.Nat.{ℕ}
 use mathlib.Core.List.{List, [], _∷_}
 use mathlib.Core.Path.{_≡_, refl}
 use Rattle.bits.specs.Fields.{bitAt, bitsAt, isThere, fieldAt}
-use Rattle.reader.specs.Reading.{fieldOf, movedTo, outcomeOf, pairOf}
+use Rattle.reader.specs.Reading.{fieldOf, movedTo, outcomeOf, twoAnswers}
 use Rattle.reader.specs.declared.Answer.the-variants.{Found, None}
 
 abbrev handler : List ℕ
 handler = 0x22 ∷ 0x20 ∷ 0x02 ∷ []
 
 -- One variable, of size 2: the second field stands where the first ends.
-pub head : pairOf handler 0 3 5 ≡ record { first = Found 1; second = Found 2 }
+pub head : twoAnswers handler 0 3 5 ≡ record { first = Found 1; second = Found 2 }
 unfolding fieldOf movedTo fieldAt isThere bitsAt bitAt
 head = refl
 
 -- A refused read leaves the reader where it stands, so the read after it finds what it would have found.
-pub refused-then-read : pairOf handler 8 17 16 ≡ record { first = None; second = Found 0x2002 }
+pub refused-then-read : twoAnswers handler 8 17 16 ≡ record { first = None; second = Found 0x2002 }
 unfolding fieldOf movedTo fieldAt isThere bitsAt bitAt
 refused-then-read = refl
 

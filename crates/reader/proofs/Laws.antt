@@ -11,16 +11,16 @@ use Rattle.reader.specs.declared.Reader.{Reader}
 use Rattle.reader.specs.declared.Answer.the-variants.{Found, None}
 
 -- A field of 1 to 64 bits within the file, whose end a cursor can number.
-abbrev pub Within : Reader → ℕ → Type 0
-Within r w = (1 ≤ w) × (w ≤ 64) × (r .at + w ≤ 8 * length (now (r .file))) × (r .at + w < 2 ^ 64)
+abbrev pub FieldWithin : Reader → ℕ → Type 0
+FieldWithin r w = (1 ≤ w) × (w ≤ 64) × (r .at + w ≤ 8 * length (now (r .file))) × (r .at + w < 2 ^ 64)
 
-pub gives-and-moves : (r : Reader) (w : ℕ) → Within r w → (answerOf r w ≡ Found (bitsAt (now (r .file)) (r .at) w)) × (movedOn r w ≡ record { file = r .file; at = r .at + w })
+pub gives-and-moves : (r : Reader) (w : ℕ) → FieldWithin r w → (answerOf r w ≡ Found (bitsAt (now (r .file)) (r .at) w)) × (movedOn r w ≡ record { file = r .file; at = r .at + w })
 unfolding fieldOf movedTo
 gives-and-moves r w (least, most, inside, fits) =
     let e = found (now (r .file)) (r .at) w least most inside fits in
     (ap fieldOf e, ap (λ f. record { file = r .file; at = movedTo (r .at) f }) e)
 
-pub gives-none-and-stays : (r : Reader) (w : ℕ) → (Within r w → ⊥) → (answerOf r w ≡ None) × (movedOn r w ≡ r)
+pub gives-none-and-stays : (r : Reader) (w : ℕ) → (FieldWithin r w → ⊥) → (answerOf r w ≡ None) × (movedOn r w ≡ r)
 unfolding fieldOf movedTo fieldAt
 gives-none-and-stays r w out = by (isThere (now (r .file)) (r .at) w) refl
   where

@@ -38,8 +38,8 @@ abbrev pub movedOn : Reader → ℕ → Reader
 movedOn r width = record { file = r .file; at = movedTo (r .at) (fieldAt (now (r .file)) (r .at) width) }
 
 -- The answers of two reads in a row, the second where the first leaves the reader.
-abbrev pub pairOf : List ℕ → ℕ → ℕ → ℕ → Pair
-pairOf bytes at first second = record {
+abbrev pub twoAnswers : List ℕ → ℕ → ℕ → ℕ → Pair
+twoAnswers bytes at first second = record {
   first = fieldOf (fieldAt bytes at first);
   second = fieldOf (fieldAt bytes (movedTo at (fieldAt bytes at first)) second);
 }

@@ -2,7 +2,7 @@
 // and cursor and is covered; each function over the struct is thin, and proved by a walk of its MIR, by hand.
 ghost use mathlib.Core.Path.{_≡_};
 ghost use Rattle.bits.specs.Fields.{fieldAt};
-ghost use Rattle.reader.specs.Reading.{readerOf, outcomeOf, answerOf, movedOn, pairOf};
+ghost use Rattle.reader.specs.Reading.{readerOf, outcomeOf, answerOf, movedOn, twoAnswers};
 
 // A file, and the number of the bit that is read next. It may stand past the end, where every read is refused.
 pub struct Reader<'a> {
@@ -76,7 +76,7 @@ pub struct Pair {
 
 // Two fields in a row from a cursor on, through a reader. Its contract names none, so whoever calls it needs no walk.
 pub fn read_pair(file: &[u8], at: usize, first: usize, second: usize) -> Pair
-    ensures { λ r. ⌜ r ≡ pairOf (now (file .entry)) at first second ⌝ }
+    ensures { λ r. ⌜ r ≡ twoAnswers (now (file .entry)) at first second ⌝ }
 {
     let mut r = Reader { file, at };
     let one = read(&mut r, first);

@@ -10,7 +10,7 @@ use Rattle.checker.specs.declared.Place.{Place}
 use Rattle.checker.specs.declared.Place.the-variants.{Bit, Node}
 use Rattle.checker.specs.declared.Verdict.{Verdict}
 use Rattle.checker.specs.declared.Verdict.the-variants.{Accepted, Refused}
-use Rattle.report.specs.Code.{kindOf, indexOf, codeOf, Lossless, decoded}
+use Rattle.report.specs.Code.{placeKind, indexOf, codeOf, Lossless, decoded}
 
 -- The parts of a refusal's code.
 parts : (number kind index : ℕ) → 0 < number → number < 2 ^ 31 → kind < 2 → index < 2 ^ 32
@@ -20,7 +20,7 @@ parts number kind index positive below k i code e = (le-ltb code (2 ^ 32) (omega
 
 refused-back : (number : ℕ) (place : Place) → 0 < number → number < 2 ^ 31 → indexOf place < 2 ^ 32
     → decoded (codeOf (refusedAt number place)) ≡ refusedAt number place
-unfolding decoded codeOf kindOf indexOf
+unfolding decoded codeOf placeKind indexOf
 refused-back number (Bit i) positive below h =
     let p = parts number 0 i positive below (omega arith) h _ refl in
     rw (p .0, p .1, p .2, p .3)

@@ -12,7 +12,7 @@ use Rattle.checker.specs.declared.Place.the-variants.{Bit, Node}
 use Rattle.checker.specs.declared.Verdict.{Verdict}
 use Rattle.checker.specs.declared.Verdict.the-variants.{Accepted, Refused}
 use Rattle.report.specs.Code.{indexOf}
-use Rattle.report.specs.Line.{ascii, decimal, placeText, wordsOf, lineOf, lineLength, Held}
+use Rattle.report.specs.Line.{ascii, decimal, placeText, verdictText, lineOf, lineLength, WithinTypes}
 use Rattle.report.proofs.Decimal.{decimal-short}
 
 place-short : (place : Place) → indexOf place < 2 ^ 64 → length (placeText place) ≤ 26
@@ -20,8 +20,8 @@ unfolding placeText indexOf
 place-short (Bit i) h = omega (arith, decimal-short i h)
 place-short (Node k) h = omega (arith, decimal-short k h)
 
-words-short : (v : Verdict) → Held v → length (wordsOf v) ≤ 54
-unfolding wordsOf
+words-short : (v : Verdict) → WithinTypes v → length (verdictText v) ≤ 54
+unfolding verdictText
 words-short (Accepted n) h = omega (arith, decimal-short n h)
 words-short (Refused f) h =
     omega (
@@ -32,7 +32,7 @@ words-short (Refused f) h =
     )
 
 -- 64 bytes hold every line.
-pub line-short : (v : Verdict) → Held v → length (lineOf v) ≤ 64
+pub line-short : (v : Verdict) → WithinTypes v → length (lineOf v) ≤ 64
 unfolding lineOf
 line-short v h = rw length-append (omega (arith, words-short v h))
 

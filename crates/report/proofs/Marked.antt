@@ -27,7 +27,7 @@ use Rattle.derivation.specs.Tables.{setAt, rowAt, tablesThere, isCount, relatio
 use Rattle.derivation.specs.Nodes.{onName, named as namedTable, loopHead, namesHead, ruleHead, nodeHead, nodeAt, wholeNode}
 use Rattle.derivation.specs.Reading.{readProof}
 use Rattle.checker.specs.Verdicts.{answer}
-use Rattle.report.specs.Line.{ascii, digits, decimal, placeText, wordsOf, lineOf}
+use Rattle.report.specs.Line.{ascii, digits, decimal, placeText, verdictText, lineOf}
 
 -- What the check program prints for two files.
 abbrev line : List ℕ → List ℕ → List ℕ
@@ -96,5 +96,5 @@ marked =
 pub twelve : marked
     ≡ ascii "accepted 1\n" ∷ ascii "refused 43 node 0\n" ∷ ascii "refused 10 bit 0\n" ∷ ascii "refused 10 bit 8\n" ∷ ascii "refused 18 bit 23\n"
     ∷ (4 ∷ []) ∷ (4 ∷ 1 ∷ []) ∷ (28 ∷ []) ∷ (1 ∷ []) ∷ (64 ∷ []) ∷ (13 ∷ 8 ∷ []) ∷ (50 ∷ 0 ∷ []) ∷ []
-unfolding bitLength bitAt bitsAt isThere fieldAt firstSet fillBits furtherByte fillFrom fillAt implies all any must given named orElse each holds within reach inSet sameSet sameRelation setLiesIn relationLiesIn isTrue isFalse afterStore inRange toAfter moves c31 c32 c33 c34while c35 unmoved c40 c41 c42 c43 c50 c51 c52 c53 c54 c55 c56 sizeRead addSize sizesRead countRead headAt signed integerHead truthHead variableHead operationHead payloadHead tagHead exprHead exprAt wholeExpr targetHead codeHead markHead stmtHead stmtAt wholeStmt readHandler setAt rowAt tablesThere isCount relationsRead setsRead tablesAt inSetOf inRelationOf onName namedTable loopHead namesHead ruleHead nodeHead nodeAt wholeNode readProof answer digits decimal placeText wordsOf lineOf
+unfolding bitLength bitAt bitsAt isThere fieldAt firstSet fillBits furtherByte fillFrom fillAt implies all any must given named orElse each holds within reach inSet sameSet sameRelation setLiesIn relationLiesIn isTrue isFalse afterStore inRange toAfter moves c31 c32 c33 c34while c35 unmoved c40 c41 c42 c43 c50 c51 c52 c53 c54 c55 c56 sizeRead addSize sizesRead countRead headAt signed integerHead truthHead variableHead operationHead payloadHead tagHead exprHead exprAt wholeExpr targetHead codeHead markHead stmtHead stmtAt wholeStmt readHandler setAt rowAt tablesThere isCount relationsRead setsRead tablesAt inSetOf inRelationOf onName namedTable loopHead namesHead ruleHead nodeHead nodeAt wholeNode readProof answer digits decimal placeText verdictText lineOf
 twelve = refl

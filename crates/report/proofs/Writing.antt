@@ -18,9 +18,9 @@ pasted before at text room =
     }
 
 -- One text after another.
-pub then : {before text after more last : List ℕ} {at next end : ℕ}
+pub put-then : {before text after more last : List ℕ} {at next end : ℕ}
     → Put before at text after next → Put after next more last end → Put before at (text ++ more) last end
-then {before} {text} {after} {more} {last} {at} {next} {end} p q =
+put-then {before} {text} {after} {more} {last} {at} {next} {end} p q =
     record {
       ends = rw length-append (omega arith);
       front = q .front ∙ rw (p .front) (append-assoc (take at before) text more);

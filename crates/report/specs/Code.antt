@@ -8,9 +8,9 @@ use Rattle.checker.specs.declared.Verdict.{Verdict}
 use Rattle.checker.specs.declared.Verdict.the-variants.{Accepted, Refused}
 
 -- The kind of a place: 1 for a node, 0 for a bit.
-unfoldable pub kindOf : Place → ℕ
-kindOf (Bit i) = 0
-kindOf (Node k) = 1
+unfoldable pub placeKind : Place → ℕ
+placeKind (Bit i) = 0
+placeKind (Node k) = 1
 
 unfoldable pub indexOf : Place → ℕ
 indexOf (Bit i) = i
@@ -20,7 +20,7 @@ indexOf (Node k) = k
 -- lower 32 bits the place; of a number or place that is longer, the lower bits.
 unfoldable pub codeOf : Verdict → ℕ
 codeOf (Accepted n) = n
-codeOf (Refused f) = (f .number % 2 ^ 31 * 2 + kindOf (f .place)) * 2 ^ 32 + indexOf (f .place) % 2 ^ 32
+codeOf (Refused f) = (f .number % 2 ^ 31 * 2 + placeKind (f .place)) * 2 ^ 32 + indexOf (f .place) % 2 ^ 32
 
 -- Where no bit is cut off; document 01's numbers are 1 to 80, and its places far below 2 ^ 32.
 abbrev pub Lossless : Verdict → Type 0

@@ -35,18 +35,18 @@ placeText (Bit i) = ascii " bit " ++ decimal i
 placeText (Node k) = ascii " node " ++ decimal k
 
 -- The line without its end.
-unfoldable pub wordsOf : Verdict → List ℕ
-wordsOf (Accepted n) = ascii "accepted " ++ decimal n
-wordsOf (Refused f) = (ascii "refused " ++ decimal (f .number)) ++ placeText (f .place)
+unfoldable pub verdictText : Verdict → List ℕ
+verdictText (Accepted n) = ascii "accepted " ++ decimal n
+verdictText (Refused f) = (ascii "refused " ++ decimal (f .number)) ++ placeText (f .place)
 
 -- The line, in full, ends in one newline.
 unfoldable pub lineOf : Verdict → List ℕ
-lineOf v = wordsOf v ++ ascii "\n"
+lineOf v = verdictText v ++ ascii "\n"
 
 -- What the code's types hold: every number is below 2 ^ 64.
-abbrev pub Held : Verdict → Type 0
-Held (Accepted n) = n < 2 ^ 64
-Held (Refused f) = (f .number < 2 ^ 64) × (indexOf (f .place) < 2 ^ 64)
+abbrev pub WithinTypes : Verdict → Type 0
+WithinTypes (Accepted n) = n < 2 ^ 64
+WithinTypes (Refused f) = (f .number < 2 ^ 64) × (indexOf (f .place) < 2 ^ 64)
 
 -- A buffer after the line was written at its front, and how many bytes that were. Where it has no room, nothing is written.
 unfoldable pub lineInto : Verdict → List ℕ → List ℕ

@@ -4,7 +4,7 @@ ghost use Prim.Native.Nat.{_+_, _≤_};
 ghost use mathlib.Core.List.{_++_};
 ghost use lib.ListN.{length};
 ghost use Rattle.report.specs.Code.{codeOf};
-ghost use Rattle.report.specs.Line.{decimal, placeText, wordsOf, lineInto, lineLength};
+ghost use Rattle.report.specs.Line.{decimal, placeText, verdictText, lineInto, lineLength};
 ghost use Rattle.report.specs.Put.{Put};
 use checker::Place;
 use checker::Verdict;
@@ -79,7 +79,7 @@ fn put_place(out: &mut [u8], at: usize, place: Place) -> usize
 // Puts the line without its end at the front.
 fn put_words(out: &mut [u8], v: Verdict) -> usize
     requires { ⌜ 54 ≤ length (now out) ⌝ }
-    ensures { λ r. ⌜ Put (now (out .entry)) 0 (wordsOf v) (now (out .exit)) r ⌝ }
+    ensures { λ r. ⌜ Put (now (out .entry)) 0 (verdictText v) (now (out .exit)) r ⌝ }
     ensures { λ r. ⌜ r ≤ 54 ⌝ }
 {
     match v {

@@ -1,7 +1,7 @@
 -- A node's answer, condition by condition, in the order in which they are asked.
 use Prim.Native.Nat.{ℕ}
 use mathlib.Core.Path.{_≡_, refl, _∙_, ap₂}
-use mathlib.Core.Bool.{Bool, true, false}
+use mathlib.Core.Bool.{Bool}
 use mathlib.Core.List.{List, [], _∷_}
 use mathlib.Core.Option.{Option, none, some}
 use native.Mathlib.Omega.{arith}
@@ -12,9 +12,9 @@ use Rattle.rules.specs.declared.NodeVerdict.the-variants.{Holds, Breaks}
 use Rattle.rules.specs.Asking.{asked, askedAll, verdictOf}
 
 -- A condition that the code has asked, after those before it.
-pub then : (number : ℕ) (s : Search) {held : Bool} {r found found′ : NodeVerdict} → found ≡ found′ → r ≡ asked found number held → held ≡ holds s
+pub asked-then : (number : ℕ) (s : Search) {held : Bool} {r found found′ : NodeVerdict} → found ≡ found′ → r ≡ asked found number held → held ≡ holds s
     → r ≡ asked found′ number (holds s)
-then number s before e looked = e ∙ ap₂ (λ o b. asked o number b) before looked
+asked-then number s before e looked = e ∙ ap₂ (λ o b. asked o number b) before looked
 
 -- The answer of a list is its first broken condition.
 kept : (k : ℕ) (cs : List Condition) → askedAll (Breaks k) cs ≡ Breaks k

@@ -11,10 +11,9 @@ use lib.Dec.{leb, ltb, eqb}
 use lib.IntN.{ℤ, pos, negsuc}
 use borrow.Author.Tests.{lt-ltb, le-ltb, le-leb, eqb-true}
 use Rattle.states.specs.Search.{implies, all, any, must, holds}
-use Rattle.states.specs.Sets.{has}
+use Rattle.states.specs.Sets.{capacity, has}
 use Rattle.states.specs.declared.StateSet.{StateSet}
 use Rattle.states.proofs.Search.{and-left, and-right, and-both, or-cases, not-true-false, all-cong, all-not, any-cong, any-none, any-at, holds-must}
-use Rattle.states.proofs.Words.{mem-nought}
 use Rattle.states.proofs.Members.{Passed}
 use Rattle.semantics.specs.declared.Names.{Names}
 use Rattle.semantics.specs.Language.{Expr, eqZ}
@@ -28,7 +27,7 @@ use Rattle.evaluation.specs.declared.Variable.{Variable}
 use Rattle.evaluation.specs.Values.{agree, valueBy, isSmall, agreeIn}
 use Rattle.evaluation.proofs.Laws.{get-past}
 use Rattle.rules.specs.Words.{wordSet, wordRelation, wordSpec}
-use Rattle.rules.proofs.Searches.{holds-inSet, within, part-within}
+use Rattle.rules.proofs.Searches.{holds-inSet, within-holds, part-within}
 use Rattle.rules.proofs.Words.{set-small}
 use Rattle.rules.proofs.Rows.{any-itself}
 
@@ -73,12 +72,12 @@ not-within n a b = ap not (all-cong n _ _ (λ t l. turned (a t) (b t)) ∙ all-n
     twice false = refl
 
 -- The states that agree with s agree with the same states; so does s itself, where it is no state.
-pub alike : (x : Variable) (s u : ℕ) → (agreeIn x s u || ltb u 64 && eqb s u) ≡ true → (t : ℕ) → agreeIn x u t ≡ agreeIn x s t
+pub alike : (x : Variable) (s u : ℕ) → (agreeIn x s u || ltb u capacity && eqb s u) ≡ true → (t : ℕ) → agreeIn x u t ≡ agreeIn x s t
 unfolding agreeIn
 alike x s u e t = ⊎-elim agreed itself (or-cases (agreeIn x s u) _ e)
   where
-    itself : (ltb u 64 && eqb s u) ≡ true → agreeIn x u t ≡ agreeIn x s t
-    itself h = ap (λ y. agreeIn x y t) (sym (eqb-true s u (and-right (ltb u 64) _ h)))
+    itself : (ltb u capacity && eqb s u) ≡ true → agreeIn x u t ≡ agreeIn x s t
+    itself h = ap (λ y. agreeIn x y t) (sym (eqb-true s u (and-right (ltb u capacity) _ h)))
 
     agreed : agreeIn x s u ≡ true → agreeIn x u t ≡ agreeIn x s t
     agreed h =
@@ -94,7 +93,7 @@ pub alike-within : (n : ℕ) (p g : ℕ → Bool) (r f : ℕ → ℕ → Bool) (
 unfolding implies
 alike-within n p g r f q own =
     holds-inSet n _ _ ∙ all-cong n _ _ (λ s l. implies-cong (p s && g s) _ _ (λ e.
-    sym (within n (r s) q) ∙ all-cong n _ _ (λ t k. ap (implies (r s t)) (sym (own s (and-right (p s) _ e) t)))))
+    sym (within-holds n (r s) q) ∙ all-cong n _ _ (λ t k. ap (implies (r s t)) (sym (own s (and-right (p s) _ e) t)))))
   where
     implies-cong : (x y z : Bool) → (x ≡ true → y ≡ z) → implies x y ≡ implies x z
     implies-cong true y z h = h refl
@@ -111,21 +110,20 @@ pub passed-not : (n : ℕ) (f : ℕ → Bool) (from rest : StateSet) (g : ℕ �
 passed-not n f from rest g old fails =
     not-true-false _ (λ e. true≢false (sym (part-within n (has rest) g f (old .same ∙ e)) ∙ fails))
 
--- A set whose word is 0 has no member with any property.
-pub none-start : (n : ℕ) (set : StateSet) (f : ℕ → Bool) → set .bits ≡ 0 → any n (λ s. has set s && f s) ≡ false
-unfolding has
-none-start n set f e = any-none n _ (λ s l. rw (e, mem-nought s))
+-- An empty set has no member with any property.
+pub none-start : (n : ℕ) (set : StateSet) (f : ℕ → Bool) → ((s : ℕ) → has set s ≡ false) → any n (λ s. has set s && f s) ≡ false
+none-start n set f none = any-none n _ (λ s l. rw (none s))
 
 -- Of a set those members will do that start a pair.
 pub starts-moved : (m : Machine) (work : List ℕ) (own : Names) (v : ℕ) (from starts : StateSet)
-    → ((s : ℕ) → has starts s ≡ (ltb s 64 && any (m .states) (wordRelation (m .states) work (own .r) s)))
+    → ((s : ℕ) → has starts s ≡ (ltb s capacity && any (m .states) (wordRelation (m .states) work (own .r) s)))
     → ((s : ℕ) → has from s ≡ (wordSet (m .states) work (own .p) s && has starts s))
     → any (m .states) (λ s. has from s && any (m .states) (λ t. wordRelation (m .states) work (own .r) s t && not (agree m v s t)))
     ≡ any (m .states) (movedFrom m work own v)
 unfolding movedFrom
 starts-moved m work own v from starts start both =
     any-cong n _ _ (λ s l. ap (λ b. b && any n (differs s)) (both s) ∙ part (wordSet n work (own .p) s) (has starts s) _ (λ e o.
-    idle s (rw (lt-ltb s 64 (set-small n work (own .p) s e .0)) at (sym (start s) ∙ o))))
+    idle s (rw (lt-ltb s capacity (set-small n work (own .p) s e .0)) at (sym (start s) ∙ o))))
   where
     n : ℕ
     n = m .states

@@ -4,10 +4,11 @@ use mathlib.Core.Path.{_≡_, refl, sym, ap, _∙_}
 use mathlib.Core.Bool.{Bool, true, false, _&&_, _||_, and-false}
 use lib.Dec.{ltb, eqb}
 use borrow.Author.Tests.{ltb-true, lt-ltb, eqb-true, eq-eqb}
+use Rattle.states.specs.Sets.{capacity}
 use Rattle.states.specs.Search.{implies, all, any, Search, must, holds}
 use Rattle.states.proofs.Search.{and-left, and-right, and-both, bool-ext, all-cong, any-intro, any-true}
 use Rattle.semantics.specs.Conditions.{inSet}
-use Rattle.rules.proofs.Searches.{within, holds-inSet, inSet-intro, inSet-at}
+use Rattle.rules.proofs.Searches.{within-holds, holds-inSet, inSet-intro, inSet-at}
 
 -- Searches that find the same of each member.
 pub inSet-cong : (n : ℕ) (p : ℕ → Bool) (f g : ℕ → Search) → ((s : ℕ) → s < n → p s ≡ true → holds (f s) ≡ holds (g s))
@@ -19,12 +20,12 @@ inSet-cong n p f g h =
 -- Pairs that start in a set, each in another relation.
 pub pairs-within : (n : ℕ) (p : ℕ → Bool) (a b : ℕ → ℕ → Bool)
     → all n (λ s. implies (p s) (all n (λ t. implies (a s t) (b s t)))) ≡ holds (inSet n p (λ s. inSet n (a s) (λ t. must (b s t))))
-pairs-within n p a b = all-cong n _ _ (λ s l. ap (implies (p s)) (within n (a s) (b s))) ∙ sym (holds-inSet n p _)
+pairs-within n p a b = all-cong n _ _ (λ s l. ap (implies (p s)) (within-holds n (a s) (b s))) ∙ sym (holds-inSet n p _)
 
 -- The one state s in front of others, at a state that a word holds.
-pub or-itself : (s t : ℕ) (others : Bool) → t < 64 → (ltb t 64 && eqb s t || others) ≡ (eqb t s || others)
+pub or-itself : (s t : ℕ) (others : Bool) → t < capacity → (ltb t capacity && eqb s t || others) ≡ (eqb t s || others)
 or-itself s t others low =
-    rw (lt-ltb t 64 low)
+    rw (lt-ltb t capacity low)
     (ap (λ b. b || others) (bool-ext _ _ (λ e. eq-eqb t s (sym (eqb-true s t e))) (λ e. eq-eqb s t (sym (eqb-true t s e)))))
 
 -- What follows from b adds nothing to it.

@@ -5,14 +5,13 @@ use native.Mathlib.Nat.{le-antisymm}
 use native.Mathlib.Numerals.{add-one}
 use mathlib.Core.Path.{_≡_, refl, sym, ap, ap₂, _∙_}
 use mathlib.Core.Logic.{_⊎_, inl, inr}
-use mathlib.Core.Bool.{Bool, true, false, _&&_, Bool·beq, true≢false}
+use mathlib.Core.Bool.{Bool, true, false, _&&_, true≢false}
 use lib.Dec.{ltb}
 use borrow.Author.Tests.{lt-ltb}
 use Rattle.states.specs.Search.{implies, all, any, Search, must, given, named, each, holds}
-use Rattle.states.proofs.Search.{and-left, and-right, and-both, implies-intro, implies-at, implies-false, bool-ext, beq-refl, beq-true, true-or-false, all-intro, all-at, all-cong, any-intro, any-true, any-at, holds-must, holds-given, holds-named, holds-orElse, holds-each, each-cong}
-use Rattle.states.specs.Sets.{has}
+use Rattle.states.proofs.Search.{and-left, and-right, and-both, implies-intro, implies-at, implies-false, bool-ext, beq-refl, true-or-false, all-intro, all-at, all-cong, any-intro, any-true, any-at, holds-must, holds-given, holds-named, holds-orElse, holds-each, each-cong}
+use Rattle.states.specs.Sets.{capacity, has}
 use Rattle.states.specs.declared.StateSet.{StateSet}
-use Rattle.states.proofs.Words.{mem-nought}
 use Rattle.states.proofs.Members.{Passed, passed-all}
 use Rattle.semantics.specs.Conditions.{inSet, sameSet, sameRelation, setLiesIn, relationLiesIn}
 
@@ -51,17 +50,17 @@ pub inSet-same : (n : ℕ) (p q : ℕ → Bool) (f g : ℕ → Search) → ((s :
 inSet-same n p q f g members each = holds-inSet n p f ∙ all-cong n _ _ (λ s l. ap₂ implies (members s) (each s)) ∙ sym (holds-inSet n q g)
 
 -- The end of a loop over the members of a set: each was asked.
-pub passed-search : (n : ℕ) (f : ℕ → Search) (p : ℕ → Bool) (from rest : StateSet) (held : Bool) → rest .bits ≡ 0 → ((s : ℕ) → s < n → has from s ≡ p s)
+pub passed-search : (n : ℕ) (f : ℕ → Search) (p : ℕ → Bool) (from rest : StateSet) (held : Bool) → ((s : ℕ) → has rest s ≡ false) → ((s : ℕ) → s < n → has from s ≡ p s)
     → Passed n (λ s. holds (f s)) from rest held → held ≡ holds (inSet n p f)
 passed-search n f p from rest held e members done =
     passed-all n _ from rest held e done ∙ all-cong n _ _ (λ s l. ap (λ b. implies b (holds (f s))) (members s l)) ∙ sym (holds-inSet n p f)
 
 -- Every member is a state below n that a word can hold.
-abbrev pub Small : ℕ → (ℕ → Bool) → Type 0
-Small n p = (t : ℕ) → p t ≡ true → (t < 64) × (t < n)
+abbrev pub StatesOnly : ℕ → (ℕ → Bool) → Type 0
+StatesOnly n p = (t : ℕ) → p t ≡ true → (t < capacity) × (t < n)
 
-pub within : (n : ℕ) (p q : ℕ → Bool) → all n (λ t. implies (p t) (q t)) ≡ holds (inSet n p (λ t. must (q t)))
-within n p q = sym (holds-inSet n p _ ∙ all-cong n _ _ (λ t l. ap (implies (p t)) (holds-must (q t))))
+pub within-holds : (n : ℕ) (p q : ℕ → Bool) → all n (λ t. implies (p t) (q t)) ≡ holds (inSet n p (λ t. must (q t)))
+within-holds n p q = sym (holds-inSet n p _ ∙ all-cong n _ _ (λ t l. ap (implies (p t)) (holds-must (q t))))
 
 -- A relation lies in itself and is the same as itself.
 pub lies-in-itself : (n : ℕ) (r : ℕ → ℕ → Bool) → relationLiesIn n r r ≡ true
@@ -77,7 +76,7 @@ pub ends-within : (n : ℕ) (p : ℕ → Bool) (r : ℕ → ℕ → Bool) (q : �
     → all n (λ t. implies (any n (λ s. p s && r s t)) (q t)) ≡ holds (inSet n p (λ s. inSet n (r s) (λ t. must (q t))))
 ends-within n p r q =
     bool-ext _ _
-    (λ h. inSet-intro n p _ (λ s l ps. sym (within n (r s) q) ∙ all-intro n _ (λ t k. implies-intro _ _ (λ st.
+    (λ h. inSet-intro n p _ (λ s l ps. sym (within-holds n (r s) q) ∙ all-intro n _ (λ t k. implies-intro _ _ (λ st.
     implies-at _ _ (all-at n _ h t k) (any-intro n _ s l (and-both _ _ ps st))))))
     (λ h. all-intro n _ (λ t k. implies-intro _ _ (λ e. from h t k (any-true n _ e))))
   where
@@ -100,35 +99,34 @@ inSet-part n p d f clear =
     at h s l e (inr o) = clear s e o
 
 -- Where a search goes on by pairs, those members will do that start a pair; and where none does, it finds nothing.
-pub inSet-starting : (n : ℕ) (p d : ℕ → Bool) (r : ℕ → ℕ → Bool) (f : ℕ → ℕ → Search) → Small n p → ((s : ℕ) → d s ≡ (ltb s 64 && any n (r s)))
+pub inSet-starting : (n : ℕ) (p d : ℕ → Bool) (r : ℕ → ℕ → Bool) (f : ℕ → ℕ → Search) → StatesOnly n p → ((s : ℕ) → d s ≡ (ltb s capacity && any n (r s)))
     → holds (inSet n (λ s. p s && d s) (λ s. inSet n (r s) (f s))) ≡ holds (inSet n p (λ s. inSet n (r s) (f s)))
 inSet-starting n p d r f small starts =
     inSet-part n p d _ (λ s at out. inSet-intro n (r s) _ (λ t l e. absurd (true≢false (sym e ∙ any-at n (r s) (none s at out) t l))))
   where
     none : (s : ℕ) → p s ≡ true → d s ≡ false → any n (r s) ≡ false
-    none s at out = rw (lt-ltb s 64 (small s at .0)) at (sym (starts s) ∙ out)
+    none s at out = rw (lt-ltb s capacity (small s at .0)) at (sym (starts s) ∙ out)
 
-pub inSet-none : (n : ℕ) (p : ℕ → Bool) (d : StateSet) (r : ℕ → ℕ → Bool) (f : ℕ → ℕ → Search) → Small n p
-    → ((s : ℕ) → has d s ≡ (ltb s 64 && any n (r s))) → d .bits ≡ 0 → holds (inSet n p (λ s. inSet n (r s) (f s))) ≡ true
-unfolding has
-inSet-none n p d r f small starts e =
-    sym (inSet-starting n p (has d) r f small starts) ∙ inSet-intro n _ _ (λ s l h. absurd (true≢false (sym (and-right (p s) _ h) ∙ rw e (mem-nought s))))
+pub inSet-none : (n : ℕ) (p : ℕ → Bool) (d : StateSet) (r : ℕ → ℕ → Bool) (f : ℕ → ℕ → Search) → StatesOnly n p
+    → ((s : ℕ) → has d s ≡ (ltb s capacity && any n (r s))) → ((s : ℕ) → has d s ≡ false) → holds (inSet n p (λ s. inSet n (r s) (f s))) ≡ true
+inSet-none n p d r f small starts none =
+    sym (inSet-starting n p (has d) r f small starts) ∙ inSet-intro n _ _ (λ s l h. absurd (true≢false (sym (and-right (p s) _ h) ∙ none s)))
 
 -- Where a set holds all n states every pair ends in it.
-pub full-within : (n : ℕ) (p : ℕ → Bool) (r : ℕ → ℕ → Bool) (q : ℕ → Bool) → ((s : ℕ) → Small n (r s))
-    → all 64 (λ t. implies (ltb t 64 && ltb t n) (q t)) ≡ true
+pub full-within : (n : ℕ) (p : ℕ → Bool) (r : ℕ → ℕ → Bool) (q : ℕ → Bool) → ((s : ℕ) → StatesOnly n (r s))
+    → all capacity (λ t. implies (ltb t capacity && ltb t n) (q t)) ≡ true
     → holds (inSet n p (λ s. inSet n (r s) (λ t. must (q t)))) ≡ true
 full-within n p r q small full =
-    inSet-intro n p _ (λ s l ps. inSet-intro n (r s) _ (λ t k st. holds-must (q t) ∙ implies-at _ _ (all-at 64 _ full t (small s t st .0))
-    (and-both _ _ (lt-ltb t 64 (small s t st .0)) (lt-ltb t n k))))
+    inSet-intro n p _ (λ s l ps. inSet-intro n (r s) _ (λ t k st. holds-must (q t) ∙ implies-at _ _ (all-at capacity _ full t (small s t st .0))
+    (and-both _ _ (lt-ltb t capacity (small s t st .0)) (lt-ltb t n k))))
 
 -- So a comparison of words answers for the n states.
-pub small-all : (n : ℕ) (p q : ℕ → Bool) → Small n p → all 64 (λ t. implies (p t) (q t)) ≡ all n (λ t. implies (p t) (q t))
-small-all n p q small = all-bounds 64 n _ (λ t e. small t (implies-false (p t) (q t) e .0))
+pub small-all : (n : ℕ) (p q : ℕ → Bool) → StatesOnly n p → all capacity (λ t. implies (p t) (q t)) ≡ all n (λ t. implies (p t) (q t))
+small-all n p q small = all-bounds capacity n _ (λ t e. small t (implies-false (p t) (q t) e .0))
 
-pub small-within : (n : ℕ) (p q : ℕ → Bool) → Small n p
-    → all 64 (λ t. implies (p t) (q t)) ≡ holds (inSet n p (λ t. must (q t)))
-small-within n p q small = small-all n p q small ∙ within n p q
+pub small-within : (n : ℕ) (p q : ℕ → Bool) → StatesOnly n p
+    → all capacity (λ t. implies (p t) (q t)) ≡ holds (inSet n p (λ t. must (q t)))
+small-within n p q small = small-all n p q small ∙ within-holds n p q
 
 -- A part of a set is within what the whole set is within.
 pub part-within : (n : ℕ) (p x q : ℕ → Bool) → all n (λ t. implies (p t) (q t)) ≡ true → all n (λ t. implies (p t && x t) (q t)) ≡ true

@@ -2,13 +2,12 @@
 use Prim.Native.Nat.{ℕ, _<_}
 use mathlib.Core.Path.{_≡_, refl, sym, ap, _∙_, fun-ext, subst}
 use mathlib.Core.Bool.{Bool, true, false, _&&_, _||_, false≢true}
-use mathlib.Core.List.{List, [], _∷_}
+use mathlib.Core.List.{List}
 use mathlib.Core.Option.{Option, none, some}
 use lib.Dec.{ltb, eqb}
-use lib.ListN.{getD}
 use borrow.Author.Tests.{lt-ltb, eqb-true, eq-eqb}
 use Rattle.states.specs.Search.{any, must, holds}
-use Rattle.states.specs.Sets.{mem}
+use Rattle.states.specs.Sets.{mem, entryAt}
 use Rattle.states.specs.Relations.{rel}
 use Rattle.states.proofs.Search.{bool-ext, any-intro, any-none, holds-named}
 use Rattle.semantics.specs.Language.{Expr}
@@ -40,7 +39,7 @@ module _ (n : ℕ) where
 
 -- Rows that say where a store leads from each of the states of a head.
 module _ (head : Head) (v : ℕ) (e : Expr) (rows : List ℕ)
-    (made : (s t : ℕ) → mem (getD rows s 0 ∷ []) t ≡ (ltb s (machineIn head .states) && leadsTo (afterStore (machineIn head) v e s) t)) where
+    (made : (s t : ℕ) → mem (entryAt rows s) t ≡ (ltb s (machineIn head .states) && leadsTo (afterStore (machineIn head) v e s) t)) where
   abbrev m : Machine
   m = machineIn head
 

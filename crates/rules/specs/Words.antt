@@ -1,20 +1,21 @@
--- The tables as the work words hold them: word i is set i, word 16 + 64 r + s is row s of relation r.
+-- The tables as the work words hold them: entry i is set i, entry 16 + capacity * r + s is row s of relation r.
 use Prim.Native.Nat.{ℕ, _+_, _*_}
 use mathlib.Core.Bool.{Bool, _&&_}
-use mathlib.Core.List.{List, [], _∷_}
-use lib.ListN.{getD, drop}
+use mathlib.Core.List.{List}
+use lib.ListN.{drop}
 use lib.Dec.{ltb}
-use Rattle.states.specs.Sets.{mem}
+use Rattle.states.specs.Sets.{setWords, capacity, mem, entryAt}
 use Rattle.states.specs.Relations.{rel}
 use Rattle.semantics.specs.Derivations.{Spec}
 use Rattle.semantics.specs.declared.Names.{Names}
+use Rattle.derivation.specs.Tables.{mostTables}
 
 -- Set i and relation r over n states.
 unfoldable pub wordSet : ℕ → List ℕ → ℕ → ℕ → Bool
-wordSet n work i s = ltb s n && mem (getD work i 0 ∷ []) s
+wordSet n work i s = ltb s n && mem (entryAt work i) s
 
 unfoldable pub wordRelation : ℕ → List ℕ → ℕ → ℕ → ℕ → Bool
-wordRelation n work r = rel n (drop (16 + 64 * r) work)
+wordRelation n work r = rel n (drop (setWords * (mostTables + capacity * r)) work)
 
 -- The four tables of a node by their members.
 abbrev pub wordSpec : ℕ → List ℕ → Names → Spec

@@ -62,8 +62,8 @@ pub fn store_in_guarantee(n: u32, work: &[u64], own: Names, after: &[u64]) -> bo
 {
     let mut rest = set_at(n, work, own.p);
     let mut held = true;
-    while rest.bits != 0 {
-        let first = u64::trailing_zeros(rest.bits);
+    while !rest.is_empty() {
+        let first = rest.least();
         held = held & guaranteed_at(n, work, own, after, first);
         rest = rest.without_least();
     }

@@ -19,7 +19,7 @@ ghost use mathlib.Core.Path.{_≡_};
 ghost use mathlib.Core.Bool.{not, _&&_, _||_};
 ghost use lib.Dec.{eqb};
 ghost use Rattle.states.specs.Search.{must, given, holds, implies, all};
-ghost use Rattle.states.specs.Sets.{has};
+ghost use Rattle.states.specs.Sets.{capacity, has};
 ghost use Rattle.semantics.specs.Conditions.{inSet, c34while, c51, c53, c55, c52, c54, c56};
 ghost use Rattle.rules.specs.Words.{wordSet, wordRelation, wordSpec};
 ghost use Rattle.rules.specs.declared.NodeVerdict.the-variants.{Holds};
@@ -136,7 +136,7 @@ fn exit_satisfies_post_at(
     s: u32,
 ) -> bool
     ensures { λ out.
-        ⌜ out ≡ all 64 (λ t. implies ((eqb t s || wordRelation n (now (work .entry)) w s t) && has p t && has falsity t)
+        ⌜ out ≡ all capacity (λ t. implies ((eqb t s || wordRelation n (now (work .entry)) w s t) && has p t && has falsity t)
         (wordRelation n (now (work .entry)) (own .q) s t)) ⌝ }
 {
     let rounds = StateSet::single(s).join(row_at(n, work, w, s));
@@ -154,8 +154,8 @@ pub fn exit_satisfies_post(n: u32, work: &[u64], own: Names, w: u32, falsity: St
     let p = set_at(n, work, own.p);
     let mut rest = p;
     let mut held = true;
-    while rest.bits != 0 {
-        let first = u64::trailing_zeros(rest.bits);
+    while !rest.is_empty() {
+        let first = rest.least();
         held = held & exit_satisfies_post_at(n, work, own, w, p, falsity, first);
         rest = rest.without_least();
     }

@@ -30,8 +30,8 @@ fn moves_variable(head: Head, n: u32, work: &[u64], from: StateSet, r: u32, v: u
 {
     let variable = variable_of(head, v);
     let mut rest = from.meet(StateSet::below(n));
-    while rest.bits != 0 {
-        let first = u64::trailing_zeros(rest.bits);
+    while !rest.is_empty() {
+        let first = rest.least();
         let agree = agreeing(variable, first);
         let alike = agree.join(StateSet::single(first));
         if leads_into(n, work, rest.meet(alike), r, agree) {
@@ -63,7 +63,7 @@ pub fn moved(head: Head, work: &[u64], own: Names) -> u32
     }
     let starts = starting(n, rows_of(work, own.r));
     let from = set_at(n, work, own.p).meet(starts);
-    if from.bits == 0 {
+    if from.is_empty() {
         return 0;
     }
     let mut mask = 0;

@@ -9,6 +9,7 @@ use crate::tables::rows_of;
 use crate::tables::same_set;
 use crate::tables::set_at;
 use semantics::Names;
+use states::RELATION_WORDS;
 use states::StateSet;
 use states::relations::reach;
 use states::relations::union_of;
@@ -17,6 +18,7 @@ ghost use mathlib.Core.Bool.{_&&_, _||_};
 ghost use Prim.Native.Nat.{ℕ};
 ghost use lib.Dec.{ltb};
 ghost use Rattle.states.specs.Search.{must, given, holds};
+ghost use Rattle.states.specs.Sets.{capacity};
 ghost use Rattle.states.specs.Relations.{rel, reach as reachOf};
 ghost use Rattle.semantics.specs.Conditions.{inSet, c34parallel, c65, c66, moves};
 ghost use Rattle.rules.specs.Words.{wordSet, wordRelation, wordSpec};
@@ -46,10 +48,10 @@ pub fn guarantees_within(n: u32, work: &[u64], own: Names, left: Names, right: N
     lies_in(n, work, left.g, own.g) & lies_in(n, work, right.g, own.g)
 }
 
-// The changes that either side or the others make, as 64 rows: all that a word's states can start.
-fn changes(n: u32, work: &[u64], r: u32, left: u32, right: u32) -> [u64; 64]
+// The changes that either side or the others make, with a row for each state that a set can hold.
+fn changes(n: u32, work: &[u64], r: u32, left: u32, right: u32) -> [u64; RELATION_WORDS]
     ensures { λ out.
-        ⌜ ((s t : ℕ) → rel n out s t ≡ (ltb s 64 && (wordRelation n (now (work .entry)) r s t
+        ⌜ ((s t : ℕ) → rel n out s t ≡ (ltb s capacity && (wordRelation n (now (work .entry)) r s t
         || wordRelation n (now (work .entry)) left s t || wordRelation n (now (work .entry)) right s t))) ⌝ }
 {
     let outer = union_of(n, rows_of(work, r), rows_of(work, left));

@@ -26,7 +26,7 @@ pub fn stable_under_rely(n: u32, work: &[u64], own: Names) -> Stability
     ensures after { λ out. ⌜ out .after ≡ holds (c33 n (wordSpec n (now (work .entry)) own)) ⌝ }
 {
     let starts = starting(n, rows_of(work, own.r));
-    if starts.bits == 0 {
+    if starts.is_empty() {
         return Stability {
             pre: true,
             before: true,

@@ -1,6 +1,10 @@
-// The tables in the work words, by number, and what the conditions compare: word i is set i, and the rows of relation r start at
-// word 16 + 64 r. Any n and any words will do: only the states below n are looked at, and a word past the end is empty.
+// The tables in the work words, by number, and what the conditions compare: entry i is set i, and the rows of relation r start at
+// entry 16 + CAPACITY r. Any n and any words will do: only the states below n are looked at, and an entry past the end is empty.
+use derivation::MOST_TABLES;
+use states::CAPACITY;
 use states::StateSet;
+use states::entries::entries_from;
+use states::entries::entry_at;
 use states::relations::image;
 use states::relations::row;
 use states::relations::same_members;
@@ -8,34 +12,23 @@ ghost use mathlib.Core.Path.{_≡_};
 ghost use mathlib.Core.Bool.{_&&_, _||_};
 ghost use Prim.Native.Nat.{ℕ, _+_, _*_};
 ghost use Rattle.states.specs.Search.{must, given, holds};
-ghost use Rattle.states.specs.Sets.{has};
+ghost use Rattle.states.specs.Sets.{setWords, capacity, has};
 ghost use Rattle.semantics.specs.Conditions.{inSet, sameSet, sameRelation, setLiesIn, relationLiesIn};
+ghost use Rattle.derivation.specs.Tables.{mostTables};
 ghost use Rattle.rules.specs.Words.{wordSet, wordRelation};
 ghost use lib.ListN.{drop};
 
 pub fn set_at(n: u32, work: &[u64], i: u32) -> StateSet
     ensures { λ out. ⌜ ((s : ℕ) → has out s ≡ wordSet n (now (work .entry)) i s) ⌝ }
 {
-    let at = i as usize;
-    if at < work.len() {
-        let bits = work[at];
-        StateSet { bits }.meet(StateSet::below(n))
-    } else {
-        StateSet::empty()
-    }
+    entry_at(work, i as usize).meet(StateSet::below(n))
 }
 
 // The words from the first row of relation r on.
 pub fn rows_of(work: &[u64], r: u32) -> &[u64]
-    ensures { λ out. ⌜ now out ≡ drop (16 + 64 * r) (now (work .entry)) ⌝ }
+    ensures { λ out. ⌜ now out ≡ drop (setWords * (mostTables + capacity * r)) (now (work .entry)) ⌝ }
 {
-    let start = 16 + 64 * (r as usize);
-    if start <= work.len() {
-        &work[start..]
-    } else {
-        let end = work.len();
-        &work[end..]
-    }
+    entries_from(work, MOST_TABLES + CAPACITY as usize * (r as usize))
 }
 
 // The ends of the pairs of relation r that start in s.
@@ -54,7 +47,7 @@ pub fn leads_into(n: u32, work: &[u64], from: StateSet, r: u32, into: StateSet) 
 }
 
 // Whether every pair of relation a from s to a state of the set through, with a pair of b that goes on from it, makes a pair of
-// whole. A row of whole that holds all states takes in whatever comes.
+// whole. If whole relates s to every state, there is nothing to ask.
 fn row_chains_into(
     n: u32,
     work: &[u64],
@@ -93,8 +86,8 @@ pub fn chains_into(
 {
     let mut rest = from.meet(StateSet::below(n));
     let mut held = true;
-    while rest.bits != 0 {
-        let first = u64::trailing_zeros(rest.bits);
+    while !rest.is_empty() {
+        let first = rest.least();
         held = held & row_chains_into(n, work, a, through, b, whole, first);
         rest = rest.without_least();
     }

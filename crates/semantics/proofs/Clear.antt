@@ -1,16 +1,14 @@
 -- What a list of conditions says where none of them is broken, and which statement condition 30 says is at hand.
 use Prim.Native.Nat.{ℕ}
 use mathlib.Core.Path.{_≡_, refl, sym, _∙_, ap}
-use mathlib.Core.Bool.{Bool, true, _&&_, _||_}
+use mathlib.Core.Bool.{Bool, true, _&&_}
 use mathlib.Core.List.{List, [], _∷_}
-use mathlib.Core.Logic.{⊎-elim}
 use mathlib.Core.Option.{Option, none, some, Option·none-ne-some}
 use lib.ListN.{getD}
 use lib.Dec.{eqb}
 use borrow.Author.Tests.{eqb-true}
 use Rattle.states.specs.Search.{Search, must}
-use Rattle.states.proofs.Search.{and-left, and-right, or-cases, must-none}
-use Rattle.states.proofs.Reach.{Between}
+use Rattle.states.proofs.Search.{and-left, and-right, must-none}
 use Rattle.semantics.specs.Language.{Stmt, nil, assign, seq, par, if, while}
 use Rattle.semantics.specs.Conditions.{statementCode, targetOf, exprOf, firstOf, secondOf}
 use Rattle.semantics.specs.Checking.{Condition, Broken, orNumber, firstBroken, orBroken, atNode}
@@ -69,6 +67,3 @@ five a b c d f e =
     let h = must-none _ e in
     let (one, two, three, fourth) = four a b c d (none-must _ (and-left (a && b && c && d) f h)) in
     (one, two, three, fourth, and-right (a && b && c && d) f h)
-
-pub either : {N : ℕ} (r q : ℕ → ℕ → Bool) → Between N r → Between N q → Between N (λ a b. r a b || q a b)
-either r q r-in q-in a b h = ⊎-elim (r-in a b) (q-in a b) (or-cases (r a b) _ h)

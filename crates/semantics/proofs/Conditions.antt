@@ -1,29 +1,29 @@
 -- What the executable conditions say: a search that finds no breach is the condition in its logical form.
 use Prim.Native.Nat.{ℕ, _≤_, _<_}
-use mathlib.Core.Path.{_≡_, refl, sym, _∙_, ap, subst}
-use mathlib.Core.Bool.{Bool, true, false, not, _&&_, _||_, false≢true}
+use mathlib.Core.Path.{_≡_, refl, sym, _∙_, ap}
+use mathlib.Core.Bool.{Bool, true, false, _&&_, _||_, false≢true}
 use mathlib.Core.Logic.{_⊎_, inl, inr, ⊎-elim, ⊎-map}
 use mathlib.Core.Option.{Option, none, some, Option·none-ne-some}
 use lib.Dec.{leb, ltb, eqb}
 use lib.IntN.{ℤ, pos, negsuc}
 use borrow.Author.Tests.{ltb-true, lt-ltb, leb-true, eqb-true, eq-eqb, not-true, not-false}
 use native.Mathlib.Nat.{le-antisymm}
-use Rattle.states.specs.Search.{all, Search, must, given, named, orElse, each}
+use Rattle.states.specs.Search.{Search, must, named}
 use Rattle.states.specs.Relations.{Reached, here, more, reach}
-use Rattle.states.proofs.Search.{and-left, and-right, and-both, or-left, or-right, or-cases, implies-at, all-at, any-at, not-true-false, true-or-false, beq-true, must-none, given-none, orElse-none, each-none}
+use Rattle.states.proofs.Search.{and-left, and-right, and-both, or-left, or-right, or-cases, implies-at, all-at, any-at, beq-true, must-none, given-none, orElse-none, each-none}
 use Rattle.states.proofs.Reach.{Between, reach-exact}
 use Rattle.semantics.specs.declared.Names.{Names}
 use Rattle.semantics.specs.Language.{Val, int, truth, Expr, eqZ}
 use Rattle.semantics.specs.States.{Machine, value, isTruth, storeOf}
 use Rattle.semantics.specs.Derivations.{Tables, Spec, setOf, relationOf, specOf}
-use Rattle.semantics.specs.Conditions.{occurrences, inSet, sameSet, sameRelation, setLiesIn, relationLiesIn, isTrue, isFalse, afterStore, inRange, toAfter, moves, unmoved, c31, c32, c33, c35, c40, c41, c42, c43, c34if, c45, c46, c34while, c50, c51, c52, c53, c54, c55, c56, c34sequence, c60, c61, c34parallel, c65, c66, c70, c71, c72, c73}
+use Rattle.semantics.specs.Conditions.{occurrences, inSet, sameSet, sameRelation, setLiesIn, relationLiesIn, isTrue, isFalse, afterStore, inRange, toAfter, moves, unmoved, c31, c32, c33, c35, c40, c41, c42, c43, c45, c46, c50, c51, c52, c53, c54, c55, c56, c60, c61, c66}
 use Rattle.semantics.proofs.Safe.{Star, stay, then}
 use Rattle.semantics.proofs.Composition.{Change}
 use Rattle.semantics.proofs.Descent.{Descending}
 use Rattle.semantics.proofs.Reading.{Stable}
 
 -- The tables of a node speak of the N states only.
-pub record Within (N : ℕ) (c : Spec) : Type 0 where
+pub record TablesWithin (N : ℕ) (c : Spec) : Type 0 where
   pub P-in : (s : ℕ) → c .P s ≡ true → s < N
   pub R-in : Between N (c .R)
   pub G-in : Between N (c .G)
@@ -37,8 +37,8 @@ relation-in t i s u h =
     let both = and-left (ltb s (t .machine .states) && ltb u (t .machine .states)) _ h in
     (ltb-true s _ (and-left (ltb s _) _ both), ltb-true u _ (and-right (ltb s (t .machine .states)) _ both))
 
-pub within : (t : Tables) (h : Names) → Within (t .machine .states) (specOf t h)
-within t h = record { P-in = set-in t (h .p); R-in = relation-in t (h .r); G-in = relation-in t (h .g); Q-in = relation-in t (h .q) }
+pub tables-within : (t : Tables) (h : Names) → TablesWithin (t .machine .states) (specOf t h)
+tables-within t h = record { P-in = set-in t (h .p); R-in = relation-in t (h .r); G-in = relation-in t (h .g); Q-in = relation-in t (h .q) }
 
 -- A value that a test finds.
 pub is-truth : (b : Bool) (o : Option Val) → isTruth b o ≡ true → o ≡ some (truth b)
@@ -98,7 +98,7 @@ module _ (m : Machine) where
   stored-at c s (some s′) r q g =
       (s′, refl, must-none _ (unnamed s′ _ q), ⊎-map (eqb-true s′ s) (λ x. x) (or-cases (eqb s′ s) _ (must-none _ (unnamed s′ _ g))))
 
-  module _ (c : Spec) (w : Within (m .states) c) where
+  module _ (c : Spec) (w : TablesWithin (m .states) c) where
     pub says31 : c31 (m .states) c ≡ none → (s t : ℕ) → c .P s ≡ true → c .R s t ≡ true → c .P t ≡ true
     unfolding c31
     says31 e s t p r = must-none _ (at-member (c .R s) _ (λ u x. w .R-in s u x .1) (at-member (c .P) _ (w .P-in) e s p) t r)
@@ -211,7 +211,7 @@ module _ (m : Machine) where
         (and-both _ _ (and-both _ _ (⊎-elim (λ x. or-left _ _ (eq-eqb t s x)) (or-right (eqb t s) _) near) p-t) (false-at e t p-t is)))
 
     -- Sequence and parallel, with the children's tables.
-    module _ (l r : Spec) (wl : Within (m .states) l) (wr : Within (m .states) r) where
+    module _ (l r : Spec) (wl : TablesWithin (m .states) l) (wr : TablesWithin (m .states) r) where
       pub says60 : c60 (m .states) c l r ≡ none → (s t : ℕ) → c .P s ≡ true → l .Q s t ≡ true → r .P t ≡ true
       unfolding c60
       says60 h s t p q = must-none _ (at-member (l .Q s) _ (λ x i. wl .Q-in s x i .1) (at-member (c .P) _ (w .P-in) h s p) t q)

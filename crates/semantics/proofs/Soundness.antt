@@ -9,7 +9,7 @@ use native.Mathlib.Nat.{le-refl}
 use lib.Dec.{eqb}
 use Rattle.states.specs.Search.{must}
 use Rattle.states.proofs.Search.{and-left, and-right, and-both, or-left, or-right, must-none}
-use Rattle.states.proofs.Reach.{Between}
+use Rattle.states.proofs.Reach.{Between, joined-between}
 use Rattle.semantics.specs.declared.Kind.the-variants.{Truth}
 use Rattle.semantics.specs.Language.{Expr, Stmt, seq, par, if, while, fits, kindsFit}
 use Rattle.semantics.specs.States.{Machine}
@@ -22,9 +22,9 @@ use Rattle.semantics.proofs.Safe.{stay, star-keeps, Safe, safe-weaken}
 use Rattle.semantics.proofs.Composition.{safe-nil, safe-seq, safe-par}
 use Rattle.semantics.proofs.Rules.{Undisturbed, rule-assign, rule-if, rule-while}
 use Rattle.semantics.proofs.Values.{fits-truth}
-use Rattle.semantics.proofs.Conditions.{Within, within, relation-in, true-at, same-set, same-relation, set-lies-in, lies-in, says32, says33, says35, stable, stores, says41, says45, says46, says50, says51, says52, says53, says54, says55, says56, says60, says61, says66}
+use Rattle.semantics.proofs.Conditions.{TablesWithin, tables-within, relation-in, true-at, same-set, same-relation, set-lies-in, lies-in, says32, says33, says35, stable, stores, says41, says45, says46, says50, says51, says52, says53, says54, says55, says56, says60, says61, says66}
 use Rattle.semantics.proofs.Runs.{promise}
-use Rattle.semantics.proofs.Clear.{clear, no-number, neither, made, says30, four, five, either}
+use Rattle.semantics.proofs.Clear.{clear, no-number, neither, made, says30, four, five}
 
 module _ (m : Machine) where
   -- A statement that is safe under a node's rely, guarantee and postcondition.
@@ -42,7 +42,7 @@ module _ (m : Machine) where
   into-set p q below same s h = same-set m p q same s (below s h) ∙ h
 
   -- What every node of an assignment or an if owes before anything else.
-  undisturbed : (c : Spec) → Within (m .states) c → (e : Expr) → c31 (m .states) c ≡ none → c32 (m .states) c ≡ none → c33 (m .states) c ≡ none → occurrences (moves m c) e ≡ 0
+  undisturbed : (c : Spec) → TablesWithin (m .states) c → (e : Expr) → c31 (m .states) c ≡ none → c32 (m .states) c ≡ none → c33 (m .states) c ≡ none → occurrences (moves m c) e ≡ 0
       → Undisturbed m (λ s. c .P s ≡ true) (λ a b. c .R a b ≡ true) (λ a b. c .Q a b ≡ true) (moves m c) e
   undisturbed c w e e31 e32 e33 still =
       record { stable = stable m c w e31; before = says32 m c w e32; after = says33 m c w e33; unmoved = still }
@@ -54,7 +54,7 @@ module _ (m : Machine) where
     guarantee : (s t : ℕ) → d .G s t ≡ true → c .G s t ≡ true
     post : (s t : ℕ) → d .Q s t ≡ true → Q′ s t ≡ true
 
-  as-body : (c d : Spec) → Within (m .states) c → Within (m .states) d → (P′ : ℕ → Bool) (Q′ : ℕ → ℕ → Bool)
+  as-body : (c d : Spec) → TablesWithin (m .states) c → TablesWithin (m .states) d → (P′ : ℕ → Bool) (Q′ : ℕ → ℕ → Bool)
       → ((s : ℕ) → P′ s ≡ true → s < m .states)
       → must (sameSet (m .states) (d .P) P′ && sameRelation (m .states) (d .R) (c .R) && sameRelation (m .states) (d .G) (c .G) && sameRelation (m .states) (d .Q) Q′) ≡ none
       → Body c d P′ Q′
@@ -67,7 +67,7 @@ module _ (m : Machine) where
         post = out-of (d .Q) Q′ (wd .Q-in) same-Q;
       }
 
-  if-safe : (c d : Spec) → Within (m .states) c → Within (m .states) d → (e : Expr) (b : Stmt) (n : ℕ) → fits Truth e ≡ true
+  if-safe : (c d : Spec) → TablesWithin (m .states) c → TablesWithin (m .states) d → (e : Expr) (b : Stmt) (n : ℕ) → fits Truth e ≡ true
       → c31 (m .states) c ≡ none → c32 (m .states) c ≡ none → c33 (m .states) c ≡ none
       → c34if (m .states) c (isTrue m e) d ≡ none → c45 m c e ≡ none → c46 (m .states) c (isFalse m e) ≡ none
       → ((s : ℕ) → d .P s ≡ true → SafeAt d n b s) → (s : ℕ) → c .P s ≡ true → SafeAt c (E e + 1 + n) (if e b) s
@@ -82,7 +82,7 @@ module _ (m : Machine) where
         skips = says46 m c w e e46;
       })
 
-  while-safe : (c d : Spec) → Within (m .states) c → Within (m .states) d → (e : Expr) (b : Stmt) (n : ℕ) → fits Truth e ≡ true
+  while-safe : (c d : Spec) → TablesWithin (m .states) c → TablesWithin (m .states) d → (e : Expr) (b : Stmt) (n : ℕ) → fits Truth e ≡ true
       → (K : ℕ → Bool) (W : ℕ → ℕ → Bool) (W-in : Between (m .states) W)
       → c31 (m .states) c ≡ none → c34while (m .states) c K W d ≡ none → c50 m c e ≡ none → c51 (m .states) W ≡ none → c52 (m .states) c (isTrue m e) K ≡ none
       → c53 (m .states) c K ≡ none → c54 (m .states) c (isFalse m e) ≡ none → c55 (m .states) c W ≡ none → c56 (m .states) c (isFalse m e) W ≡ none
@@ -107,7 +107,7 @@ module _ (m : Machine) where
             (body s (inner .enters s (and-both (c .P s) _ p k)));
       })
 
-  sequence-safe : (c l r : Spec) → Within (m .states) c → Within (m .states) l → Within (m .states) r → (L T : Stmt) (n j : ℕ)
+  sequence-safe : (c l r : Spec) → TablesWithin (m .states) c → TablesWithin (m .states) l → TablesWithin (m .states) r → (L T : Stmt) (n j : ℕ)
       → c34sequence (m .states) c l r ≡ none → c60 (m .states) c l r ≡ none → c61 (m .states) c l r ≡ none
       → ((s : ℕ) → l .P s ≡ true → SafeAt l n L s) → ((s : ℕ) → r .P s ≡ true → SafeAt r j T s)
       → (s : ℕ) → c .P s ≡ true → SafeAt c (n + j + 1) (seq L T) s
@@ -120,7 +120,7 @@ module _ (m : Machine) where
       (λ t q. safe-weaken (into (r .R) (c .R) (w .R-in) same-Rr) (out-of (r .G) (c .G) (wr .G-in) same-Gr)
       (λ u q′. says61 m c w l r wl wr e61 s t u p q q′) (le-refl j) (right t (says60 m c w l r wl wr e60 s t p q)))
 
-  parallel-safe : (c l r : Spec) → Within (m .states) c → Within (m .states) l → Within (m .states) r → (L T : Stmt) (n j : ℕ)
+  parallel-safe : (c l r : Spec) → TablesWithin (m .states) c → TablesWithin (m .states) l → TablesWithin (m .states) r → (L T : Stmt) (n j : ℕ)
       → c34parallel (m .states) c l r ≡ none → c65 (m .states) c l r ≡ none → c66 (m .states) c l r ≡ none
       → ((s : ℕ) → l .P s ≡ true → SafeAt l n L s) → ((s : ℕ) → r .P s ≡ true → SafeAt r j T s)
       → (s : ℕ) → c .P s ≡ true → SafeAt c (n + j + 1) (par L T) s
@@ -131,8 +131,8 @@ module _ (m : Machine) where
       let N = m .states in
       let (same-Pl, same-Pr, same-Rl, same-Rr)
       = four (sameSet N (l .P) (c .P)) (sameSet N (r .P) (c .P)) (sameRelation N (l .R) left-rely) (sameRelation N (r .R) right-rely) e34 in
-      let to-left = into (l .R) left-rely (either (c .R) (r .G) (w .R-in) (wr .G-in)) same-Rl in
-      let to-right = into (r .R) right-rely (either (c .R) (l .G) (w .R-in) (wl .G-in)) same-Rr in
+      let to-left = into (l .R) left-rely (joined-between (c .R) (r .G) (w .R-in) (wr .G-in)) same-Rl in
+      let to-right = into (r .R) right-rely (joined-between (c .R) (l .G) (w .R-in) (wl .G-in)) same-Rr in
       let both-in = must-none _ e65 in
       safe-par (record {
         others-left = λ a b h. to-left a b (or-left (c .R a b) _ h);
@@ -145,7 +145,7 @@ module _ (m : Machine) where
       (n + j + 1) n j s (omega arith) stay (λ t way q q′. says66 m c w l r wl wr e66 s t p way q q′)
       (left s (into-set (l .P) (c .P) (w .P-in) same-Pl s p)) (right s (into-set (r .P) (c .P) (w .P-in) same-Pr s p))
 
-  weaken-safe : (c d : Spec) → Within (m .states) c → Within (m .states) d → (S : Stmt) (n : ℕ)
+  weaken-safe : (c d : Spec) → TablesWithin (m .states) c → TablesWithin (m .states) d → (S : Stmt) (n : ℕ)
       → c70 (m .states) c d ≡ none → c71 (m .states) c d ≡ none → c72 (m .states) c d ≡ none → c73 (m .states) c d ≡ none
       → ((s : ℕ) → d .P s ≡ true → SafeAt d n S s) → (s : ℕ) → c .P s ≡ true → SafeAt c n S s
   unfolding c70 c71 c72 c73
@@ -172,20 +172,20 @@ module _ (t : Tables) where
       let (e30, (e31, (e32, (e33, (e35, _))))) = clear (obligations t (skip h) S) (no-number n _ e) in
       let c = specOf t h in
       as-made (skip h) S 0 e30 kinds (λ _ s p. safe-nil (λ u r.
-      star-keeps (λ a b q x. says33 (t .machine) c (within t h) e33 s a b p q x) r (says35 (t .machine) c (within t h) e35 s p)))
+      star-keeps (λ a b q x. says33 (t .machine) c (tables-within t h) e33 s a b p q x) r (says35 (t .machine) c (tables-within t h) e35 s p)))
   sound (assignment h) S n e kinds =
       let (e30, (e31, (e32, (e33, (e40, (e41, (e42, (e43, _)))))))) = clear (obligations t (assignment h) S) (no-number n _ e) in
       let c = specOf t h in
       as-made (assignment h) S 1 e30 kinds (λ _. rule-assign (record {
-        undisturbed = undisturbed (t .machine) c (within t h) (exprOf S) e31 e32 e33 (says41 (t .machine) c (within t h) (exprOf S) e41);
-        stores = stores (t .machine) c (within t h) (targetOf S) (exprOf S) e40 e42 e43;
+        undisturbed = undisturbed (t .machine) c (tables-within t h) (exprOf S) e31 e32 e33 (says41 (t .machine) c (tables-within t h) (exprOf S) e41);
+        stores = stores (t .machine) c (tables-within t h) (targetOf S) (exprOf S) e40 e42 e43;
       }))
   sound (sequence h l r) S n e kinds =
       let (own, below) = neither _ _ e in
       let (on-left, on-right) = neither _ _ below in
       let (e30, (e31, (e32, (e33, (e34, (e60, (e61, _))))))) = clear (obligations t (sequence h l r) S) (no-number n _ own) in
       as-made (sequence h l r) S 2 e30 kinds (λ k. sequence-safe (t .machine) (specOf t h) (specOf t (namesOf l)) (specOf t (namesOf r))
-      (within t h) (within t (namesOf l)) (within t (namesOf r)) (firstOf S) (secondOf S) _ _ e34 e60 e61
+      (tables-within t h) (tables-within t (namesOf l)) (tables-within t (namesOf r)) (firstOf S) (secondOf S) _ _ e34 e60 e61
       (sound l (firstOf S) (suc n) on-left (and-left (kindsFit (firstOf S)) _ k))
       (sound r (secondOf S) (suc n + nodes l) on-right (and-right (kindsFit (firstOf S)) _ k)))
   sound (parallel h l r) S n e kinds =
@@ -193,26 +193,26 @@ module _ (t : Tables) where
       let (on-left, on-right) = neither _ _ below in
       let (e30, (e31, (e32, (e33, (e34, (e65, (e66, _))))))) = clear (obligations t (parallel h l r) S) (no-number n _ own) in
       as-made (parallel h l r) S 3 e30 kinds (λ k. parallel-safe (t .machine) (specOf t h) (specOf t (namesOf l)) (specOf t (namesOf r))
-      (within t h) (within t (namesOf l)) (within t (namesOf r)) (firstOf S) (secondOf S) _ _ e34 e65 e66
+      (tables-within t h) (tables-within t (namesOf l)) (tables-within t (namesOf r)) (firstOf S) (secondOf S) _ _ e34 e65 e66
       (sound l (firstOf S) (suc n) on-left (and-left (kindsFit (firstOf S)) _ k))
       (sound r (secondOf S) (suc n + nodes l) on-right (and-right (kindsFit (firstOf S)) _ k)))
   sound (conditional h d) S n e kinds =
       let (own, below) = neither _ _ e in
       let (e30, (e31, (e32, (e33, (e34, (e45, (e46, _))))))) = clear (obligations t (conditional h d) S) (no-number n _ own) in
-      as-made (conditional h d) S 4 e30 kinds (λ k. if-safe (t .machine) (specOf t h) (specOf t (namesOf d)) (within t h) (within t (namesOf d))
+      as-made (conditional h d) S 4 e30 kinds (λ k. if-safe (t .machine) (specOf t h) (specOf t (namesOf d)) (tables-within t h) (tables-within t (namesOf d))
       (exprOf S) (firstOf S) _ (and-left (fits Truth (exprOf S)) _ k) e31 e32 e33 e34 e45 e46
       (sound d (firstOf S) (suc n) below (and-right (fits Truth (exprOf S)) _ k)))
   sound (iteration h K W d) S n e kinds =
       let (own, below) = neither _ _ e in
       let (e30, (e31, (e32, (e33, (e34, (e50, (e51, (e52, (e53, (e54, (e55, (e56, _)))))))))))) = clear (obligations t (iteration h K W d) S) (no-number n _ own) in
-      as-made (iteration h K W d) S 5 e30 kinds (λ k. while-safe (t .machine) (specOf t h) (specOf t (namesOf d)) (within t h) (within t (namesOf d))
+      as-made (iteration h K W d) S 5 e30 kinds (λ k. while-safe (t .machine) (specOf t h) (specOf t (namesOf d)) (tables-within t h) (tables-within t (namesOf d))
       (exprOf S) (firstOf S) _ (and-left (fits Truth (exprOf S)) _ k) (setOf t K) (relationOf t W) (relation-in t W)
       e31 e34 e50 e51 e52 e53 e54 e55 e56
       (sound d (firstOf S) (suc n) below (and-right (fits Truth (exprOf S)) _ k)))
   sound (weaken h d) S n e kinds =
       let (own, below) = neither _ _ e in
       let (e30, (e31, (e32, (e33, (e70, (e71, (e72, (e73, _)))))))) = clear (obligations t (weaken h d) S) (no-number n _ own) in
-      weaken-safe (t .machine) (specOf t h) (specOf t (namesOf d)) (within t h) (within t (namesOf d)) S _ e70 e71 e72 e73 (sound d S (suc n) below kinds)
+      weaken-safe (t .machine) (specOf t h) (specOf t (namesOf d)) (tables-within t h) (tables-within t (namesOf d)) S _ e70 e71 e72 e73 (sound d S (suc n) below kinds)
 
 -- Demand 3: a derivation in which no condition is broken, of a statement whose kinds fit, keeps its root's promise with the
 -- step number as the bound.

@@ -4,8 +4,8 @@ use Prim.Native.Nat.{ℕ}
 use mathlib.Core.Path.{_≡_, refl, sym, _∙_, ap, subst₂}
 use mathlib.Core.Bool.{Bool, true, false, false≢true, _&&_}
 use mathlib.Core.Logic.{⊎-elim}
-use mathlib.Core.List.{List, [], _∷_, map}
-use mathlib.Core.Option.{Option, none, some, Option·map, Option·none-ne-some}
+use mathlib.Core.List.{[], _∷_}
+use mathlib.Core.Option.{Option, none, some, Option·map}
 use lib.ListN.{getD, List·getD-map}
 use lib.Dec.{ltb}
 use borrow.Author.Tests.{ltb-true}

@@ -2,9 +2,9 @@
 -- included.
 use Prim.Native.Nat.{ℕ, _≤_}
 use mathlib.Core.Path.{_≡_}
-use mathlib.Core.Bool.{Bool, true, false, _||_}
+use mathlib.Core.Bool.{true, false, _||_}
 use mathlib.Core.List.{List}
-use mathlib.Core.Option.{Option, some}
+use mathlib.Core.Option.{some}
 use Rattle.semantics.specs.Language.{Stmt}
 use Rattle.semantics.specs.States.{Machine}
 use Rattle.semantics.specs.Steps.{Config, at, turns, isNil}

@@ -4,7 +4,7 @@ use Prim.Native.Nat.{ℕ}
 use mathlib.Core.Bool.{Bool, true, false, cond, _&&_}
 use mathlib.Core.List.{List, [], _∷_, _++_, map}
 use mathlib.Core.Option.{Option, none, some, Option·map}
-use Rattle.semantics.specs.Language.{Val, int, truth, Expr, lit, var, op, Stmt, nil, assign, seq, par, if, while, apply}
+use Rattle.semantics.specs.Language.{int, truth, Expr, lit, var, op, Stmt, nil, assign, seq, par, if, while, apply}
 use Rattle.semantics.specs.States.{Machine, storeOf}
 
 -- The remaining handler and the present state.

@@ -1,8 +1,10 @@
 -- The laws of sets and relations of states that callers cite.
 pub mod Search
 pub mod Least
+pub mod Bits
 pub mod Words
-pub mod Entries
-pub mod Rows
+pub mod Cells
 pub mod Reach
+pub mod EntryLaws
+pub mod Rows
 pub mod Members

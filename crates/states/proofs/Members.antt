@@ -1,82 +1,45 @@
--- The states of a set one by one, the least first: the lowest set bit of a word is a member, and with it taken out the members are
--- one fewer.
-use Prim.Native.Nat.{ℕ, zero, suc, _/_, _%_, _*_, _^_, _<_, _≤_, suc-le-suc}
-use native.Mathlib.Nat.{pow-suc, zero-lt-suc, le-of-suc-le-suc, not-suc-le-zero}
+-- The states of a set one by one, the least first: with it taken out the members are one fewer.
+use Prim.Native.Nat.{ℕ, _*_, _<_, _≤_}
 use native.Mathlib.Decide.{decLt}
 use native.Mathlib.Omega.{arith}
 use mathlib.Core.Path.{_≡_, refl, sym, ap, _∙_}
 use mathlib.Core.Logic.{_⊎_, ⊎-elim, inl, inr}
 use mathlib.Core.Bool.{Bool, true, false, not, _&&_, _||_, and-false, and-true, and-assoc, or-false, or-assoc, true≢false}
-use mathlib.Core.List.{List, [], _∷_}
-use lib.ListN.{getD, length}
+use mathlib.Core.List.{List}
+use lib.ListN.{length}
 use lib.Dec.{ltb, eqb}
-use lib.Count.{trailingZeros, under}
-use borrow.Author.Tests.{eqb-true, eq-eqb, ne-eqb, lt-ltb, ltb-true}
+use borrow.Author.Tests.{eqb-true, eq-eqb, ne-eqb, lt-ltb, ltb-true, not-false}
 use Rattle.states.specs.declared.StateSet.{StateSet}
-use Rattle.states.specs.Search.{implies, all, any}
-use Rattle.states.specs.Sets.{mem, has}
+use Rattle.states.specs.Search.{implies, all, any, leastWhere}
+use Rattle.states.specs.Sets.{setWords, capacity, mem, has, entryAt}
 use Rattle.states.specs.Relations.{rel}
-use Rattle.states.proofs.Search.{and-left, and-right, and-both, or-left, or-right, or-cases, implies-intro, implies-at, bool-ext, true-or-false, all-intro, all-at, all-cong, all-and, any-intro, any-true, any-cong, any-none}
-use Rattle.states.proofs.Words.{bit, bit-zero, bit-suc, mem-bit, mem-nought}
-use Rattle.states.proofs.Rows.{mem-below, rel-row, row-long}
+use Rattle.states.proofs.Search.{and-left, and-right, and-both, or-left, or-right, or-cases, implies-intro, implies-at, bool-ext, turned, not-true-false, true-or-false, all-intro, all-at, all-cong, all-and, any-intro, any-true, any-cong, any-none, IsLeast, least-is}
+use Rattle.states.proofs.Words.{mem-below}
+use Rattle.states.proofs.Rows.{rel-row, row-long}
 use Rattle.states.proofs.Reach.{count, count-more}
 
--- The lowest set digit of a number of d digits that is not 0 is one of the d, it is 1, and those below it are 0.
-abbrev Lowest : ℕ → ℕ → ℕ → Type 0
-Lowest d q z = (z < d) × (bit q z ≡ true) × ((t : ℕ) → t < z → bit q t ≡ false)
-
-lowest : (d q : ℕ) → 0 < q → q < 2 ^ d → Lowest d q (trailingZeros d q)
-unfolding trailingZeros
-lowest zero q h k = absurd (let k : q < 1 = k in omega arith)
-lowest (suc d) q h k =
-    at (q % 2) refl (trailingZeros d (q / 2)) (λ e. lowest d (q / 2) (omega arith) (let k : q < 2 ^ d * 2 = rw pow-suc at k in omega arith))
-  where
-    at : (r : ℕ) → q % 2 ≡ r → (z : ℕ) → (q % 2 ≡ 0 → Lowest d (q / 2) z) → Lowest (suc d) q (under r z)
-    at zero e z half = (suc-le-suc (half e .0), bit-suc q z ∙ half e .1, lesser)
-      where
-        lesser : (t : ℕ) → t < suc z → bit q t ≡ false
-        lesser zero l = bit-zero q ∙ ap (λ x. eqb x 1) e
-        lesser (suc t) l = bit-suc q t ∙ half e .2 t (le-of-suc-le-suc l)
-    at (suc r) e z half = (zero-lt-suc d, bit-zero q ∙ eq-eqb (q % 2) 1 (omega arith), λ t l. absurd (not-suc-le-zero l))
+-- A set holds no state past those that it can hold.
+pub has-below : (set : StateSet) (s : ℕ) → has set s ≡ true → s < capacity
+unfolding has
+has-below set s h = mem-below _ s h
 
 -- k is in p, and q is p without it.
 pub record Taken (p q : ℕ → Bool) (k : ℕ) : Type 0 where
   pub there : p k ≡ true
   pub rest : (s : ℕ) → q s ≡ (p s && not (eqb k s))
 
--- The least member of a set that is not empty.
-module _ (set : StateSet) (fits : set .bits < 2 ^ 64) (some : set .bits ≡ 0 → ⊥) where
-  above : (q : ℕ) → (q ≡ 0 → ⊥) → 0 < q
-  above zero h = absurd (h refl)
-  above (suc q) h = zero-lt-suc q
+-- The least member alone has no member below it.
+first-taken : (n : ℕ) (p q : ℕ → Bool) (first : ℕ) → IsLeast n p first → ((s : ℕ) → q s ≡ (p s && any s p)) → Taken p q first
+first-taken n p q first least above-one = record { there = least .there; rest = λ s. above-one s ∙ by s (true-or-false (p s)) }
+  where
+    at : (s : ℕ) → p s ≡ true → Dec (s < first) → Dec (first < s) → any s p ≡ not (eqb first s)
+    at s e (yes l) m = absurd (true≢false (sym e ∙ least .less s l))
+    at s e (no l) (yes m) = rw (ne-eqb first s (omega arith)) (any-intro s _ first m (least .there))
+    at s e (no l) (no m) = rw (eq-eqb first s (omega arith)) (any-none s _ (λ t k. least .less t (omega arith)))
 
-  low : Lowest 64 (set .bits) (trailingZeros 64 (set .bits))
-  low = lowest 64 (set .bits) (above (set .bits) some) fits
-
-  pub first-below : trailingZeros 64 (set .bits) < 64
-  first-below = low .0
-
-  pub first-in : has set (trailingZeros 64 (set .bits)) ≡ true
-  unfolding has
-  first-in = mem-bit _ _ ∙ and-both _ _ (lt-ltb _ 64 first-below) (low .1)
-
-  none-less : (t : ℕ) → t < trailingZeros 64 (set .bits) → has set t ≡ false
-  unfolding has
-  none-less t l = mem-bit _ t ∙ ap (λ b. ltb t 64 && b) (low .2 t l) ∙ and-false (ltb t 64)
-
-  -- It alone has no member below it.
-  first-taken : (left : StateSet) → ((s : ℕ) → has left s ≡ (has set s && any s (has set))) → Taken (has set) (has left) (trailingZeros 64 (set .bits))
-  first-taken left above-one = record { there = first-in; rest = λ s. above-one s ∙ by s (true-or-false (has set s)) }
-    where
-      at : (first s : ℕ) → has set first ≡ true → ((t : ℕ) → t < first → has set t ≡ false) → has set s ≡ true
-          → Dec (s < first) → Dec (first < s) → any s (has set) ≡ not (eqb first s)
-      at first s there less e (yes l) m = absurd (true≢false (sym e ∙ less s l))
-      at first s there less e (no l) (yes m) = rw (ne-eqb first s (omega arith)) (any-intro s _ first m there)
-      at first s there less e (no l) (no m) = rw (eq-eqb first s (omega arith)) (any-none s _ (λ t k. less t (omega arith)))
-
-      by : (s : ℕ) → (has set s ≡ true) ⊎ (has set s ≡ false) → (has set s && any s (has set)) ≡ (has set s && not (eqb (trailingZeros 64 (set .bits)) s))
-      by s (inl e) = ap (λ b. has set s && b) (at _ s first-in none-less e (decLt s _) (decLt _ s))
-      by s (inr e) = rw e
+    by : (s : ℕ) → (p s ≡ true) ⊎ (p s ≡ false) → (p s && any s p) ≡ (p s && not (eqb first s))
+    by s (inl e) = ap (λ b. p s && b) (at s e (decLt s first) (decLt first s))
+    by s (inr e) = rw e
 
 module _ (p q : ℕ → Bool) (k : ℕ) (one : Taken p q k) where
   kept : (s : ℕ) → q s ≡ true → p s ≡ true
@@ -125,24 +88,38 @@ module _ (p q : ℕ → Bool) (k : ℕ) (one : Taken p q k) where
           (all-intro n _ (λ s m. implies-intro _ _ (λ e. implies-at _ _ (all-at n _ h s m) (kept s e))))
 
 -- One turn of a loop that takes out the least: it is gone, and the members are fewer.
-pub record Turn (set left : StateSet) : Type 0 where
-  pub taken : Taken (has set) (has left) (trailingZeros 64 (set .bits))
-  pub less : count 64 (has left) < count 64 (has set)
+pub record Turn (set left : StateSet) (first : ℕ) : Type 0 where
+  pub low : first < capacity
+  pub taken : Taken (has set) (has left) first
+  pub less : count capacity (has left) < count capacity (has set)
 
-pub turn : (set left : StateSet) → set .bits < 2 ^ 64 → (set .bits ≡ 0 → ⊥) → ((s : ℕ) → has left s ≡ (has set s && any s (has set))) → Turn set left
-turn set left fits some above-one =
-    let one = first-taken set fits some left above-one in
-    record { taken = one; less = fewer _ _ _ one 64 (first-below set fits some) }
+-- What `is_empty` and `least` answer in such a loop: while the set is not empty, its least state, and at the end that it has none.
+module _ (set : StateSet) (empty : Bool) (asked : empty ≡ not (any capacity (has set))) where
+  pub least-of : not empty ≡ true → (first : ℕ) → first ≡ leastWhere capacity (has set) → IsLeast capacity (has set) first
+  least-of more first is = rw is (least-is capacity (has set) (turned _ _ asked ∙ more))
+
+  pub turn : not empty ≡ true → (first : ℕ) → first ≡ leastWhere capacity (has set)
+      → (left : StateSet) → ((s : ℕ) → has left s ≡ (has set s && any s (has set))) → Turn set left first
+  turn more first is left above-one =
+      let least = least-of more first is in
+      let one = first-taken capacity (has set) (has left) first least above-one in
+      record { low = least .below; taken = one; less = fewer _ _ _ one capacity (least .below) }
+
+  pub none-in : empty ≡ true → (s : ℕ) → has set s ≡ false
+  none-in e s =
+      not-true-false _ (λ h. true≢false (sym (any-intro capacity (has set) s (has-below set s h) h) ∙ turned _ _ asked ∙ ap not e))
+
+  pub none-left : not empty ≡ false → (s : ℕ) → has set s ≡ false
+  none-left done = none-in (not-false empty done)
 
 -- The states of a set that are below n: those that a loop over them starts from.
-module _ (n : ℕ) (set from : StateSet) (start : (s : ℕ) → has from s ≡ (has set s && (ltb s 64 && ltb s n))) where
+module _ (n : ℕ) (set from : StateSet) (start : (s : ℕ) → has from s ≡ (has set s && (ltb s capacity && ltb s n))) where
   pub start-below : (s : ℕ) → has from s ≡ true → s < n
-  start-below s e = ltb-true s n (and-right (ltb s 64) _ (and-right (has set s) _ (sym (start s) ∙ e)))
+  start-below s e = ltb-true s n (and-right (ltb s capacity) _ (and-right (has set s) _ (sym (start s) ∙ e)))
 
   pub start-same : (s : ℕ) → s < n → has from s ≡ has set s
-  unfolding has
   start-same s l =
-      start s ∙ bool-ext _ _ (and-left (has set s) _) (λ h. and-both _ _ h (and-both _ _ (lt-ltb s 64 (mem-below _ s h)) (lt-ltb s n l)))
+      start s ∙ bool-ext _ _ (and-left (has set s) _) (λ h. and-both _ _ h (and-both _ _ (lt-ltb s capacity (has-below set s h)) (lt-ltb s n l)))
 
 -- f holds of the states taken out of a set, and is still to be asked of those left in it: what a loop over the members keeps.
 pub record Passed (n : ℕ) (f : ℕ → Bool) (from rest : StateSet) (held : Bool) : Type 0 where
@@ -178,45 +155,44 @@ module _ (n : ℕ) (f : ℕ → Bool) (from : StateSet) where
       parts : (all n (λ s. implies (has rest s && g s) (f s)) && all n (λ s. implies (has left s) (f s))) ≡ all n (λ s. implies (has rest s) (f s))
       parts = sym (all-and n _ _) ∙ all-cong n _ _ (λ s l. rw (without s) (split (has rest s) (g s) (f s)))
 
-  pub passed-all : (rest : StateSet) (held : Bool) → rest .bits ≡ 0 → Passed n f from rest held → held ≡ all n (λ s. implies (has from s) (f s))
-  unfolding has implies
-  passed-all rest held e done =
-      sym (and-true held) ∙ ap (λ b. held && b) (sym (all-intro n (λ s. implies (has rest s) (f s)) (λ s l. rw (e, mem-nought s)))) ∙ done .same
+  pub passed-all : (rest : StateSet) (held : Bool) → ((s : ℕ) → has rest s ≡ false) → Passed n f from rest held → held ≡ all n (λ s. implies (has from s) (f s))
+  unfolding implies
+  passed-all rest held none done =
+      sym (and-true held) ∙ ap (λ b. held && b) (sym (all-intro n (λ s. implies (has rest s) (f s)) (λ s l. rw (none s)))) ∙ done .same
 
 -- The rows of the states taken out of a set, with those of the states left in it, are the rows of all: what `image` keeps.
 pub record Gathered (n : ℕ) (rows : List ℕ) (from rest ends : StateSet) : Type 0 where
   pub low : (s : ℕ) → has rest s ≡ true → s < n
-  pub same : (t : ℕ) → (has ends t || any n (λ s. has rest s && mem (getD rows s 0 ∷ []) t)) ≡ any n (λ s. has from s && mem (getD rows s 0 ∷ []) t)
+  pub same : (t : ℕ) → (has ends t || any n (λ s. has rest s && mem (entryAt rows s) t)) ≡ any n (λ s. has from s && mem (entryAt rows s) t)
 
 module _ (n : ℕ) (rows : List ℕ) (from : StateSet) where
   pub gathered-none : (ends : StateSet) → ((s : ℕ) → has from s ≡ true → s < n) → ((t : ℕ) → has ends t ≡ false) → Gathered n rows from from ends
   gathered-none ends low none = record { low = low; same = λ t. rw (none t) }
 
-  pub gathered-more : (rest ends left more : StateSet) (k : ℕ) → Taken (has rest) (has left) k → ((t : ℕ) → has more t ≡ (has ends t || mem (getD rows k 0 ∷ []) t))
+  pub gathered-more : (rest ends left more : StateSet) (k : ℕ) → Taken (has rest) (has left) k → ((t : ℕ) → has more t ≡ (has ends t || mem (entryAt rows k) t))
       → Gathered n rows from rest ends → Gathered n rows from left more
   gathered-more rest ends left more k one joined old = record {
     low = λ s e. old .low s (and-left (has rest s) _ (sym (one .rest s) ∙ e));
     same = λ t.
-        ap (λ b. b || any n (λ s. has left s && mem (getD rows s 0 ∷ []) t)) (joined t) ∙ or-assoc (has ends t) (mem (getD rows k 0 ∷ []) t) _
-        ∙ ap (λ b. has ends t || b) (any-taken (has rest) (has left) k one n (old .low k (one .there)) (λ s. mem (getD rows s 0 ∷ []) t))
+        ap (λ b. b || any n (λ s. has left s && mem (entryAt rows s) t)) (joined t) ∙ or-assoc (has ends t) (mem (entryAt rows k) t) _
+        ∙ ap (λ b. has ends t || b) (any-taken (has rest) (has left) k one n (old .low k (one .there)) (λ s. mem (entryAt rows s) t))
         ∙ old .same t;
   }
 
 -- Where the states of a set that have one of the k rows were all taken out, the rows are those of the set.
-module _ (n k : ℕ) (rows : List ℕ) (set from : StateSet) (most : k ≤ n) (enough : (s : ℕ) → s < 64 → s < n → s < length rows → s < k)
-    (start : (s : ℕ) → has from s ≡ (has set s && (ltb s 64 && ltb s k))) where
-  pub gathered-all : (rest ends found : StateSet) → rest .bits ≡ 0 → Gathered k rows from rest ends
-      → ((t : ℕ) → has found t ≡ (has ends t && (ltb t 64 && ltb t n))) → (t : ℕ) → has found t ≡ any n (λ s. has set s && rel n rows s t)
-  unfolding has
-  gathered-all rest ends found e done masked t =
-      masked t ∙ ap (λ b. b && (ltb t 64 && ltb t n)) ends-are ∙ any-and k _ _
-      ∙ any-cong k _ _ (λ s l. and-assoc (has from s) (mem (getD rows s 0 ∷ []) t) (ltb t 64 && ltb t n) ∙ ap (λ b. has from s && b) (rel-row n rows s t (omega arith)))
+module _ (n k : ℕ) (rows : List ℕ) (set from : StateSet) (most : k ≤ n) (enough : (s : ℕ) → s < capacity → s < n → setWords * s < length rows → s < k)
+    (start : (s : ℕ) → has from s ≡ (has set s && (ltb s capacity && ltb s k))) where
+  pub gathered-all : (rest ends found : StateSet) → ((s : ℕ) → has rest s ≡ false) → Gathered k rows from rest ends
+      → ((t : ℕ) → has found t ≡ (has ends t && (ltb t capacity && ltb t n))) → (t : ℕ) → has found t ≡ any n (λ s. has set s && rel n rows s t)
+  gathered-all rest ends found none done masked t =
+      masked t ∙ ap (λ b. b && (ltb t capacity && ltb t n)) ends-are ∙ any-and k _ _
+      ∙ any-cong k _ _ (λ s l. and-assoc (has from s) (mem (entryAt rows s) t) (ltb t capacity && ltb t n) ∙ ap (λ b. has from s && b) (rel-row n rows s t (omega arith)))
       ∙ bool-ext _ _ (λ h. there (any-true k _ h)) (λ h. back (any-true n _ h))
     where
-      none-left : any k (λ s. has rest s && mem (getD rows s 0 ∷ []) t) ≡ false
-      none-left = any-none k _ (λ s l. rw (e, mem-nought s))
+      none-left : any k (λ s. has rest s && mem (entryAt rows s) t) ≡ false
+      none-left = any-none k _ (λ s l. rw (none s))
 
-      ends-are : has ends t ≡ any k (λ s. has from s && mem (getD rows s 0 ∷ []) t)
+      ends-are : has ends t ≡ any k (λ s. has from s && mem (entryAt rows s) t)
       ends-are = sym (or-false (has ends t)) ∙ ap (λ b. has ends t || b) (sym none-left) ∙ done .same t
 
       any-and : (k : ℕ) (p : ℕ → Bool) (b : Bool) → (any k p && b) ≡ any k (λ s. p s && b)
@@ -232,6 +208,6 @@ module _ (n k : ℕ) (rows : List ℕ) (set from : StateSet) (most : k ≤ n) (e
       back w =
           let in-set = and-left (has set (w .0)) _ (w .2) in
           let pair = and-right (has set (w .0)) _ (w .2) in
-          let small = mem-below _ (w .0) in-set in
+          let small = has-below set (w .0) in-set in
           let low = enough (w .0) small (w .1) (row-long n rows (w .0) t pair) in
-          any-intro k _ (w .0) low (and-both _ _ (start (w .0) ∙ and-both _ _ in-set (and-both _ _ (lt-ltb (w .0) 64 small) (lt-ltb (w .0) k low))) pair)
+          any-intro k _ (w .0) low (and-both _ _ (start (w .0) ∙ and-both _ _ in-set (and-both _ _ (lt-ltb (w .0) capacity small) (lt-ltb (w .0) k low))) pair)

@@ -14,6 +14,10 @@ use Rattle.states.proofs.Search.{and-left, and-right, and-both, or-left
 abbrev pub Between : ℕ → (ℕ → ℕ → Bool) → Type 0
 Between n r = (s t : ℕ) → r s t ≡ true → (s < n) × (t < n)
 
+-- So are two relations joined.
+pub joined-between : {n : ℕ} (r q : ℕ → ℕ → Bool) → Between n r → Between n q → Between n (λ s t. r s t || q s t)
+joined-between r q r-in q-in s t h = ⊎-elim (r-in s t) (q-in s t) (or-cases (r s t) (q s t) h)
+
 -- What one round makes of the states reached so far.
 unfoldable pub round : ℕ → (ℕ → ℕ → Bool) → (ℕ → Bool) → ℕ → Bool
 round n r p t = p t || any n (λ u. p u && r u t)

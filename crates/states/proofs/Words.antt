@@ -1,68 +1,60 @@
--- Sets as lists of words: an operation that acts bit by bit acts state by state, and words below 2 ^ 64 are equal where their members are.
-use Prim.Native.Nat.{ℕ, zero, suc, _+_, _-_, _*_, _/_, _%_, _^_, _<_, zero-le}
-use native.Mathlib.Nat.{zero-div, mod-lt, pow-suc, div-one, div-div-eq-div-mul, mul-comm, one-mul}
+-- Sets as lists of words, of any number of them: what is done to each word is done to each state, by one law for all words. The
+-- first word has the first 64 states, and the others have the rest.
+use Prim.Native.Nat.{ℕ, zero, suc, _+_, _-_, _*_, _/_, _%_, _^_, _<_}
 use native.Mathlib.Decide.{decLt}
 use native.Mathlib.Omega.{arith}
 use mathlib.Core.Path.{_≡_, refl, sym, ap, ap₂, _∙_}
-use mathlib.Core.Logic.{_↔_}
-use mathlib.Core.Bool.{Bool, true, false, not, xor, _&&_, _||_, Bool·beq, and-false, true≢false, false≢true}
+use mathlib.Core.Bool.{Bool, true, false, cond, not, _&&_, _||_, and-true, true≢false}
 use mathlib.Core.List.{List, [], _∷_, zipWith}
-use lib.ListN.{getD, length}
-use lib.Seq.{ext-getD}
-use lib.Dec.{eqb, ltb, eqb·suc-suc, eqb·zero-suc, eqb·suc-zero, leb·suc-suc}
-use lib.Bits.{bitAnd, bitOr, bitXor, and-shr, or-shr, xor-shr, and-mod, or-mod, xor-mod, and-lt}
-use lib.Pow.{pow-pos, shl-exact}
-use borrow.Author.Tests.{eqb-true, eq-eqb, lt-ltb, le-ltb}
-use Rattle.states.specs.Search.{implies, all, any}
+use lib.ListN.{getD, length, List·getD-eq-default}
+use lib.Dec.{eqb, ltb}
+use lib.Bits.{bitAnd}
+use lib.Count.{trailingZeros, trailing-of-zero}
+use borrow.Author.Tests.{eqb-true, lt-ltb, le-ltb}
+use Rattle.states.specs.Search.{all, any, leastWhere}
 use Rattle.states.specs.Sets.{mem}
-use Rattle.states.proofs.Search.{all-at, all-intro, all-cong, all-not, any-intro, any-first, any-cong, bool-ext, beq-refl, beq-true, beq-false}
+use Rattle.states.proofs.Search.{turned, not-true-false, all-cong, all-split, all-not, any-cong, any-split, least-cong, least-split}
+use Rattle.states.proofs.Bits.{bit, Bitwise, bit-nought, word-empty, trailing-least, and-bits, bit-lower}
 
--- Bit k of a word, the lowest first.
-abbrev pub bit : ℕ → ℕ → Bool
-bit x k = eqb (x / 2 ^ k % 2) 1
+-- Every word of the list is a word of 64 bits.
+abbrev pub Words : List ℕ → Type 0
+Words xs = (i : ℕ) → getD xs i 0 < 2 ^ 64
 
--- An operation on words that acts on each bit as β does on truth values.
-abbrev pub Bitwise : (ℕ → ℕ → ℕ) → (Bool → Bool → Bool) → Type 0
-Bitwise op β = (a b k : ℕ) → bit (op a b) k ≡ β (bit a k) (bit b k)
+pub one-word : {x : ℕ} → x < 2 ^ 64 → Words (x ∷ [])
+one-word h zero = h
+one-word h (suc i) = omega arith
 
-by-digits : (op : ℕ → ℕ → ℕ) (β : Bool → Bool → Bool)
-    → ((a b k : ℕ) → op a b / 2 ^ k ≡ op (a / 2 ^ k) (b / 2 ^ k))
-    → ((a b k : ℕ) → op a b % 2 ^ k ≡ op (a % 2 ^ k) (b % 2 ^ k))
-    → ((x y : ℕ) → x < 2 → y < 2 → eqb (op x y) 1 ≡ β (eqb x 1) (eqb y 1)) → Bitwise op β
-by-digits op β shr low digit a b k =
-    ap (λ x. eqb (x % 2) 1) (shr a b k) ∙ ap (λ x. eqb x 1) (low (a / 2 ^ k) (b / 2 ^ k) 1)
-    ∙ digit _ _ (mod-lt _ (omega arith)) (mod-lt _ (omega arith))
+-- A state is in the first word or in the others.
+pub mem-first : (x : ℕ) (xs : List ℕ) (s : ℕ) → s < 64 → mem (x ∷ xs) s ≡ bit x s
+unfolding mem
+mem-first x xs s l =
+    let q : s / 64 ≡ 0 = omega arith in
+    let r : s % 64 ≡ s = omega arith in
+    rw (q, r)
 
--- What holds of the digits 0 and 1 holds of every two below 2.
-on-digits : (P : ℕ → ℕ → Type 0) → P 0 0 → P 0 1 → P 1 0 → P 1 1 → (x y : ℕ) → x < 2 → y < 2 → P x y
-on-digits P p q r s zero zero h l = p
-on-digits P p q r s zero (suc zero) h l = q
-on-digits P p q r s (suc zero) zero h l = r
-on-digits P p q r s (suc zero) (suc zero) h l = s
-on-digits P p q r s zero (suc (suc y)) h l = absurd (omega arith)
-on-digits P p q r s (suc zero) (suc (suc y)) h l = absurd (omega arith)
-on-digits P p q r s (suc (suc x)) y h l = absurd (omega arith)
+pub mem-later : (x : ℕ) (xs : List ℕ) (s : ℕ) → mem (x ∷ xs) (64 + s) ≡ mem xs s
+unfolding mem
+mem-later x xs s =
+    let q : (64 + s) / 64 ≡ suc (s / 64) = omega arith in
+    let r : (64 + s) % 64 ≡ s % 64 = omega arith in
+    rw (q, r)
 
-pub and-bits : Bitwise bitAnd _&&_
-and-bits = by-digits bitAnd _&&_ and-shr and-mod (on-digits (λ x y. eqb (bitAnd x y) 1 ≡ (eqb x 1 && eqb y 1)) refl refl refl refl)
+-- Words that are all 0 have no member, and no state past the words is a member.
+pub mem-zeros : (xs : List ℕ) → ((i : ℕ) → getD xs i 0 ≡ 0) → (s : ℕ) → mem xs s ≡ false
+unfolding mem
+mem-zeros xs none s = rw (none (s / 64)) (bit-nought (s % 64))
 
-pub or-bits : Bitwise bitOr _||_
-or-bits = by-digits bitOr _||_ or-shr or-mod (on-digits (λ x y. eqb (bitOr x y) 1 ≡ (eqb x 1 || eqb y 1)) refl refl refl refl)
-
-xor-bits : Bitwise bitXor xor
-unfolding xor
-xor-bits = by-digits bitXor xor xor-shr xor-mod (on-digits (λ x y. eqb (bitXor x y) 1 ≡ xor (eqb x 1) (eqb y 1)) refl refl refl refl)
-
--- The bits of a without those of b.
-pub without-bits : Bitwise (λ a b. bitXor a (bitAnd a b)) (λ p q. p && not q)
-unfolding xor
-without-bits a b k = xor-bits a (bitAnd a b) k ∙ ap (xor (bit a k)) (and-bits a b k) ∙ left (bit a k) (bit b k)
+pub mem-below : (xs : List ℕ) (s : ℕ) → mem xs s ≡ true → s < 64 * length xs
+unfolding mem
+mem-below xs s h = at (decLt s (64 * length xs))
   where
-    left : (p q : Bool) → xor p (p && q) ≡ (p && not q)
-    left true true = refl
-    left true false = refl
-    left false q = refl
+    at : Dec (s < 64 * length xs) → s < 64 * length xs
+    at (yes l) = l
+    at (no l) =
+        let past : getD xs (s / 64) 0 ≡ 0 = List·getD-eq-default xs 0 {n = s / 64} (omega arith) in
+        absurd (true≢false (sym h ∙ rw past (bit-nought (s % 64))))
 
+-- An operation that acts bit by bit acts state by state.
 pub mem-wise : (op : ℕ → ℕ → ℕ) (β : Bool → Bool → Bool) → Bitwise op β → op 0 0 ≡ 0
     → (xs ys : List ℕ) → length xs ≡ length ys → (s : ℕ) → mem (zipWith op xs ys) s ≡ β (mem xs s) (mem ys s)
 unfolding mem zipWith
@@ -75,47 +67,103 @@ mem-wise op β wise nought xs ys e s = ap (λ x. bit x (s % 64)) (at xs ys e (s 
     at (x ∷ xs) (y ∷ ys) e zero = refl
     at (x ∷ xs) (y ∷ ys) e (suc i) = at xs ys (omega arith) i
 
-bit-nought : (s : ℕ) → bit 0 s ≡ false
-bit-nought s = ap (λ y. eqb (y % 2) 1) (zero-div (2 ^ s))
+-- A test of the words of two lists, one after the other, is one of all states where the test of two words is one of all bits.
+module _ (test : ℕ → ℕ → Bool) (β : Bool → Bool → Bool)
+    (bits : (x y : ℕ) → x < 2 ^ 64 → y < 2 ^ 64 → test x y ≡ all 64 (λ k. β (bit x k) (bit y k))) where
+  abbrev pub eachWord : List ℕ → List ℕ → Bool
+  eachWord (x ∷ xs) (y ∷ ys) = test x y && eachWord xs ys
+  eachWord (x ∷ xs) [] = true
+  eachWord [] ys = true
 
-pub bit-zero : (x : ℕ) → bit x 0 ≡ eqb (x % 2) 1
-bit-zero x = ap (λ y. eqb (y % 2) 1) (div-one x)
+  pub words-all : (xs ys : List ℕ) → length xs ≡ length ys → Words xs → Words ys
+      → eachWord xs ys ≡ all (64 * length xs) (λ s. β (mem xs s) (mem ys s))
+  unfolding all
+  words-all [] [] e hx hy = refl
+  words-all [] (y ∷ ys) e hx hy = absurd (omega arith)
+  words-all (x ∷ xs) [] e hx hy = absurd (omega arith)
+  words-all (x ∷ xs) (y ∷ ys) e hx hy =
+      let more : 64 * length (x ∷ xs) ≡ 64 + 64 * length xs = omega arith in
+      rw more
+      (ap₂ _&&_ (bits x y (hx 0) (hy 0) ∙ all-cong 64 _ _ (λ k l. sym (ap₂ β (mem-first x xs k l) (mem-first y ys k l))))
+      (words-all xs ys (omega arith) (λ i. hx (suc i)) (λ i. hy (suc i)) ∙ all-cong (64 * length xs) _ _ (λ s l. sym (ap₂ β (mem-later x xs s) (mem-later y ys s))))
+      ∙ sym (all-split 64 (64 * length xs) _))
 
-pub bit-suc : (x k : ℕ) → bit x (suc k) ≡ bit (x / 2) k
-bit-suc x k = ap (λ y. eqb (y % 2) 1) (ap (λ p. x / p) (pow-suc 2 k ∙ mul-comm (2 ^ k) 2) ∙ sym (div-div-eq-div-mul x 2 (2 ^ k)))
+  -- At one word.
+  pub word-all : (x y : ℕ) → x < 2 ^ 64 → y < 2 ^ 64 → test x y ≡ all 64 (λ s. β (mem (x ∷ []) s) (mem (y ∷ []) s))
+  word-all x y hx hy = sym (and-true (test x y)) ∙ words-all (x ∷ []) (y ∷ []) refl (one-word hx) (one-word hy)
 
-same-digit : (x y : ℕ) → x < 2 → y < 2 → eqb x 1 ≡ eqb y 1 → x ≡ y
-same-digit = on-digits (λ x y. eqb x 1 ≡ eqb y 1 → x ≡ y) (λ e. refl) (λ e. absurd (false≢true e)) (λ e. absurd (true≢false e)) (λ e. refl)
+-- Some bit of a word is set unless it is 0.
+some-bit : (x : ℕ) → x < 2 ^ 64 → eqb x 0 ≡ not (any 64 (bit x))
+some-bit x h = word-empty x h ∙ all-not 64 (bit x)
 
-pub bits-ext : (k x y : ℕ) → x < 2 ^ k → y < 2 ^ k → ((i : ℕ) → i < k → bit x i ≡ bit y i) → x ≡ y
-bits-ext zero x y hx hy same = let hx : x < 1 = hx in let hy : y < 1 = hy in omega arith
-bits-ext (suc k) x y hx hy same =
-    let low : x % 2 ≡ y % 2 = same-digit _ _ (mod-lt x (omega arith)) (mod-lt y (omega arith)) (sym (bit-zero x) ∙ same 0 (omega arith) ∙ bit-zero y) in
-    let high : x / 2 ≡ y / 2 = bits-ext k (x / 2) (y / 2) (half x hx) (half y hy) (λ i l. sym (bit-suc x i) ∙ same (suc i) (omega arith) ∙ bit-suc y i) in
-    omega arith
+any-bit : (x : ℕ) → x < 2 ^ 64 → any 64 (bit x) ≡ not (eqb x 0)
+any-bit x h = turned _ _ (some-bit x h)
+
+-- The least member: that of the first word which is not 0.
+abbrev pub leastIn : List ℕ → ℕ
+leastIn [] = 0
+leastIn (x ∷ xs) = cond (eqb x 0) (64 + leastIn xs) (trailingZeros 64 x)
+
+pub least-words : (xs : List ℕ) → Words xs → leastIn xs ≡ leastWhere (64 * length xs) (mem xs)
+unfolding leastWhere
+least-words [] h = refl
+least-words (x ∷ xs) h =
+    let more : 64 * length (x ∷ xs) ≡ 64 + 64 * length xs = omega arith in
+    rw more
+    (at (eqb x 0) (least-words xs (λ i. h (suc i)))
+    ∙ ap (λ b. cond b (leastWhere 64 (mem (x ∷ xs))) (64 + leastWhere (64 * length xs) (λ s. mem (x ∷ xs) (64 + s))))
+    (sym (any-bit x (h 0)) ∙ any-cong 64 _ _ (λ k l. sym (mem-first x xs k l)))
+    ∙ sym (least-split 64 (64 * length xs) (mem (x ∷ xs))))
   where
-    half : (x : ℕ) → x < 2 ^ suc k → x / 2 < 2 ^ k
-    half x h = let h : x < 2 ^ k * 2 = rw pow-suc at h in omega arith
+    at : (b : Bool) → leastIn xs ≡ leastWhere (64 * length xs) (mem xs) → cond b (64 + leastIn xs) (trailingZeros 64 x)
+        ≡ cond (not b) (leastWhere 64 (mem (x ∷ xs))) (64 + leastWhere (64 * length xs) (λ s. mem (x ∷ xs) (64 + s)))
+    at true e = ap (λ k. 64 + k) (e ∙ least-cong (64 * length xs) (mem xs) (λ s. mem (x ∷ xs) (64 + s)) (λ s l. sym (mem-later x xs s)))
+    at false e = trailing-least 64 x ∙ least-cong 64 (bit x) (mem (x ∷ xs)) (λ k l. sym (mem-first x xs k l))
 
--- Every word of the list is a word of 64 bits.
-abbrev pub Words : List ℕ → Type 0
-Words xs = (i : ℕ) → getD xs i 0 < 2 ^ 64
-
--- Words of 64 bits are the same where their members are.
-pub words-ext : (xs ys : List ℕ) → length xs ≡ length ys → Words xs → Words ys
-    → ((s : ℕ) → s < 64 * length xs → mem xs s ≡ mem ys s) → xs ≡ ys
-unfolding mem
-words-ext xs ys e hx hy same = ext-getD 0 xs ys e (λ i l. bits-ext 64 _ _ (hx i) (hy i) (word i l))
+-- At one word.
+pub least-word : (x : ℕ) → x < 2 ^ 64 → trailingZeros 64 x ≡ leastWhere 64 (mem (x ∷ []))
+least-word x h = at (eqb x 0) refl ∙ least-words (x ∷ []) (one-word h)
   where
-    word : (i : ℕ) → i < length xs → (k : ℕ) → k < 64 → bit (getD xs i 0) k ≡ bit (getD ys i 0) k
-    word i l k h =
-        let q : (i * 64 + k) / 64 ≡ i = omega arith in
-        let r : (i * 64 + k) % 64 ≡ k = omega arith in
-        rw (q, r) at (same (i * 64 + k) (omega arith))
+    at : (b : Bool) → eqb x 0 ≡ b → trailingZeros 64 x ≡ cond b 64 (trailingZeros 64 x)
+    at true e = rw (eqb-true x 0 e) (trailing-of-zero 64)
+    at false e = refl
 
-pub same-words : (xs ys : List ℕ) → length xs ≡ length ys → Words xs → Words ys
-    → (xs ≡ ys) ↔ (all (64 * length xs) (λ s. Bool·beq (mem xs s) (mem ys s)) ≡ true)
-same-words xs ys e hx hy = (λ p. all-intro _ _ (λ s l. rw p (beq-refl (mem ys s))), λ h. words-ext xs ys e hx hy (λ s l. beq-true _ _ (all-at _ _ h s l)))
+-- The words without the least member: x & (x - 1) for the first word x that is not 0.
+abbrev pub lowered : List ℕ → List ℕ
+lowered [] = []
+lowered (x ∷ xs) = cond (eqb x 0) (x ∷ lowered xs) (bitAnd x (x - 1) ∷ xs)
+
+pub mem-lowered : (xs : List ℕ) → Words xs → (s : ℕ) → mem (lowered xs) s ≡ (mem xs s && any s (mem xs))
+mem-lowered [] h s = rw (mem-zeros [] (λ i. refl) s)
+mem-lowered (x ∷ xs) h s = at (decLt s 64) (eqb x 0) refl (mem-lowered xs (λ i. h (suc i)))
+  where
+    first : (t : ℕ) → t < 64 → any t (mem (x ∷ xs)) ≡ any t (bit x)
+    first t l = any-cong t _ _ (λ k m. mem-first x xs k (omega arith))
+
+    later : (t : ℕ) → any (64 + t) (mem (x ∷ xs)) ≡ (not (eqb x 0) || any t (mem xs))
+    later t =
+        any-split 64 t _
+        ∙ ap₂ _||_ (any-cong 64 _ _ (λ k l. mem-first x xs k l) ∙ any-bit x (h 0)) (any-cong t _ _ (λ k l. mem-later x xs k))
+
+    low : (b : Bool) → eqb x 0 ≡ b → s < 64 → mem (cond b (x ∷ lowered xs) (bitAnd x (x - 1) ∷ xs)) s ≡ (bit x s && any s (bit x))
+    low true e l = let none : x ≡ 0 = eqb-true x 0 e in mem-first x (lowered xs) s l ∙ rw (none, bit-nought s)
+    low false e l = mem-first _ xs s l ∙ and-bits x (x - 1) s ∙ bit-lower s x (positive x e)
+      where
+        positive : (x : ℕ) → eqb x 0 ≡ false → 0 < x
+        positive zero e = absurd (true≢false e)
+        positive (suc x) e = omega arith
+
+    high : (t : ℕ) (b : Bool) → eqb x 0 ≡ b → ((t : ℕ) → mem (lowered xs) t ≡ (mem xs t && any t (mem xs)))
+        → mem (cond b (x ∷ lowered xs) (bitAnd x (x - 1) ∷ xs)) (64 + t) ≡ (mem xs t && (not b || any t (mem xs)))
+    high t true e rest = mem-later x (lowered xs) t ∙ rest t
+    high t false e rest = mem-later _ xs t ∙ sym (and-true (mem xs t))
+
+    at : Dec (s < 64) → (b : Bool) → eqb x 0 ≡ b → ((t : ℕ) → mem (lowered xs) t ≡ (mem xs t && any t (mem xs)))
+        → mem (cond b (x ∷ lowered xs) (bitAnd x (x - 1) ∷ xs)) s ≡ (mem (x ∷ xs) s && any s (mem (x ∷ xs)))
+    at (yes l) b e rest = low b e l ∙ sym (ap₂ _&&_ (mem-first x xs s l) (first s l))
+    at (no l) b e rest =
+        let up : s ≡ 64 + (s - 64) = omega arith in
+        rw up (high (s - 64) b e rest ∙ sym (ap₂ _&&_ (mem-later x xs (s - 64)) (later (s - 64) ∙ ap (λ a. not a || any (s - 64) (mem xs)) e)))
 
 -- One word.
 pub mem-word : (op : ℕ → ℕ → ℕ) (β : Bool → Bool → Bool) → Bitwise op β → op 0 0 ≡ 0
@@ -124,114 +172,15 @@ unfolding zipWith
 mem-word op β wise nought x y s = mem-wise op β wise nought (x ∷ []) (y ∷ []) refl s
 
 pub mem-bit : (x s : ℕ) → mem (x ∷ []) s ≡ (ltb s 64 && bit x s)
-unfolding mem
 mem-bit x s = at (decLt s 64)
   where
-    past : (i : ℕ) → 0 < i → bit (getD (x ∷ []) i 0) (s % 64) ≡ false
-    past zero l = absurd (omega arith)
-    past (suc i) l = bit-nought (s % 64)
-
     at : Dec (s < 64) → mem (x ∷ []) s ≡ (ltb s 64 && bit x s)
-    at (yes h) =
-        let q : s / 64 ≡ 0 = omega arith in
-        let r : s % 64 ≡ s = omega arith in
-        rw (q, r, lt-ltb s 64 h)
-    at (no h) = rw (le-ltb s 64 (omega arith)) (past (s / 64) (omega arith))
+    at (yes l) = rw (lt-ltb s 64 l) (mem-first x [] s l)
+    at (no l) = rw (le-ltb s 64 (omega arith)) (not-true-false _ (λ h. l (mem-below (x ∷ []) s h)))
 
 pub mem-nought : (s : ℕ) → mem (0 ∷ []) s ≡ false
-mem-nought s = mem-bit 0 s ∙ ap (λ b. ltb s 64 && b) (bit-nought s) ∙ and-false (ltb s 64)
-
--- `1 << n` is a power of 2, since it is below 2 ^ 64.
-pub shifted : (n : ℕ) → n < 64 → 1 * 2 ^ n % 2 ^ 64 ≡ 2 ^ n
-shifted n h = shl-exact 1 n 64 (omega arith) (omega arith) ∙ one-mul (2 ^ n)
-
-one-word : {x : ℕ} → x < 2 ^ 64 → Words (x ∷ [])
-one-word h zero = h
-one-word h (suc i) = omega arith
-
--- Whether two words are equal is whether they have the same members.
-pub same-word : (x y : ℕ) → x < 2 ^ 64 → y < 2 ^ 64 → eqb x y ≡ all 64 (λ s. Bool·beq (mem (x ∷ []) s) (mem (y ∷ []) s))
-same-word x y hx hy = bool-ext _ _ (λ e. both .0 (ap (λ z. z ∷ []) (eqb-true x y e))) (λ h. eq-eqb x y (ap (λ l. getD l 0 0) (both .1 h)))
+mem-nought = mem-zeros (0 ∷ []) zeros
   where
-    both : ((x ∷ []) ≡ (y ∷ [])) ↔ (all 64 (λ s. Bool·beq (mem (x ∷ []) s) (mem (y ∷ []) s)) ≡ true)
-    both = same-words (x ∷ []) (y ∷ []) refl (one-word hx) (one-word hy)
-
--- A word is within another where the and of the two is the word itself, and is empty where it is 0.
-pub included-word : (x y : ℕ) → x < 2 ^ 64 → y < 2 ^ 64 → eqb (bitAnd x y) x ≡ all 64 (λ s. implies (mem (x ∷ []) s) (mem (y ∷ []) s))
-unfolding implies
-included-word x y hx hy =
-    same-word (bitAnd x y) x (and-lt 64 x y hx hy) hx
-    ∙ all-cong 64 _ _ (λ s l. rw (mem-word bitAnd _&&_ and-bits refl x y s) (kept (mem (x ∷ []) s) (mem (y ∷ []) s)))
-  where
-    kept : (p q : Bool) → Bool·beq (p && q) p ≡ implies p q
-    kept true true = refl
-    kept true false = refl
-    kept false q = refl
-
-pub empty-word : (x : ℕ) → x < 2 ^ 64 → eqb x 0 ≡ not (any 64 (mem (x ∷ [])))
-empty-word x hx =
-    same-word x 0 hx (omega arith) ∙ all-cong 64 _ _ (λ s l. rw (mem-nought s) (beq-false (mem (x ∷ []) s))) ∙ all-not 64 (mem (x ∷ []))
-
--- A word by its halves: the last digit is bit 0, and the rest move up.
-low-bit : (x m d : ℕ) → x ≡ m * 2 + d → d < 2 → bit x 0 ≡ eqb d 1
-low-bit x m d e h = let r : x % 2 ≡ d = omega arith in bit-zero x ∙ ap (λ z. eqb z 1) r
-
-high-bit : (x m d s : ℕ) → x ≡ m * 2 + d → d < 2 → bit x (suc s) ≡ bit m s
-high-bit x m d s e h = let q : x / 2 ≡ m = omega arith in bit-suc x s ∙ ap (λ z. bit z s) q
-
--- The word of the states below n.
-pub bit-ones : (n s : ℕ) → bit (2 ^ n - 1) s ≡ ltb s n
-bit-ones zero s = bit-nought s ∙ sym (le-ltb s 0 zero-le)
-bit-ones (suc n) zero = low-bit (2 ^ suc n - 1) (2 ^ n - 1) 1 (omega (arith, pow-suc 2 n, pow-pos n)) (omega arith) ∙ sym (lt-ltb 0 (suc n) (omega arith))
-bit-ones (suc n) (suc s) =
-    high-bit (2 ^ suc n - 1) (2 ^ n - 1) 1 s (omega (arith, pow-suc 2 n, pow-pos n)) (omega arith) ∙ bit-ones n s ∙ sym (leb·suc-suc (suc s) n)
-
--- The word of the state n alone.
-pub bit-power : (n s : ℕ) → bit (2 ^ n) s ≡ eqb n s
-bit-power zero zero = refl
-bit-power zero (suc s) = high-bit 1 0 1 s refl (omega arith) ∙ bit-nought s ∙ sym (eqb·zero-suc s)
-bit-power (suc n) zero = low-bit (2 ^ suc n) (2 ^ n) 0 (omega (arith, pow-suc 2 n)) (omega arith) ∙ sym (eqb·suc-zero n)
-bit-power (suc n) (suc s) = high-bit (2 ^ suc n) (2 ^ n) 0 s (omega (arith, pow-suc 2 n)) (omega arith) ∙ bit-power n s ∙ sym (eqb·suc-suc n s)
-
--- x & (x - 1) keeps the bits of x that are above another: up to the lowest the two have none in common, and above it the same.
-abbrev Lower : ℕ → ℕ → Type 0
-Lower x s = (bit x s && bit (x - 1) s) ≡ (bit x s && any s (bit x))
-
-lower-odd : (m x : ℕ) → x ≡ m * 2 + 1 → (s : ℕ) → Lower x s
-unfolding any
-lower-odd m x e zero = ap (λ b. bit x 0 && b) (low-bit (x - 1) m 0 (omega arith) (omega arith))
-lower-odd m x e (suc s) =
-    let up = high-bit x m 1 s e (omega arith) in
-    ap₂ _&&_ up (high-bit (x - 1) m 0 s (omega arith) (omega arith)) ∙ twice (bit m s)
-    ∙ sym (ap₂ _&&_ up (any-intro (suc s) (bit x) 0 (omega arith) (low-bit x m 1 e (omega arith))))
-  where
-    twice : (b : Bool) → (b && b) ≡ (b && true)
-    twice true = refl
-    twice false = refl
-
-lower-even : (m x s : ℕ) → x ≡ m * 2 + 0 → 0 < m → Lower m s → Lower x (suc s)
-lower-even m x s e h half =
-    let up : (t : ℕ) → bit x (suc t) ≡ bit m t = λ t. high-bit x m 0 t e (omega arith) in
-    ap₂ _&&_ (up s) (high-bit (x - 1) (m - 1) 1 s (omega arith) (omega arith)) ∙ half
-    ∙ sym (ap₂ _&&_ (up s) (any-first s (bit x) ∙ ap₂ _||_ (low-bit x m 0 e (omega arith)) (any-cong s _ _ (λ t l. up t))))
-
-bit-lower : (s x : ℕ) → 0 < x → Lower x s
-bit-lower zero x h = at (x % 2) refl
-  where
-    at : (r : ℕ) → x % 2 ≡ r → Lower x 0
-    at zero e = let none = low-bit x (x / 2) 0 (omega arith) (omega arith) in ap (λ b. b && bit (x - 1) 0) none ∙ sym (ap (λ b. b && any 0 (bit x)) none)
-    at (suc r) e = lower-odd (x / 2) x (omega arith) 0
-bit-lower (suc s) x h = at (x % 2) refl (bit-lower s (x / 2))
-  where
-    at : (r : ℕ) → x % 2 ≡ r → (0 < x / 2 → Lower (x / 2) s) → Lower x (suc s)
-    at zero e half = lower-even (x / 2) x s (omega arith) (omega arith) (half (omega arith))
-    at (suc r) e half = lower-odd (x / 2) x (omega arith) (suc s)
-
-pub mem-lower : (x s : ℕ) → 0 < x → mem (bitAnd x (x - 1) ∷ []) s ≡ (mem (x ∷ []) s && any s (mem (x ∷ [])))
-mem-lower x s h = mem-bit _ s ∙ ap (λ b. ltb s 64 && b) (and-bits x (x - 1) s ∙ bit-lower s x h) ∙ at (decLt s 64)
-  where
-    at : Dec (s < 64) → (ltb s 64 && (bit x s && any s (bit x))) ≡ (mem (x ∷ []) s && any s (mem (x ∷ [])))
-    at (yes l) =
-        rw (mem-bit x s, lt-ltb s 64 l)
-        (ap (λ b. bit x s && b) (any-cong s _ _ (λ t k. sym (mem-bit x t ∙ ap (λ b. b && bit x t) (lt-ltb t 64 (omega arith))))))
-    at (no l) = rw (mem-bit x s, le-ltb s 64 (omega arith))
+    zeros : (i : ℕ) → _≡_ {A = ℕ} (getD (0 ∷ []) i 0) 0
+    zeros zero = refl
+    zeros (suc i) = refl

@@ -1,16 +1,15 @@
--- Relations between states, as rows of words: row s holds the ends t of the pairs (s,t).
+-- Relations between states, as rows: row s is a set that holds the ends t of the pairs (s,t), entry s of the words.
 use Prim.Native.Nat.{ℕ, zero, suc}
 use mathlib.Core.Path.{_≡_}
 use mathlib.Core.Bool.{Bool, true, _&&_, _||_}
-use mathlib.Core.List.{List, [], _∷_}
-use lib.ListN.{getD}
+use mathlib.Core.List.{List}
 use lib.Dec.{ltb, eqb}
 use Rattle.states.specs.Search.{any}
-use Rattle.states.specs.Sets.{mem}
+use Rattle.states.specs.Sets.{mem, entryAt}
 
 -- Whether (s,t) is a pair of the relation over n states that the rows hold.
 unfoldable pub rel : ℕ → List ℕ → ℕ → ℕ → Bool
-rel n rows s t = ltb s n && ltb t n && mem (getD rows s 0 ∷ []) t
+rel n rows s t = ltb s n && ltb t n && mem (entryAt rows s) t
 
 -- The states reached from a set of starts by zero or more pairs of a relation.
 pub data Reached (from : ℕ → Bool) (r : ℕ → ℕ → Bool) : ℕ → Type 0 where

@@ -17,6 +17,11 @@ unfoldable pub any : ℕ → (ℕ → Bool) → Bool
 any zero p = false
 any (suc n) p = any n p || p n
 
+-- The least state below n at which p holds; n where there is none.
+unfoldable pub leastWhere : ℕ → (ℕ → Bool) → ℕ
+leastWhere zero p = zero
+leastWhere (suc n) p = cond (p zero) zero (suc (leastWhere n (λ s. p (suc s))))
+
 -- What looking for a breach of a condition finds: none where the condition holds, else the states that break it, in the
 -- order in which the condition names them.
 abbrev pub Search : Type 0

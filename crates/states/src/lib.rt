@@ -1,12 +1,22 @@
-// Sets of at most 64 states by value. No function asks anything of its caller, and each promise of a set is of its members.
+// Sets of states by value. No function asks anything of its caller, and each promise of a set is of its members.
+// No other crate knows how many words a set has.
 ghost use mathlib.Core.Path.{_≡_};
 ghost use mathlib.Core.Bool.{false, not, _&&_, _||_, Bool·beq};
 ghost use Prim.Native.Nat.{ℕ};
 ghost use lib.Dec.{ltb, eqb};
-ghost use Rattle.states.specs.Search.{implies, all, any};
-ghost use Rattle.states.specs.Sets.{has};
+ghost use Rattle.states.specs.Search.{implies, all, any, leastWhere};
+ghost use Rattle.states.specs.Sets.{capacity, has};
 
+pub mod entries;
 pub mod relations;
+
+// How many words a set has, and how many states it can hold: 64 to a word.
+pub const SET_WORDS: usize = 1;
+
+pub const CAPACITY: u32 = 64;
+
+// The words of a relation that has a row for each of these states.
+pub const RELATION_WORDS: usize = SET_WORDS * CAPACITY as usize;
 
 // A set of states: state s is at bit s, the lowest bit first.
 pub struct StateSet {
@@ -20,11 +30,11 @@ impl StateSet {
         StateSet { bits: 0 }
     }
 
-    // The states below n; all 64 where n is 64 or more.
+    // The states below n; all capacity where n is 64 or more.
     pub fn below(n: u32) -> StateSet
-        ensures { λ r. ⌜ ((s : ℕ) → has r s ≡ (ltb s 64 && ltb s n)) ⌝ }
+        ensures { λ r. ⌜ ((s : ℕ) → has r s ≡ (ltb s capacity && ltb s n)) ⌝ }
     {
-        if n < 64 {
+        if n < CAPACITY {
             StateSet { bits: (1 << n) - 1 }
         } else {
             StateSet {
@@ -33,11 +43,11 @@ impl StateSet {
         }
     }
 
-    // The state s alone; nothing where s is 64 or more.
+    // The state s alone; nothing where a set cannot hold it.
     pub fn single(s: u32) -> StateSet
-        ensures { λ r. ⌜ ((t : ℕ) → has r t ≡ (ltb t 64 && eqb s t)) ⌝ }
+        ensures { λ r. ⌜ ((t : ℕ) → has r t ≡ (ltb t capacity && eqb s t)) ⌝ }
     {
-        if s < 64 {
+        if s < CAPACITY {
             StateSet { bits: 1 << s }
         } else {
             StateSet { bits: 0 }
@@ -69,6 +79,13 @@ impl StateSet {
         }
     }
 
+    // The least state of the set; CAPACITY where it is empty.
+    pub fn least(self) -> u32
+        ensures { λ r. ⌜ r ≡ leastWhere capacity (has self) ⌝ }
+    {
+        u64::trailing_zeros(self.bits)
+    }
+
     // The set without its least state; nothing where it is empty.
     pub fn without_least(self) -> StateSet
         ensures { λ r. ⌜ ((s : ℕ) → has r s ≡ (has self s && any s (λ t. has self t))) ⌝ }
@@ -85,7 +102,7 @@ impl StateSet {
     pub fn holds_state(self, s: u32) -> bool
         ensures { λ r. ⌜ r ≡ has self s ⌝ }
     {
-        if s < 64 {
+        if s < CAPACITY {
             (self.bits >> s) % 2 == 1
         } else {
             false
@@ -93,19 +110,19 @@ impl StateSet {
     }
 
     pub fn included(self, other: StateSet) -> bool
-        ensures { λ r. ⌜ r ≡ all 64 (λ s. implies (has self s) (has other s)) ⌝ }
+        ensures { λ r. ⌜ r ≡ all capacity (λ s. implies (has self s) (has other s)) ⌝ }
     {
         self.bits & other.bits == self.bits
     }
 
     pub fn same(self, other: StateSet) -> bool
-        ensures { λ r. ⌜ r ≡ all 64 (λ s. Bool·beq (has self s) (has other s)) ⌝ }
+        ensures { λ r. ⌜ r ≡ all capacity (λ s. Bool·beq (has self s) (has other s)) ⌝ }
     {
         self.bits == other.bits
     }
 
     pub fn is_empty(self) -> bool
-        ensures { λ r. ⌜ r ≡ not (any 64 (λ s. has self s)) ⌝ }
+        ensures { λ r. ⌜ r ≡ not (any capacity (λ s. has self s)) ⌝ }
     {
         self.bits == 0
     }

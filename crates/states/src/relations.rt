@@ -1,46 +1,42 @@
-// Relations between n states as rows of words: row s holds the ends of the pairs that start in s, and a row past the end of
-// the slice is empty. Every function takes any n and any rows, and sees only the pairs between states below n.
+// Relations between n states as rows: row s is entry s of the words and holds the ends of the pairs that start in s; a row past the end
+// of the slice is empty. Every function takes any n and any rows, and sees only the pairs between states below n.
+use crate::CAPACITY;
+use crate::RELATION_WORDS;
 use crate::StateSet;
+use crate::entries::entry_at;
+use crate::entries::put_entry;
 ghost use mathlib.Core.Path.{_≡_};
 ghost use mathlib.Core.Logic.{_↔_};
 ghost use mathlib.Core.Bool.{true, _&&_, _||_, Bool·beq};
-ghost use mathlib.Core.List.{[], _∷_};
-ghost use Prim.Native.Nat.{ℕ, _<_, _≤_};
-ghost use lib.ListN.{getD, length};
+ghost use Prim.Native.Nat.{ℕ, _*_, _<_, _≤_};
+ghost use lib.ListN.{length};
 ghost use lib.Dec.{ltb, eqb};
 ghost use Rattle.states.specs.Search.{implies, all, any};
-ghost use Rattle.states.specs.Sets.{mem, has};
+ghost use Rattle.states.specs.Sets.{setWords, capacity, mem, has, entryAt};
 ghost use Rattle.states.specs.Relations.{rel, Reached};
-
-fn word(rows: &[u64], i: usize) -> u64
-    ensures { λ r. ⌜ r ≡ getD (now (rows .entry)) i 0 ⌝ }
-{
-    if i < rows.len() { rows[i] } else { 0 }
-}
 
 // The ends of the pairs that start in s.
 pub fn row(n: u32, rows: &[u64], s: u32) -> StateSet
     ensures { λ r. ⌜ ((t : ℕ) → has r t ≡ rel n (now (rows .entry)) s t) ⌝ }
 {
     if s < n {
-        let bits = word(rows, s as usize);
-        StateSet { bits }.meet(StateSet::below(n))
+        entry_at(rows, s as usize).meet(StateSet::below(n))
     } else {
         StateSet::empty()
     }
 }
 
-// How many of n states have a row in 64 rows.
+// How many of n states a set can hold.
 fn rows_held(n: u32) -> u32
-    ensures { λ r. ⌜ (r ≤ 64) × ((s : ℕ) → s < 64 → s < n → s < r) × (r ≤ n) ⌝ }
+    ensures { λ r. ⌜ (r ≤ capacity) × ((s : ℕ) → s < capacity → s < n → s < r) × (r ≤ n) ⌝ }
 {
-    if n < 64 { n } else { 64 }
+    if n < CAPACITY { n } else { CAPACITY }
 }
 
 // How many of these rows the slice has, so that a loop over them need not ask at each where the slice or a set ends.
 fn rows_there(n: u32, rows: &[u64]) -> u32
     ensures { λ r.
-        ⌜ (r ≤ n) × (r ≤ length (now (rows .entry))) × ((s : ℕ) → s < 64 → s < n → s < length (now (rows .entry)) → s < r) ⌝ }
+        ⌜ (r ≤ n) × (r ≤ length (now (rows .entry))) × ((s : ℕ) → s < capacity → s < n → setWords * s < length (now (rows .entry)) → s < r) ⌝ }
 {
     let held = rows_held(n);
     if (held as usize) < rows.len() {
@@ -58,8 +54,8 @@ pub fn image(n: u32, set: StateSet, rows: &[u64]) -> StateSet
     let there = rows_there(n, rows);
     let mut rest = set.meet(StateSet::below(there));
     let mut ends = StateSet::empty();
-    while rest.bits != 0 {
-        let first = u64::trailing_zeros(rest.bits);
+    while !rest.is_empty() {
+        let first = rest.least();
         let bits = rows[first as usize];
         ends = ends.join(StateSet { bits });
         rest = rest.without_least();
@@ -69,7 +65,7 @@ pub fn image(n: u32, set: StateSet, rows: &[u64]) -> StateSet
 
 // The states found so far, with s where its row is not empty.
 fn with_start(row: StateSet, s: u32, found: StateSet) -> StateSet
-    ensures { λ r. ⌜ ((t : ℕ) → has r t ≡ (has found t || ltb t 64 && any 64 (λ u. has row u) && eqb s t)) ⌝ }
+    ensures { λ r. ⌜ ((t : ℕ) → has r t ≡ (has found t || ltb t capacity && any capacity (λ u. has row u) && eqb s t)) ⌝ }
 {
     if row.is_empty() {
         found
@@ -80,7 +76,7 @@ fn with_start(row: StateSet, s: u32, found: StateSet) -> StateSet
 
 // The states that start a pair, of those that a set can hold.
 pub fn starting(n: u32, rows: &[u64]) -> StateSet
-    ensures { λ r. ⌜ ((s : ℕ) → has r s ≡ (ltb s 64 && any n (rel n (now (rows .entry)) s))) ⌝ }
+    ensures { λ r. ⌜ ((s : ℕ) → has r s ≡ (ltb s capacity && any n (rel n (now (rows .entry)) s))) ⌝ }
 {
     let states = StateSet::below(n);
     let mut found = StateSet::empty();
@@ -91,15 +87,14 @@ pub fn starting(n: u32, rows: &[u64]) -> StateSet
     found
 }
 
-// The pairs of a and the pairs of b that start in the first 64 states, in a row for each of these.
-pub fn union_of(n: u32, a: &[u64], b: &[u64]) -> [u64; 64]
+// The pairs of a and the pairs of b that start in a state that a set can hold, in a row for each of these.
+pub fn union_of(n: u32, a: &[u64], b: &[u64]) -> [u64; RELATION_WORDS]
     ensures { λ r.
-        ⌜ ((s t : ℕ) → mem (getD r s 0 ∷ []) t ≡ (ltb s 64 && (rel n (now (a .entry)) s t || rel n (now (b .entry)) s t))) ⌝ }
+        ⌜ ((s t : ℕ) → mem (entryAt r s) t ≡ (ltb s capacity && (rel n (now (a .entry)) s t || rel n (now (b .entry)) s t))) ⌝ }
 {
-    let mut rows = [0u64; 64];
+    let mut rows = [0u64; RELATION_WORDS];
     for s in 0..rows_held(n) {
-        let ends = row(n, a, s).join(row(n, b, s));
-        rows[s as usize] = ends.bits;
+        put_entry(&mut rows, s as usize, row(n, a, s).join(row(n, b, s)));
     }
     rows
 }

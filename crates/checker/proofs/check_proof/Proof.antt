@@ -1,5 +1,5 @@
 -- By what reading the proof file found, and then by the verdict of the loop.
-use mathlib.Core.Path.{_≡_, refl, sym, _∙_, ap}
+use mathlib.Core.Path.{_≡_, sym, _∙_, ap}
 use borrow.Author.Needs.{needs}
 use Rattle.semantics.specs.States.{product}
 use Rattle.derivation.specs.Tables.{written}

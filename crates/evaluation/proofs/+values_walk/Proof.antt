@@ -1,4 +1,4 @@
--- One level of reading says what is at the node; the walks of the operands give their rows, and bound what they hold.
+-- Reading one level says what is at the node. The walks of the operands give their rows and bound the integers in them.
 use Prim.Native.Nat.{ℕ, _<_}
 use native.Mathlib.Nat.{pos-of-ne-zero}
 use native.Mathlib.Omega.{arith}
@@ -9,6 +9,7 @@ use mir.Facts.{toZ-ofZ}
 use borrow.Author.Needs.{needs}
 use borrow.Fn.Kinds.{In}
 use borrow.Fn.PlainCycle.{Measures, is, falls, and}
+use Rattle.states.specs.Sets.{capacity}
 use Rattle.handler.specs.declared.expressions.ExprHead.{ExprHead}
 use Rattle.handler.specs.Header.{machineIn}
 use Rattle.handler.proofs.Folds.{Headed}
@@ -57,7 +58,7 @@ callees t = (
   apply-op-reads.Learnt,
 )
 
--- Where the node's head is known.
+-- The place of a node whose head has been read.
 abbrev place : (t : ℕ) → lts.After-expr-head-at (callees t) (now-at t) values-walk.Post → Place
 place t b =
     let k = b .before .before .before in
@@ -77,7 +78,7 @@ place t b =
 node-is : (t : ℕ) (b : lts.After-expr-head-at (callees t) (now-at t) values-walk.Post) (h : ExprHead) → b .expr-head-at .result ≡ h → headAt (place t b) ≡ h
 node-is t b h e = rw (← b .expr-head-at .ensures) e
 
--- Where the left operand is walked.
+-- An operation whose left operand has been walked.
 abbrev operation : (t : ℕ) → lts.After-values-walk (callees t) (now-at t) values-walk.Post → Operation
 operation t w =
     let k = w .before in
@@ -130,7 +131,7 @@ returns-4 t c =
     let b = k .before .before .before in
     let made = c .integers-of .ensures in
     walked-integer (place t b) _ _ (node-is t b _ (k .before .node .given .1)) _
-    (made .0, made .1, made .2, made .3 ∙ ap (λ z. replicate 64 z) (toZ-ofZ {w = w64} {z = k .before .node .given .0 .0} (record { sfits = k .known-told .given .0 .1 })))
+    (made .0, made .1, made .2, made .3 ∙ ap (λ z. replicate capacity z) (toZ-ofZ {w = w64} {z = k .before .node .given .0 .0} (record { sfits = k .known-told .given .0 .1 })))
 
 returns-5 : (t : ℕ) → lts.Need-returns-5 (callees t) (now-at t) values-walk.Post
 returns-5 t c =

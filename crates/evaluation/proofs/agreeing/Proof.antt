@@ -1,4 +1,4 @@
--- The states at which the variable has the value that it has at s.
+-- The states are those at which the variable has the value that it has at s.
 use Prim.Native.Nat.{ℕ}
 use native.Mathlib.Nat.{mod-lt}
 use mathlib.Core.Bool.{Bool, true, false, _&&_}
@@ -12,14 +12,14 @@ use Rattle.evaluation.proofs.Laws.{Small, small}
 use Rattle.evaluation.proofs.agreeing.Statement.{statement}
 use Rattle.evaluation.proofs.agreeing.Tie as tie
 
--- What is asked before anything is divided.
+-- The test before the division, in the words of the definition.
 asked : (c : tie.After-is-small) (b : Bool) → let a = c .before .args in (c .is-small .result && ltb (a .s) (a .x .states)) ≡ b → (isSmall (a .x) && ltb (a .s) (a .x .states)) ≡ b
 asked c b e = rw (← c .is-small .ensures) e
 
 known : (c : tie.After-struct-known2) → Small (c .before .before .before .before .args .x)
 known c = small _ (and-left _ _ (asked (c .before .before .before) true (c .before .if1 .taken)))
 
--- The states that have the value that s has; none where s is no state.
+-- Where s is a state, the states with its value agree with it; where it is not, none do.
 module _ (x : Variable) (s t : ℕ) where
   agree-there : (isSmall x && ltb s (x .states)) ≡ true → agreeIn x s t ≡ (ltb t (x .states) && eqb (valueBy x s) (valueBy x t))
   unfolding agreeIn

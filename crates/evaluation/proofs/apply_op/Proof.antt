@@ -1,4 +1,4 @@
--- Where both operands are integers, or both truth values, the function for that kind says it; else there is no value.
+-- If both operands are integers, or both are truth values, the function for that kind gives the values; otherwise there are none.
 use Prim.Native.Nat.{ℕ, zero, suc, _<_}
 use native.Mathlib.Omega.{arith}
 use mathlib.Core.Bool.{Bool}
@@ -11,35 +11,35 @@ use lib.ListN.{getD}
 use Rattle.states.specs.Sets.{has}
 use Rattle.semantics.specs.Language.{int, truth, apply}
 use Rattle.semantics.specs.States.{both}
-use Rattle.evaluation.specs.Refinement.{integerIn}
+use Rattle.evaluation.specs.Refinement.{integersKind, truthsKind, nothingKind, integerIn}
 use Rattle.evaluation.proofs.apply_op.Statement.{statement}
 use Rattle.evaluation.proofs.apply_op.Tie as tie
 
--- An integer and a truth value.
-misfit : (o k j : ℕ) (x y : ℤ) (a b : Bool) → (k ≡ j → ⊥) → k < 2 → j < 2
+-- An operation on an integer and a truth value has no value.
+mixed-kinds : (o k j : ℕ) (x y : ℤ) (a b : Bool) → (k ≡ j → ⊥) → k < nothingKind → j < nothingKind
     → none ≡ both (apply o) (getD (some (int x) ∷ some (truth a) ∷ []) k none) (getD (some (int y) ∷ some (truth b) ∷ []) j none)
-misfit o zero zero x y a b other l m = absurd (other refl)
-misfit o zero (suc zero) x y a b other l m = refl
-misfit o (suc zero) zero x y a b other l m = refl
-misfit o (suc zero) (suc zero) x y a b other l m = absurd (other refl)
-misfit o (suc (suc k)) j x y a b other l m = absurd (omega arith)
-misfit o zero (suc (suc j)) x y a b other l m = absurd (omega arith)
-misfit o (suc zero) (suc (suc j)) x y a b other l m = absurd (omega arith)
+mixed-kinds o zero zero x y a b other l m = absurd (other refl)
+mixed-kinds o zero (suc zero) x y a b other l m = refl
+mixed-kinds o (suc zero) zero x y a b other l m = refl
+mixed-kinds o (suc zero) (suc zero) x y a b other l m = absurd (other refl)
+mixed-kinds o (suc (suc k)) j x y a b other l m = absurd (omega arith)
+mixed-kinds o zero (suc (suc j)) x y a b other l m = absurd (omega arith)
+mixed-kinds o (suc zero) (suc (suc j)) x y a b other l m = absurd (omega arith)
 
 returns : tie.Need-returns
 returns c =
     let made = c .of-integers .ensures in
     let a = c .before .before .before .before .before .before .args in
-    let left : a .left .kind ≡ 0 = c .before .if2 .taken in
-    let right : a .right .kind ≡ 0 = sym (c .before .before .before .if1 .taken) ∙ left in
+    let left : a .left .kind ≡ integersKind = c .before .if2 .taken in
+    let right : a .right .kind ≡ integersKind = sym (c .before .before .before .if1 .taken) ∙ left in
     (made .0, made .1, λ s l. (made .2 s l .0 ∙ rw (left, right), made .2 s l .1))
 
 returns-2 : tie.Need-returns-2
 returns-2 c =
     let made = c .of-truths .ensures in
     let a = c .before .before .before .before .before .before .args in
-    let left : a .left .kind ≡ 1 = omega arith in
-    let right : a .right .kind ≡ 1 = sym (c .before .before .before .if1 .taken) ∙ left in
+    let left : a .left .kind ≡ truthsKind = omega arith in
+    let right : a .right .kind ≡ truthsKind = sym (c .before .before .before .if1 .taken) ∙ left in
     (made .0, made .1, λ s l. (made .2 s l .0 ∙ rw (left, right), made .2 s l .1))
 
 returns-3 : tie.Need-returns-3
@@ -50,7 +50,7 @@ returns-3 c =
       made .1,
       made .2,
       λ s l. (
-        rw (made .0) (misfit (a .o) (a .left .kind) (a .right .kind) (integerIn (a .left) s) (integerIn (a .right) s)
+        rw (made .0) (mixed-kinds (a .o) (a .left .kind) (a .right .kind) (integerIn (a .left) s) (integerIn (a .right) s)
             (has (a .left .truths) s) (has (a .right .truths) s) (c .before .if1 .left) (k .pre .1) (k .pre .2)),
         rw (made .3 s) (omega arith),
       ),

@@ -1,4 +1,4 @@
--- The tests are the definition's.
+-- The code tests what the definition says.
 use mathlib.Core.Path.{refl}
 use Rattle.evaluation.specs.Values.{isSmall}
 use Rattle.evaluation.proofs.is_small.Statement.{statement}

@@ -1,13 +1,13 @@
--- Every integer of the row is 0, past its end too.
+-- Every integer of the row is 0, also past its end.
 use mathlib.Core.Path.{refl}
 use borrow.Author.Needs.{needs}
 use lib.IntN.{pos}
-use Rattle.states.proofs.Entries.{entry-none}
+use Rattle.states.proofs.Cells.{cell-none}
 use Rattle.evaluation.proofs.nothing.Statement.{statement}
 use Rattle.evaluation.proofs.nothing.Tie as tie
 
 returns : tie.Need-returns
-returns c = (refl, refl, refl, entry-none (pos 0))
+returns c = (refl, refl, refl, cell-none (pos 0))
 
 pub nothing-spec : {M : Type 1} → statement M
 nothing-spec = tie.close (tie.spec (λ c κs. search needs) returns)

@@ -14,13 +14,13 @@ use Rattle.evaluation.specs.Values.{exprRead, exprIn}
 use Rattle.evaluation.proofs.occurrences_at.Statement.{statement}
 use Rattle.evaluation.proofs.occurrences_at.Tie as tie
 
--- No occurrence is of no variable.
+-- With an empty mask no occurrence counts.
 none-occur : (e : Expr) → occurrences (inMask 0) e ≡ 0
 none-occur (lit c) = refl
 none-occur (var v) = rw (zero-div (2 ^ v))
 none-occur (op o l r) = rw (none-occur l, none-occur r)
 
--- How many occurrences of masked variables a shape counts.
+-- How many occurrences of variables in the mask a shape counts.
 abbrev occursIn : ExprShape → ℕ
 occursIn (Whole summary) = summary .occurs
 occursIn (Fault k place) = 0

@@ -1,4 +1,4 @@
--- The first two operations give an integer, the next three a truth value, and the others are not of integers.
+-- The first two operations give an integer and the next three a truth value; the others do not take integers.
 use native.Mathlib.Omega.{arith}
 use mathlib.Core.Option.{none}
 use mathlib.Core.Path.{sym}

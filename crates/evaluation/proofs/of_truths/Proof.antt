@@ -1,4 +1,4 @@
--- Each operation is its row of `ofTruths`, whose first five are those of integers.
+-- The two operations are entries 5 and 6 of `ofTruths`; the others take integers.
 use Prim.Native.Nat.{ℕ, zero, suc}
 use native.Mathlib.Omega.{arith}
 use mathlib.Core.Bool.{Bool}

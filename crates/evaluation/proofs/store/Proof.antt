@@ -1,5 +1,5 @@
--- An integer that is not below 0 is the number that the cast gives. The new value is below the size and the old one is taken out
--- first, so no number leaves the states of 64 by 64.
+-- An integer that is not negative is the number that the cast gives. The old value is subtracted before the new one, which is below
+-- the size, is added, so no number is larger than a state plus the square of the capacity.
 use Prim.Native.Nat.{ℕ, _+_, _-_, _*_, _≤_, _<_}
 use native.Mathlib.Nat.{mod-le, div-mul-le-self, mul-le-mul, mul-le-mul-right, le-trans}
 use native.Mathlib.Omega.{arith}
@@ -14,6 +14,7 @@ use lib.Signed.{ltZ, nonNeg, pos-natAbs}
 use mir.Syntax.{w64}
 use mir.Val.{ofZ, toZ}
 use mir.Facts.{toZ-ofZ, fits-natAbs}
+use Rattle.states.specs.Sets.{capacity}
 use Rattle.evaluation.specs.declared.Variable.{Variable}
 use Rattle.evaluation.specs.Values.{valueBy, isSmall}
 use Rattle.evaluation.specs.Refinement.{storedBy}
@@ -36,14 +37,14 @@ module _ (x : Variable) (s : ℕ) where
   in-range : (n : ℕ) (z : ℤ) → pos n ≡ z → n < x .size → storedBy x s z ≡ some (s - valueBy x s * x .weight + n * x .weight)
   in-range n z is low = ap (storedBy x s) (sym is) ∙ rw (lt-ltb n (x .size) low)
 
-  -- What is taken out is no more than the state.
+  -- What is subtracted is at most the state's number.
   taken : valueBy x s * x .weight ≤ s
   taken = le-trans (mul-le-mul-right (x .weight) (mod-le _ (x .size))) (div-mul-le-self _ (x .weight))
 
-  put : (n : ℕ) → isSmall x ≡ true → n < x .size → n * x .weight ≤ 64 * 64
-  put n h low = mul-le-mul {n₂ = 64} {m₂ = 64} (omega (arith, small x h)) (small x h .light)
+  put : (n : ℕ) → isSmall x ≡ true → n < x .size → n * x .weight ≤ capacity * capacity
+  put n h low = mul-le-mul {n₂ = capacity} {m₂ = capacity} (omega (arith, small x h)) (small x h .light)
 
--- The integer is not below 0.
+-- The integer is not negative.
 is-natural : (c : tie.Else1) → T (nonNeg (c .before .args .z))
 is-natural c = not-below (c .before .args .z) (ap (λ i. ltZ i (pos 0)) (sym (toZ-ofZ (c .before .fits .z))) ∙ c .if1 .left)
 
@@ -57,18 +58,18 @@ returns : tie.Need-returns
 returns c t =
     let k = c .before .before in
     rw (negative (k .args .x) (k .args .s) (k .args .z) (ap (λ i. ltZ i (pos 0)) (sym (toZ-ofZ (k .fits .z))) ∙ c .before .if1 .taken))
-    (c .empty .ensures t ∙ sym (and-false (ltb t 64)))
+    (c .empty .ensures t ∙ sym (and-false (ltb t capacity)))
 
 returns-2 : tie.Need-returns-2
 returns-2 c t =
     let k = c .before .before .before in
     let a = k .before .args in
-    rw (too-large (a .x) (a .s) _ (a .z) (natural k) (c .before .if2 .taken)) (c .empty2 .ensures t ∙ sym (and-false (ltb t 64)))
+    rw (too-large (a .x) (a .s) _ (a .z) (natural k) (c .before .if2 .taken)) (c .empty2 .ensures t ∙ sym (and-false (ltb t capacity)))
 
 mul-single : tie.Need-mul-single
 mul-single c = let a = c .before .before .before .before .before .before .args in omega (arith, taken (a .x) (a .s))
 
-small-put : (l : tie.Else2) → let a = l .before .before .before .args in natAbs (toZ w64 (ofZ w64 (a .z))) * a .x .weight ≤ 64 * 64
+small-put : (l : tie.Else2) → let a = l .before .before .before .args in natAbs (toZ w64 (ofZ w64 (a .z))) * a .x .weight ≤ capacity * capacity
 small-put l = let k = l .before .before .before in put (k .args .x) (k .args .s) _ (k .pre .0) (l .if2 .left)
 
 returns-3 : tie.Need-returns-3

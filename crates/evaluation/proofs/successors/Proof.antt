@@ -1,5 +1,6 @@
--- Row s holds the state after the store at s. The rows below s are filled; those from N on stay empty, where no store leads.
-use Prim.Native.Nat.{ℕ, zero, suc, _-_, _≤_, _<_}
+-- Row s holds the state after the store at s. The loop fills the rows below s; those from N on stay empty, because no store starts
+-- there.
+use Prim.Native.Nat.{ℕ, zero, suc, _-_, _≤_, _<_, zero-le}
 use native.Mathlib.Decide.{decLt}
 use native.Mathlib.Omega.{arith}
 use mathlib.Core.Bool.{Bool, true, false, _&&_}
@@ -10,13 +11,12 @@ use borrow.Author.Needs.{needs, sfits-of}
 use borrow.Author.Tests.{lt-ltb, le-ltb}
 use lib.Dec.{ltb}
 use lib.IntN.{ℤ, pos}
-use lib.ListN.{getD, replicate}
+use lib.ListN.{getD}
 use mir.Syntax.{w64}
 use mir.Facts.{toZ-ofZ}
-use Rattle.states.specs.Sets.{mem, has}
+use Rattle.states.specs.Sets.{capacity, mem, has, entryAt}
 use Rattle.states.proofs.Search.{bool-ext, and-right, and-both}
-use Rattle.states.proofs.Words.{mem-nought}
-use Rattle.states.proofs.Entries.{Entries, entries-none, entries-more, entry-none}
+use Rattle.states.proofs.EntryLaws.{RowsFilled, rows-none, rows-more}
 use Rattle.semantics.specs.Language.{int, truth}
 use Rattle.semantics.specs.States.{Machine, storeOf}
 use Rattle.semantics.specs.Conditions.{afterStore}
@@ -25,22 +25,22 @@ use Rattle.handler.specs.Header.{machineIn}
 use Rattle.evaluation.specs.declared.Values.{Values}
 use Rattle.evaluation.specs.declared.Variable.{Variable}
 use Rattle.evaluation.specs.Values.{exprIn, leadsTo, variableIn, isSmall}
-use Rattle.evaluation.specs.Refinement.{integerIn, valueIn, Evaluated, storedBy}
+use Rattle.evaluation.specs.Refinement.{integersKind, integerIn, valueIn, Evaluated, storedBy}
 use Rattle.evaluation.proofs.Laws.{states-most, after-below, small, variable-small, variable-states, store-variable}
 use Rattle.evaluation.proofs.successors.Statement.{statement}
 use Rattle.evaluation.proofs.successors.Tie as tie
 
--- A word holds the one state after a store of the row's integer.
-abbrev Ends : Variable → List ℤ → ℕ → ℕ → Type 0
-Ends x integers s word = (t : ℕ) → mem (word ∷ []) t ≡ (ltb t 64 && leadsTo (storedBy x s (getD integers s (pos 0))) t)
+-- Whether a store of the row's integer at s leads to t, a state that a set can hold.
+abbrev ends : Variable → List ℤ → ℕ → ℕ → Bool
+ends x integers s t = ltb t capacity && leadsTo (storedBy x s (getD integers s (pos 0))) t
 
 abbrev Inv-loop : tie.InvT-loop
-Inv-loop src v at rows₀ integers x s₀ end rows s = (s ≤ end) × Entries 0 (Ends x integers) s rows
+Inv-loop src v at rows₀ integers x s₀ end rows s = (s ≤ end) × RowsFilled (ends x integers) s rows
 
 abbrev μ-loop : tie.MeasureT-loop
 μ-loop src v at rows₀ integers x s₀ end rows s = end - s
 
-no-integer : (m : Machine) (s v t k : ℕ) (z : ℤ) (b : Bool) → (k ≡ 0 → ⊥)
+no-integer : (m : Machine) (s v t k : ℕ) (z : ℤ) (b : Bool) → (k ≡ integersKind → ⊥)
     → false ≡ leadsTo (storeOf m s v (getD (some (int z) ∷ some (truth b) ∷ []) k none)) t
 no-integer m s v t zero z b other = absurd (other refl)
 no-integer m s v t (suc zero) z b other = refl
@@ -50,52 +50,53 @@ module _ (head : Head) (bytes : List ℕ) (at : ℕ) (row : Values) (known : Eva
   unfoldable after : ℕ → ℕ → Bool
   after s t = leadsTo (afterStore (machineIn head) v (exprIn bytes (head .count) at) s) t
 
-  nowhere : (row .kind ≡ 0 → ⊥) → (s : ℕ) → s < machineIn head .states → (t : ℕ) → mem (0 ∷ []) t ≡ after s t
+  nowhere : (row .kind ≡ integersKind → ⊥) → (s : ℕ) → s < machineIn head .states → (t : ℕ) → false ≡ after s t
   unfolding after afterStore
   nowhere other s l t =
-      mem-nought t ∙ rw (← known .each s l) (no-integer (machineIn head) s v t (row .kind) (integerIn row s) (has (row .truths) s) other)
+      rw (← known .each s l) (no-integer (machineIn head) s v t (row .kind) (integerIn row s) (has (row .truths) s) other)
 
-  stores : row .kind ≡ 0 → (x : Variable) → x ≡ variableIn head v → (s : ℕ) → s < machineIn head .states → (t : ℕ)
-      → (ltb t 64 && leadsTo (storedBy x s (integerIn row s)) t) ≡ after s t
+  stores : row .kind ≡ integersKind → (x : Variable) → x ≡ variableIn head v → (s : ℕ) → s < machineIn head .states → (t : ℕ)
+      → (ltb t capacity && leadsTo (storedBy x s (integerIn row s)) t) ≡ after s t
   unfolding after afterStore
   stores is x same s l t =
       let integer : valueIn row s ≡ some (int (integerIn row s)) = rw is in
       let here : afterStore (machineIn head) v (exprIn bytes (head .count) at) s ≡ storedBy x s (integerIn row s)
       = ap (storeOf (machineIn head) s v) (sym (known .each s l) ∙ integer) ∙ rw same (store-variable head v s l (integerIn row s)) in
       rw (← here)
-      (bool-ext _ _ (and-right (ltb t 64) _) (λ h. and-both _ _ (lt-ltb t 64 (omega (arith, after-below head v (exprIn bytes (head .count) at) s t l h, states-most head))) h))
+      (bool-ext _ _ (and-right (ltb t capacity) _) (λ h. and-both _ _ (lt-ltb t capacity (omega (arith, after-below head v (exprIn bytes (head .count) at) s t l h, states-most head))) h))
 
-  -- Rows that are as wanted below N and 0 from there on.
-  filled : (rows : List ℕ) → ((s : ℕ) → s < machineIn head .states → (t : ℕ) → mem (getD rows s 0 ∷ []) t ≡ after s t)
-      → ((s : ℕ) → machineIn head .states ≤ s → getD rows s 0 ≡ 0)
-      → (s t : ℕ) → mem (getD rows s 0 ∷ []) t ≡ (ltb s (machineIn head .states) && after s t)
+  -- Rows that hold the states after the stores below N and are empty from N on.
+  filled : (rows : List ℕ) → ((s : ℕ) → s < machineIn head .states → (t : ℕ) → mem (entryAt rows s) t ≡ after s t)
+      → ((s : ℕ) → machineIn head .states ≤ s → (t : ℕ) → mem (entryAt rows s) t ≡ false)
+      → (s t : ℕ) → mem (entryAt rows s) t ≡ (ltb s (machineIn head .states) && after s t)
   filled rows below past s t = by (decLt s (machineIn head .states))
     where
-      by : Dec (s < machineIn head .states) → mem (getD rows s 0 ∷ []) t ≡ (ltb s (machineIn head .states) && after s t)
+      by : Dec (s < machineIn head .states) → mem (entryAt rows s) t ≡ (ltb s (machineIn head .states) && after s t)
       by (yes l) = rw (lt-ltb s (machineIn head .states) l) (below s l t)
-      by (no l) = rw (le-ltb s (machineIn head .states) (omega arith), past s (omega arith)) (mem-nought t)
+      by (no l) = rw (le-ltb s (machineIn head .states) (omega arith)) (past s (omega arith) t)
 
 returns : tie.Need-returns Inv-loop μ-loop
 unfolding after
 returns c =
     let known = c .before .before .values-at .ensures in
-    filled _ _ _ _ known _ (replicate 64 0)
-    (λ s l. rw (entry-none {A = ℕ} 0 s) (nowhere _ _ _ _ known _ (c .if1 .taken) s l)) (λ s l. entry-none 0 s)
+    let none = rows-none (λ s t. false) .rest in
+    filled _ _ _ _ known _ _ (λ s l t. none s zero-le t ∙ nowhere _ _ _ _ known _ (c .if1 .taken) s l t) (λ s l. none s zero-le)
 
 -- The variable's numbers are small.
 small-variable : (k : tie.After-variable-of Inv-loop μ-loop) → isSmall (k .variable-of .result) ≡ true
 small-variable k = ap isSmall (k .variable-of .ensures) ∙ variable-small _ _
 
 loop-again : tie.Need-loop-again Inv-loop μ-loop
-unfolding has
 loop-again c =
-    let l = c .before .before .before in
+    let d = c .before .before .before in
+    let l = d .before .before .before in
     let x = l .before .variable-of .result in
     let integers = l .before .before .before .before .before .values-at .result .integers in
-    let same = toZ-ofZ {w = w64} {z = getD integers (l .loop .s) (pos 0)} (sfits-of (c .before .store-arg .given)) in (
+    let same = toZ-ofZ {w = w64} {z = getD integers (l .loop .s) (pos 0)} (sfits-of (d .before .store-arg .given)) in (
       omega arith,
-      entries-more 0 (Ends x integers) _ _ _ (omega (arith, small x (small-variable (l .before))))
-          (λ t. c .store .ensures t ∙ ap (λ z. ltb t 64 && leadsTo (storedBy x (l .loop .s) z) t) same) (l .loop .inv .1),
+      rw (c .before .put-entry .ensures)
+          (rows-more (ends x integers) (l .loop .s) _ _ (omega (arith, small x (small-variable (l .before))))
+          (λ t. d .store .ensures t ∙ ap (λ z. ltb t capacity && leadsTo (storedBy x (l .loop .s) z) t) same) (l .loop .inv .1)),
     )
 
 returns-2 : tie.Need-returns-2 Inv-loop μ-loop
@@ -113,8 +114,7 @@ returns-2 c =
 pub successors-spec : {M : Type 1} → statement M
 successors-spec =
     tie.close
-    (tie.spec Inv-loop μ-loop (λ c κs. search needs) returns (λ c κs. search needs) (λ c. (omega arith, entries-none 0 _)) (λ c. search needs)
+    (tie.spec Inv-loop μ-loop (λ c κs. search needs) returns (λ c κs. search needs) (λ c. (omega arith, rows-none _)) (λ c. search needs)
     (λ c. search needs) (λ c. omega (arith, small _ (small-variable (c .before .before))))
     (λ c κs. let h = small-variable (c .before .before .before) in (h, omega (arith, small _ h))) (λ c. search needs)
-    (λ c. search needs) (λ c. omega (arith, small _ (small-variable (c .before .before .before .before)))) (λ c. search needs)
-    (λ c. search needs) loop-again returns-2)
+    (λ c. search needs) (λ c κs. search needs) (λ c. search needs) (λ c. search needs) loop-again returns-2)

@@ -1,5 +1,5 @@
--- A row of truth values says where the test is true; of the N states, the others are those where it is false. Any other row has
--- no truth value at any state.
+-- A row of truth values says where the test is true; at the rest of the N states it is false. Any other row has no truth value at
+-- any state.
 use Prim.Native.Nat.{ℕ, zero, suc, _<_}
 use native.Mathlib.Decide.{decLt}
 use native.Mathlib.Omega.{arith}
@@ -12,7 +12,7 @@ use borrow.Author.Tests.{lt-ltb, le-ltb}
 use lib.Dec.{ltb}
 use lib.IntN.{ℤ}
 use lib.ListN.{getD}
-use Rattle.states.specs.Sets.{has}
+use Rattle.states.specs.Sets.{capacity, has}
 use Rattle.semantics.specs.Language.{int, truth}
 use Rattle.semantics.specs.States.{value, isTruth}
 use Rattle.semantics.specs.Conditions.{isTrue, isFalse}
@@ -20,12 +20,12 @@ use Rattle.handler.specs.declared.head.Head.{Head}
 use Rattle.handler.specs.Header.{machineIn}
 use Rattle.evaluation.specs.declared.Values.{Values}
 use Rattle.evaluation.specs.Values.{exprIn}
-use Rattle.evaluation.specs.Refinement.{integerIn, valueIn, Evaluated}
+use Rattle.evaluation.specs.Refinement.{truthsKind, integerIn, valueIn, Evaluated}
 use Rattle.evaluation.proofs.Laws.{states-most}
 use Rattle.evaluation.proofs.truths_at.Statement.{statement}
 use Rattle.evaluation.proofs.truths_at.Tie as tie
 
-no-truth : (wanted : Bool) (k : ℕ) (z : ℤ) (b : Bool) → (k ≡ 1 → ⊥) → false ≡ isTruth wanted (getD (some (int z) ∷ some (truth b) ∷ []) k none)
+no-truth : (wanted : Bool) (k : ℕ) (z : ℤ) (b : Bool) → (k ≡ truthsKind → ⊥) → false ≡ isTruth wanted (getD (some (int z) ∷ some (truth b) ∷ []) k none)
 no-truth wanted zero z b other = refl
 no-truth wanted (suc zero) z b other = absurd (other refl)
 no-truth wanted (suc (suc k)) z b other = refl
@@ -34,29 +34,29 @@ not-as : (b : Bool) → not b ≡ isTruth false (some (truth b))
 not-as true = refl
 not-as false = refl
 
--- A set of states by a row, and the test at these states.
+-- What a row says about the test at each state.
 module _ (head : Head) (bytes : List ℕ) (at : ℕ) (row : Values) (known : Evaluated head bytes at row) where
   unfoldable test : Bool → ℕ → Bool
   test wanted s = ltb s (machineIn head .states) && isTruth wanted (value (machineIn head) (exprIn bytes (head .count) at) s)
 
   tested : (wanted : Bool) (s n : ℕ) (b : Bool) → n ≡ machineIn head .states → b ≡ isTruth wanted (valueIn row s)
-      → (ltb s 64 && ltb s n && b) ≡ test wanted s
+      → (ltb s capacity && ltb s n && b) ≡ test wanted s
   unfolding test
   tested wanted s n b all is = by (decLt s n)
     where
-      by : Dec (s < n) → (ltb s 64 && ltb s n && b) ≡ test wanted s
-      by (yes l) = rw (← all, lt-ltb s n l, lt-ltb s 64 (omega (arith, states-most head))) (is ∙ ap (isTruth wanted) (known .each s (rw (← all) l)))
-      by (no l) = rw (← all, le-ltb s n (omega arith), and-false (ltb s 64))
+      by : Dec (s < n) → (ltb s capacity && ltb s n && b) ≡ test wanted s
+      by (yes l) = rw (← all, lt-ltb s n l, lt-ltb s capacity (omega (arith, states-most head))) (is ∙ ap (isTruth wanted) (known .each s (rw (← all) l)))
+      by (no l) = rw (← all, le-ltb s n (omega arith), and-false (ltb s capacity))
 
-  none-true : (row .kind ≡ 1 → ⊥) → (wanted : Bool) (s : ℕ) → false ≡ test wanted s
+  none-true : (row .kind ≡ truthsKind → ⊥) → (wanted : Bool) (s : ℕ) → false ≡ test wanted s
   none-true other wanted s =
-      sym (and-false (ltb s 64 && ltb s (machineIn head .states)))
+      sym (and-false (ltb s capacity && ltb s (machineIn head .states)))
       ∙ tested wanted s _ false refl (no-truth wanted (row .kind) (integerIn row s) (has (row .truths) s) other)
 
-  held : row .kind ≡ 1 → (s n : ℕ) → n ≡ machineIn head .states → (ltb s 64 && ltb s n && has (row .truths) s) ≡ test true s
+  held : row .kind ≡ truthsKind → (s n : ℕ) → n ≡ machineIn head .states → (ltb s capacity && ltb s n && has (row .truths) s) ≡ test true s
   held is s n all = tested true s n (has (row .truths) s) all (rw is)
 
-  failed : row .kind ≡ 1 → (s n : ℕ) → n ≡ machineIn head .states → (ltb s 64 && ltb s n && not (has (row .truths) s)) ≡ test false s
+  failed : row .kind ≡ truthsKind → (s n : ℕ) → n ≡ machineIn head .states → (ltb s capacity && ltb s n && not (has (row .truths) s)) ≡ test false s
   failed is s n all = tested false s n (not (has (row .truths) s)) all (rw is (not-as (has (row .truths) s)))
 
 returns : tie.Need-returns

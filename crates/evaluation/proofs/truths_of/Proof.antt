@@ -1,12 +1,12 @@
--- Every integer of the row is 0, past its end too.
+-- Every integer of the row is 0, also past its end.
 use mathlib.Core.Path.{refl}
 use lib.IntN.{pos}
-use Rattle.states.proofs.Entries.{entry-none}
+use Rattle.states.proofs.Cells.{cell-none}
 use Rattle.evaluation.proofs.truths_of.Statement.{statement}
 use Rattle.evaluation.proofs.truths_of.Tie as tie
 
 returns : tie.Need-returns
-returns c = (refl, refl, refl, refl, entry-none (pos 0))
+returns c = (refl, refl, refl, refl, cell-none (pos 0))
 
 pub truths-of-spec : {M : Type 1} → statement M
 truths-of-spec = tie.close (tie.spec returns)

@@ -1,4 +1,4 @@
--- A walk with all its levels.
+-- The values are those of a walk with all levels left.
 use borrow.Author.Needs.{needs}
 use Rattle.evaluation.proofs.Walking.{whole-value}
 use Rattle.evaluation.proofs.values_at.Statement.{statement}

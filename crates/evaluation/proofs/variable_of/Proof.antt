@@ -1,4 +1,4 @@
--- The definition's two cases.
+-- The two branches are the two cases of the definition.
 use mathlib.Core.Path.{sym, _∙_}
 use borrow.Author.Needs.{needs}
 use Rattle.evaluation.specs.Values.{variableIn}

@@ -1,4 +1,4 @@
--- The product so far is that of the sizes from `later` on; it is no larger than N, so it fits.
+-- The product so far is that of the sizes from `later` on; it is at most N, so it fits.
 use Prim.Native.Nat.{suc, _*_, _-_, _≤_, _<_}
 use native.Mathlib.Omega.{arith}
 use mathlib.Core.Path.{_≡_, sym, ap₂, _∙_}

@@ -48,7 +48,7 @@ use denote.Triple.Spec.{Meets, tripleOf}
 use denote.Triple.Table.{entered, cited}
 use denote.Triple.Walked.{says, Stays, stay-none, stay-none-slice, walkOf, goes-none, goes-none-slice, Walks, ends-at, walked, walk-meets}
 use denote.Exit.{yes}
-use Rattle.reader.specs.Reading.{answerOf, movedOn, pairOf}
+use Rattle.reader.specs.Reading.{answerOf, movedOn, twoAnswers}
 use Rattle.reader.specs.declared.Reader.{Reader}
 use Rattle.reader.specs.declared.Answer.{Answer}
 use Rattle.reader.specs.declared.Pair.{Pair}
@@ -167,7 +167,7 @@ module _ {M : Type 1} (𝓤 : URA M) (H : Heap 𝓤) (A : Atoms 𝓤) (W : Given
     r₁ = movedOn r₀ n
 
     abbrev both : Pair
-    both = pairOf (now s) p n m
+    both = twoAnswers (now s) p n m
 
     abbrev low : Val
     low = LL.val P.the-type P′.the-laws both

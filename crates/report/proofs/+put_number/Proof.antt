@@ -7,7 +7,7 @@ use borrow.Fn.Kinds.{In}
 use borrow.Fn.PlainCycle.{Measures, is, falls, and}
 use lib.ListN.{length, length-append}
 use Rattle.report.proofs.Decimal.{decimal-one, decimal-more}
-use Rattle.report.proofs.Writing.{then}
+use Rattle.report.proofs.Writing.{put-then}
 use Rattle.report.proofs.put_number.Reads as put-number
 use Rattle.report.proofs.put_number.Kinds as put-number-kinds
 use Rattle.report.proofs.+put_number.Lts-put_number as lts
@@ -53,7 +53,7 @@ put-requires-2 t c κs =
 returns-2 : (t : ℕ) → lts.Need-returns-2 (callees t) (given t) put-number.Post
 returns-2 t c =
     let n = c .before .before .before .before .before .before .before .before .before .before .before .args .n in
-    rw (decimal-more n (omega arith)) (then (c .before .before .before .before .before .before .before .put-number .ensures) (c .before .before .put2 .ensures))
+    rw (decimal-more n (omega arith)) (put-then (c .before .before .before .before .before .before .before .put-number .ensures) (c .before .before .put2 .ensures))
 
 pub +put-number-spec : {M : Type 1} → statement M
 +put-number-spec =

@@ -1,8 +1,8 @@
--- The word, then the number: `then` puts them as one, and `decimal-short` bounds the digits.
+-- The word, then the number: `put-then` puts them as one, and `decimal-short` bounds the digits.
 use native.Mathlib.Omega.{arith}
 use borrow.Author.Needs.{needs}
 use Rattle.report.proofs.Decimal.{decimal-short}
-use Rattle.report.proofs.Writing.{then}
+use Rattle.report.proofs.Writing.{put-then}
 use Rattle.report.proofs.put_named.Statement.{statement}
 use Rattle.report.proofs.put_named.Tie as tie
 
@@ -16,7 +16,7 @@ returns : tie.Need-returns
 returns c =
     let p = c .before .before .before .before .before .before in
     let n = p .before .before .before .before .args .n in (
-      then (p .put .ensures) (c .before .before .put-number .ensures),
+      put-then (p .put .ensures) (c .before .before .put-number .ensures),
       omega (arith, p .put .ensures .ends, c .before .before .put-number .ensures .ends, decimal-short n (omega arith)),
     )
 

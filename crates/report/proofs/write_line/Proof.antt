@@ -5,7 +5,7 @@ use borrow.Author.Needs.{needs}
 use borrow.Author.Tests.{le-leb, lt-leb}
 use lib.ListN.{length, take}
 use Rattle.report.specs.Line.{lineOf, lineInto, lineLength}
-use Rattle.report.proofs.Writing.{then, whole}
+use Rattle.report.proofs.Writing.{put-then, whole}
 use Rattle.report.proofs.write_line.Statement.{statement}
 use Rattle.report.proofs.write_line.Tie as tie
 
@@ -14,7 +14,7 @@ made : (c : tie.After-put)
     → (c .put .result ≡ length (lineOf (c .before .before .before .before .before .before .before .args .v))) × (take (c .put .result) (c .put .last .0) ≡ lineOf (c .before .before .before .before .before .before .before .args .v))
 unfolding lineOf
 made c =
-    let p = then (c .before .before .before .before .put-words .ensures .0) (c .put .ensures) in
+    let p = put-then (c .before .before .before .before .put-words .ensures .0) (c .put .ensures) in
     (omega (arith, p .ends), p .front)
 
 slice-aggregate-put-3 : tie.Need-slice-aggregate-put-3

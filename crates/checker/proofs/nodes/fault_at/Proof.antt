@@ -1,5 +1,5 @@
 -- What the tables hold at i, at the next node and at the one that node i names.
-use mathlib.Core.Path.{_≡_, _∙_, ap}
+use mathlib.Core.Path.{_∙_, ap}
 use native.Mathlib.Numerals.{add-one}
 use borrow.Author.Needs.{needs}
 use Rattle.derivation.specs.NodeTable.{nodeIn}

@@ -1,10 +1,10 @@
 -- The first fault of all nodes is that of the nodes from i on. `goes-on` passes a node whose conditions hold.
-use Prim.Native.Nat.{ℕ, _-_, _≤_}
+use Prim.Native.Nat.{_-_, _≤_}
 use native.Mathlib.Omega.{arith}
 use native.Mathlib.Nat.{le-trans}
-use mathlib.Core.Path.{_≡_, refl, sym, _∙_, ap}
+use mathlib.Core.Path.{_≡_, sym, _∙_, ap}
 use borrow.Author.Needs.{needs}
-use Rattle.checker.specs.Nodes.{statementAfter, faultsFrom, firstOf}
+use Rattle.checker.specs.Nodes.{faultsFrom, faultFound}
 use Rattle.checker.proofs.Turns.{goes-on, ends-at, no-more, after-least}
 use Rattle.checker.proofs.nodes.first_fault.Statement.{statement}
 use Rattle.checker.proofs.nodes.first_fault.Tie as tie
@@ -24,7 +24,7 @@ loop-holds c =
 returns : tie.Need-returns Inv-loop μ-loop
 returns c =
     let l = c .before .before .before .before .before in
-    sym (ap firstOf (l .loop .inv .2 ∙ ends-at _ _ _ _ _ _ _ _ (omega arith) _ (sym (c .before .before .before .fault-at .ensures) ∙ c .before .number .given .1)))
+    sym (ap faultFound (l .loop .inv .2 ∙ ends-at _ _ _ _ _ _ _ _ (omega arith) _ (sym (c .before .before .before .fault-at .ensures) ∙ c .before .number .given .1)))
 
 loop-again : tie.Need-loop-again Inv-loop μ-loop
 loop-again c =
@@ -36,7 +36,7 @@ loop-again c =
     )
 
 returns-2 : tie.Need-returns-2 Inv-loop μ-loop
-returns-2 c = sym (ap firstOf (c .before .loop .inv .2 ∙ no-more _ _ _ _ _ _ _ _ (c .loop-test .left)))
+returns-2 c = sym (ap faultFound (c .before .loop .inv .2 ∙ no-more _ _ _ _ _ _ _ _ (c .loop-test .left)))
 
 pub first-fault-spec : {M : Type 1} → statement M
 first-fault-spec =

@@ -6,6 +6,7 @@ use native.Mathlib.Omega.{arith}
 use borrow.Author.Needs.{needs}
 use borrow.Author.Tests.{le-leb, lt-leb, ltb-true, ltb-false}
 use Rattle.bits.specs.Fields.{hasBits}
+use Rattle.states.specs.Sets.{capacity}
 use Rattle.derivation.specs.Tables.{tablesThere}
 use Rattle.derivation.proofs.header.are_there.Statement.{statement}
 use Rattle.derivation.proofs.header.are_there.Tie as tie
@@ -15,14 +16,14 @@ unfolding tablesThere
 returns c =
     ⊎-elim
     (λ h. rw (lt-leb 1 (c .before .before .args .n) (omega arith)))
-    (λ h. simp (lt-leb (c .before .before .args .n) 64 (omega (arith, ltb-true)), and-false))
+    (λ h. simp (lt-leb (c .before .before .args .n) capacity (omega (arith, ltb-true)), and-false))
     (c .if1 .came)
 
 returns-2 : tie.Need-returns-2
 unfolding tablesThere hasBits
 returns-2 c =
     let a = c .before .before .before .before .before .args in
-    simp (le-leb 1 (a .n) (omega arith), le-leb (a .n) 64 (omega (arith, ltb-false)), ← c .before .row-cursor .ensures)
+    simp (le-leb 1 (a .n) (omega arith), le-leb (a .n) capacity (omega (arith, ltb-false)), ← c .before .row-cursor .ensures)
     (simp zero-add at (c .has-bits .ensures))
 
 pub are-there-spec : {M : Type 1} → statement M

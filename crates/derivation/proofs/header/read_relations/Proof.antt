@@ -7,7 +7,7 @@ use borrow.Author.Needs.{needs}
 use borrow.Author.Tests.{leb-true}
 use Rattle.bits.specs.Fields.{bitLength, fieldAt}
 use Rattle.derivation.specs.declared.TablesEnd.the-variants.{Counts, Fault}
-use Rattle.derivation.specs.Tables.{rowAt, tablesThere, relationsRead}
+use Rattle.derivation.specs.Tables.{mostTables, tablesThere, tablesHead, relationsRead}
 use Rattle.derivation.proofs.Counts.{count-range}
 use Rattle.derivation.proofs.header.read_relations.Statement.{statement}
 use Rattle.derivation.proofs.header.read_relations.Tie as tie
@@ -16,7 +16,7 @@ returns : tie.Need-returns
 unfolding relationsRead
 returns c = rw (← c .before .before .before .read .ensures, c .before .enum-told .given .1, c .bit-length .ensures)
 
-counted : (c : tie.Then1) → (1 ≤ c .before .before .before .count .given .0 .0) × (c .before .before .before .count .given .0 .0 ≤ 16)
+counted : (c : tie.Then1) → (1 ≤ c .before .before .before .count .given .0 .0) × (c .before .before .before .count .given .0 .0 ≤ mostTables)
 counted c = count-range _ (sym (c .before .is-count .ensures) ∙ c .if1 .taken)
 
 row-cursor-requires : tie.Need-row-cursor-requires
@@ -30,7 +30,7 @@ judged : (c : tie.After-are-there) →
     let a = c .before .before .before .before .before .before .before .before .args in
     let relations = c .before .before .before .before .count .given .0 .0 in
     relationsRead (a .src .now) (a .n) (a .sets) (fieldAt (a .src .now) 5 5)
-    ≡ cond (c .are-there .result) (Counts (a .sets) relations (rowAt (a .n) (a .sets) relations 0)) (Fault 20 (bitLength (a .src .now)))
+    ≡ cond (c .are-there .result) (Counts (tablesHead (a .n) (a .sets) relations)) (Fault 20 (bitLength (a .src .now)))
 unfolding relationsRead
 judged c =
     let test = c .before in

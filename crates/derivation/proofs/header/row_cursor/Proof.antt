@@ -2,12 +2,16 @@
 use Prim.Native.Nat.{_+_, _*_, _≤_}
 use mathlib.Core.Path.{refl}
 use native.Mathlib.Omega.{arith}
-use Rattle.derivation.specs.Tables.{rowAt}
+use Rattle.states.specs.Sets.{capacity}
+use Rattle.derivation.specs.Tables.{mostTables, rowAt}
 use Rattle.derivation.proofs.Counts.{row-offsets}
 use Rattle.derivation.proofs.header.row_cursor.Statement.{statement}
 use Rattle.derivation.proofs.header.row_cursor.Tie as tie
 
-small : (c : tie.Start) → (c .args .n * c .args .relation ≤ 1024) × (c .args .n * (c .args .sets + c .args .n * c .args .relation + c .args .state) ≤ 64 * 1104)
+small : (c : tie.Start) →
+    let a = c .args in
+    (a .n * a .relation ≤ capacity * mostTables)
+    × (a .n * (a .sets + a .n * a .relation + a .state) ≤ capacity * (mostTables + capacity * mostTables + capacity))
 small c =
     let a = c .args in
     let p = c .pre in

@@ -12,20 +12,20 @@ unfolding loopHead
 returns c = rw (ne-eqb _ 5 (c .if1 .taken))
 
 -- The pair, read with the node after it.
-pair : (c : tie.After-names-at) →
+in-pair : (c : tie.After-names-at) →
     let a = c .before .before .before .args in
     loopHead (a .src .now) (a .sets) (a .relations) (a .rule) (a .names) (a .at)
     ≡ onPair (c .names-at .result) (λ K W next. Head (record { rule = a .rule; names = a .names; k = K; w = W; next = next }))
 unfolding loopHead
-pair c = rw (eq-eqb _ 5 (c .before .if1 .left)) (c .names-at .ensures _)
+in-pair c = rw (eq-eqb _ 5 (c .before .if1 .left)) (c .names-at .ensures _)
 
 returns-2 : tie.Need-returns-2
 unfolding onPair
-returns-2 c = sym (rw (c .before .fault .given .1) at (pair (c .before .before .before)))
+returns-2 c = sym (rw (c .before .fault .given .1) at (in-pair (c .before .before .before)))
 
 returns-3 : tie.Need-returns-3
 unfolding onPair
-returns-3 c = sym (rw (c .before .k .given .1) at (pair (c .before .before .before)))
+returns-3 c = sym (rw (c .before .pair .given .1) at (in-pair (c .before .before .before)))
 
 pub loop-head-spec : {M : Type 1} → statement M
 loop-head-spec =

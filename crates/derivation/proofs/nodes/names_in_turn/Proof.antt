@@ -31,13 +31,13 @@ first : (c : tie.After-names-at) →
 first c = in-pairs _ _ _ _ _ ∙ c .names-at .ensures _
 
 second : (c : tie.After-names-at2) →
-    let pair = c .before .before in
-    let a = pair .before .before .before .before .args in
+    let front = c .before .before .front .given .0 .0 in
+    let a = c .before .before .before .before .before .before .args in
     namesHead (a .src .now) (a .sets) (a .relations) (a .rule) (a .at)
     ≡ onPair (c .names-at2 .result) (λ G Q.
-    loopHead (a .src .now) (a .sets) (a .relations) (a .rule) (record { p = pair .p .given .0 .0; r = pair .p .given .0 .1 .0; g = G; q = Q }))
+    loopHead (a .src .now) (a .sets) (a .relations) (a .rule) (record { p = front .first; r = front .second; g = G; q = Q }))
 unfolding onPair
-second c = rw (c .before .before .p .given .1) at (first (c .before .before .before .before)) ∙ c .names-at2 .ensures _
+second c = rw (c .before .before .front .given .1) at (first (c .before .before .before .before)) ∙ c .names-at2 .ensures _
 
 returns : tie.Need-returns
 unfolding onPair
@@ -49,7 +49,7 @@ returns-2 c = sym (rw (c .before .fault2 .given .1) at (second (c .before .befor
 
 returns-3 : tie.Need-returns-3
 unfolding onPair
-returns-3 c = c .loop-head .ensures ∙ sym (rw (c .before .before .g .given .1) at (second (c .before .before .before .before)))
+returns-3 c = c .loop-head .ensures ∙ sym (rw (c .before .before .back .given .1) at (second (c .before .before .before .before)))
 
 pub names-in-turn-spec : {M : Type 1} → statement M
 names-in-turn-spec =

@@ -19,7 +19,7 @@ read c = answered _ _ (sym (ap (λ f. f .found) (c .before .before .read-proof .
 fill-requires : tie.Need-fill-requires
 fill-requires c κs =
     let file = read (c .before .before .before .before) in
-    omega (arith, counted _ _ _ _ _ (stages _ _ _ _ _ (file .0) (file .1) .tables))
+    omega (arith, counted _ _ _ (stages _ _ _ _ _ (file .0) (file .1) .tables))
 
 returns : tie.Need-returns
 returns c =

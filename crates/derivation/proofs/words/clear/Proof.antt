@@ -5,7 +5,7 @@ use mathlib.Core.Path.{_≡_, refl, _∙_, ap}
 use native.Mathlib.Omega.{arith}
 use borrow.Author.Needs.{needs}
 use lib.ListN.{length, drop}
-use Rattle.derivation.specs.Tables.{tabulate, written}
+use Rattle.derivation.specs.Tables.{tabulate, workWords, written}
 use Rattle.derivation.proofs.Buffers.{length-filled, fill-more}
 use Rattle.derivation.proofs.words.clear.Statement.{statement}
 use Rattle.derivation.proofs.words.clear.Tie as tie
@@ -35,7 +35,7 @@ returns : tie.Need-returns Inv-loop μ-loop
 unfolding written
 returns c =
     let l = c .before .loop in
-    let all : l .j ≡ min 1040 (length (c .before .before .before .before .args .work .now)) = omega arith in
+    let all : l .j ≡ min workWords (length (c .before .before .before .before .args .work .now)) = omega arith in
     rw (l .inv .1, all)
 
 pub clear-spec : {M : Type 1} → statement M

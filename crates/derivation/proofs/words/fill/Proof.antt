@@ -6,7 +6,8 @@ use native.Mathlib.Omega.{arith}
 use borrow.Author.Needs.{needs}
 use borrow.Author.Tests.{le-ltb}
 use lib.ListN.{length}
-use Rattle.derivation.specs.Tables.{tableWord, written}
+use Rattle.states.specs.Sets.{setWords, capacity}
+use Rattle.derivation.specs.Tables.{mostTables, entryWord, tableWord, written}
 use Rattle.derivation.proofs.Buffers.{length-written, written-again, upto, upto-none, upto-more, upto-all}
 use Rattle.derivation.proofs.words.fill.Statement.{statement}
 use Rattle.derivation.proofs.words.fill.Tie as tie
@@ -44,9 +45,10 @@ loop-again c =
     rw (l .inv, c .before .table-word .ensures)
     (upto-more _ _ (l .j) (c .next-word .result) (c .next-word .ensures .0) (omega arith) (omega arith) (c .next-word .ensures .1 _ _ _))
 
-past : (s : List ℕ) (n sets relations i : ℕ) → 16 + 64 * relations ≤ i → tableWord s n sets relations i ≡ 0
-unfolding tableWord
-past s n sets relations i over = simp (le-ltb i 16 (omega arith), le-ltb ((i - 16) / 64) relations (omega arith))
+past : (s : List ℕ) (n sets relations i : ℕ) → setWords * (mostTables + capacity * relations) ≤ i → tableWord s n sets relations i ≡ 0
+unfolding tableWord entryWord
+past s n sets relations i over =
+    simp (le-ltb (i / setWords) mostTables (omega arith), le-ltb ((i / setWords - mostTables) / capacity) relations (omega arith))
 
 returns : tie.Need-returns Inv-loop μ-loop
 returns c =

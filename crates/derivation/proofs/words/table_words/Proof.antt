@@ -1,4 +1,4 @@
--- A shorter buffer has its own length, any other 1,040. Rattle finds this by itself; the file is here so that a refusal shows the numbers.
+-- A shorter buffer has its own length, any other as many as there are work words. Rattle finds this by itself; the file is here so that a refusal shows the numbers.
 use native.Mathlib.Omega.{arith}
 use Rattle.derivation.proofs.words.table_words.Statement.{statement}
 use Rattle.derivation.proofs.words.table_words.Tie as tie

@@ -4,7 +4,7 @@ use native.Mathlib.Omega.{arith}
 use borrow.Author.Needs.{needs}
 use lib.Pow.{pow-pos}
 use Rattle.bits.proofs.Laws.{number-bits}
-use Rattle.states.proofs.Words.{shifted}
+use Rattle.states.proofs.Bits.{shifted}
 use Rattle.derivation.specs.Tables.{wordAt}
 use Rattle.derivation.proofs.Membership.{word-first}
 use Rattle.derivation.proofs.words.word_at.Statement.{statement}

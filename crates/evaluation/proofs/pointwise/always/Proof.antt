@@ -1,12 +1,13 @@
--- All 64 states, or none.
+-- All the states that a set can hold, or none.
 use mathlib.Core.Path.{_∙_}
 use borrow.Author.Needs.{needs}
 use borrow.Author.Tests.{lt-ltb}
+use Rattle.states.specs.Sets.{capacity}
 use Rattle.evaluation.proofs.pointwise.always.Statement.{statement}
 use Rattle.evaluation.proofs.pointwise.always.Tie as tie
 
 returns : tie.Need-returns
-returns c s l = rw (c .before .if1 .taken) (c .below .ensures s ∙ rw (lt-ltb s 64 l))
+returns c s l = rw (c .before .if1 .taken) (c .below .ensures s ∙ rw (lt-ltb s capacity l))
 
 returns-2 : tie.Need-returns-2
 returns-2 c s l = rw (c .before .if1 .left) (c .empty .ensures s)

@@ -1,4 +1,4 @@
--- After the states below s: those of them at which the integers compare so.
+-- After the states below s, the set holds those of them at which the comparison is true.
 use Prim.Native.Nat.{ℕ, zero, suc, _-_, _≤_, _<_}
 use native.Mathlib.Omega.{arith}
 use mathlib.Core.Bool.{Bool, true}
@@ -12,6 +12,7 @@ use mir.Syntax.{w64}
 use mir.Facts.{toZ-ofZ}
 use Rattle.semantics.specs.Language.{truth, ofIntegers}
 use Rattle.semantics.specs.States.{isTruth}
+use Rattle.evaluation.specs.Refinement.{lessCode, andCode}
 use Rattle.evaluation.proofs.Runs.{Holds, holds-none, holds-more}
 use Rattle.evaluation.proofs.pointwise.compared.Statement.{statement}
 use Rattle.evaluation.proofs.pointwise.compared.Tie as tie
@@ -23,8 +24,8 @@ Inv-loop n o left right found₀ s₀ found s =
 abbrev μ-loop : tie.MeasureT-loop
 μ-loop n o left right found₀ s₀ found s = n - s
 
--- What a comparison makes of two integers is a truth value.
-is-truth : (o : ℕ) (a b : ℤ) → 1 < o → o < 5 → some (truth (isTruth true (getD (ofIntegers a b) o none))) ≡ getD (ofIntegers a b) o none
+-- A comparison of two integers gives a truth value.
+is-truth : (o : ℕ) (a b : ℤ) → lessCode ≤ o → o < andCode → some (truth (isTruth true (getD (ofIntegers a b) o none))) ≡ getD (ofIntegers a b) o none
 is-truth zero a b more less = absurd (omega arith)
 is-truth (suc zero) a b more less = absurd (omega arith)
 is-truth (suc (suc zero)) a b more less = refl
@@ -32,7 +33,7 @@ is-truth (suc (suc (suc zero))) a b more less = refl
 is-truth (suc (suc (suc (suc zero)))) a b more less = refl
 is-truth (suc (suc (suc (suc (suc o))))) a b more less = absurd (omega arith)
 
--- x and y are a and b as the code carries them.
+-- x and y are a and b as the code holds them.
 carried : (o : ℕ) (a b x y : ℤ) (r : Bool) → x ≡ a → y ≡ b → some (truth r) ≡ getD (ofIntegers x y) o none
     → r ≡ isTruth true (getD (ofIntegers a b) o none)
 carried o a b x y r p q h = ap (isTruth true) (h ∙ ap₂ (λ i j. getD (ofIntegers i j) o none) p q)

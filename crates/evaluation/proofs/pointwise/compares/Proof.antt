@@ -1,4 +1,4 @@
--- Each comparison is its row of `ofIntegers`.
+-- Each comparison is its entry of `ofIntegers`.
 use native.Mathlib.Omega.{arith}
 use mathlib.Core.Path.{_≡_}
 use mir.Facts.{toZ-ofZ}

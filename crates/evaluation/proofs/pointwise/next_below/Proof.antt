@@ -1,4 +1,4 @@
--- A number below the limit is its own remainder, and the limit has none.
+-- A number below the limit is its own remainder, and the remainder of the limit is 0.
 use Prim.Native.Nat.{_+_}
 use native.Mathlib.Nat.{mod-eq-of-lt, mod-self}
 use native.Mathlib.Omega.{arith}

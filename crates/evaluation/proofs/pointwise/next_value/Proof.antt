@@ -1,4 +1,4 @@
--- By whether the run ended.
+-- By cases: whether a new run starts.
 use borrow.Author.Needs.{needs}
 use borrow.Author.Tests.{ne-eqb}
 use Rattle.evaluation.proofs.pointwise.next_value.Statement.{statement}

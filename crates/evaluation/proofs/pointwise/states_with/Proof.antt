@@ -1,8 +1,10 @@
--- Before the run at `from`: the states below it that have the value. A weight and a size of at most 64 keep every number small.
+-- Before the run at `from`, the set holds the states below `from` that have the value. The weight and the size are at most the
+-- capacity, so every number is small.
 use Prim.Native.Nat.{_-_, _*_, _≤_, _<_}
 use native.Mathlib.Nat.{mul-le-mul, mul-pos}
 use native.Mathlib.Omega.{arith}
 use borrow.Author.Needs.{needs}
+use Rattle.states.specs.Sets.{capacity}
 use Rattle.evaluation.proofs.Runs.{Holds, Starts, has-value, first-run, next-run, no-run, one-run, all-runs}
 use Rattle.evaluation.proofs.pointwise.states_with.Statement.{statement}
 use Rattle.evaluation.proofs.pointwise.states_with.Tie as tie
@@ -14,14 +16,14 @@ Inv-loop n weight size value period found₀ from₀ found from =
 abbrev μ-loop : tie.MeasureT-loop
 μ-loop n weight size value period found₀ from₀ found from = n - from
 
--- The period is not 0 and no more than 64 by 64.
-period : (c : tie.Start Inv-loop μ-loop) → let a = c .args in (0 < a .weight * a .size) × (a .weight * a .size ≤ 64 * 64)
-period c = (mul-pos (c .pre .1) (omega arith), mul-le-mul {n₂ = 64} {m₂ = 64} (c .pre .2) (c .pre .3))
+-- The period is not 0 and at most the square of the capacity.
+period : (c : tie.Start Inv-loop μ-loop) → let a = c .args in (0 < a .weight * a .size) × (a .weight * a .size ≤ capacity * capacity)
+period c = (mul-pos (c .pre .1) (omega arith), mul-le-mul {n₂ = capacity} {m₂ = capacity} (c .pre .2) (c .pre .3))
 
 mul-from : tie.Need-mul-from Inv-loop μ-loop
 mul-from c =
     let a = c .before .args in
-    omega (arith, mul-le-mul {n₁ = a .value} {m₁ = a .weight} {n₂ = 64} {m₂ = 64} (omega arith) (omega arith))
+    omega (arith, mul-le-mul {n₁ = a .value} {m₁ = a .weight} {n₂ = capacity} {m₂ = capacity} (omega arith) (omega arith))
 
 loop-holds : tie.Need-loop-holds Inv-loop μ-loop
 loop-holds c =

@@ -1,4 +1,4 @@
--- The entries below s are the sums or the differences there, and no larger than the operands together and one.
+-- The cells below s hold the sums or the differences there, whose magnitudes are at most the sum of the operands' plus 1.
 use Prim.Native.Nat.{ℕ, _+_, _-_, _≤_}
 use native.Mathlib.Omega.{arith}
 use mathlib.Core.List.{List}
@@ -11,7 +11,7 @@ use lib.Signed.{mag}
 use mir.Syntax.{w64}
 use mir.Facts.{toZ-ofZ}
 use Rattle.semantics.specs.Language.{int, ofIntegers}
-use Rattle.states.proofs.Entries.{Entries, entries-none, entries-more}
+use Rattle.states.proofs.Cells.{Cells, cells-none, cells-more}
 use Rattle.evaluation.proofs.pointwise.sum_row.Statement.{statement}
 use Rattle.evaluation.proofs.pointwise.sum_row.Tie as tie
 
@@ -22,7 +22,7 @@ Sum o left right s z =
     (some (int z) ≡ getD (ofIntegers a b) o none) × (mag z ≤ mag a + mag b + 1)
 
 abbrev Inv-loop : tie.InvT-loop
-Inv-loop n o left right row₀ s₀ row s = (s ≤ n) × Entries (pos 0) (Sum o left right) s row
+Inv-loop n o left right row₀ s₀ row s = (s ≤ n) × Cells (pos 0) (Sum o left right) s row
 
 abbrev μ-loop : tie.MeasureT-loop
 μ-loop n o left right row₀ s₀ row s = n - s
@@ -35,7 +35,7 @@ sum-requires c κs =
     rw (toZ-ofZ {w = w64} {z = a} (sfits-of (c .before .sum-arg .given)), toZ-ofZ {w = w64} {z = b} (sfits-of (c .sum-arg2 .given)))
     (k .before .pre .1, k .before .pre .2 (k .loop .s) (omega arith))
 
--- x, y and z are a, b and r as the code carries them.
+-- x, y and z are a, b and r as the code holds them.
 carried : (o : ℕ) (a b r x y z : ℤ) → x ≡ a → y ≡ b → z ≡ r → (some (int r) ≡ getD (ofIntegers x y) o none) × (mag r ≤ mag x + mag y + 1)
     → (some (int z) ≡ getD (ofIntegers a b) o none) × (mag z ≤ mag a + mag b + 1)
 carried o a b r x y z p q e h = rw e (h .0 ∙ ap₂ (λ i j. getD (ofIntegers i j) o none) p q, rw (p, q) at (h .1))
@@ -47,7 +47,7 @@ loop-again c =
     let a = getD (args .t3) (k .loop .s) (pos 0) in
     let b = getD (args .t4) (k .loop .s) (pos 0) in (
       omega arith,
-      entries-more (pos 0) (Sum (args .o) (args .t3) (args .t4)) _ _ _ (omega arith)
+      cells-more (pos 0) (Sum (args .o) (args .t3) (args .t4)) _ _ _ (omega arith)
           (carried (args .o) a b (c .sum .result) _ _ _ (toZ-ofZ {w = w64} {z = a} (sfits-of (c .before .before .sum-arg .given)))
           (toZ-ofZ {w = w64} {z = b} (sfits-of (c .before .sum-arg2 .given))) (toZ-ofZ {w = w64} {z = c .sum .result} (sfits-of (c .sum .ok))) (c .sum .ensures))
           (k .loop .inv .1),
@@ -59,6 +59,6 @@ returns c s l = c .before .loop .inv .1 .hold s (omega arith)
 pub sum-row-spec : {M : Type 1} → statement M
 sum-row-spec =
     tie.close
-    (tie.spec Inv-loop μ-loop (λ c. (omega arith, entries-none (pos 0) _)) (λ c. search needs) (λ c. search needs) (λ c. search needs)
+    (tie.spec Inv-loop μ-loop (λ c. (omega arith, cells-none (pos 0) _)) (λ c. search needs) (λ c. search needs) (λ c. search needs)
     (λ c. search needs) (λ c. search needs) (λ c. search needs) sum-requires (λ c. search needs) (λ c. search needs)
     (λ c. search needs) (λ c. search needs) (λ c. search needs) loop-again returns)

@@ -1,4 +1,4 @@
--- The entries below s are the variable's values there; `place` and `value` are those of s.
+-- The cells below s hold the variable's values there; `place` and `value` are those of s.
 use Prim.Native.Nat.{ℕ, _+_, _-_, _/_, _%_, _≤_}
 use native.Mathlib.Nat.{mod-le, mod-lt, mod-add-mod, div-le-self, zero-mod, zero-div}
 use native.Mathlib.Omega.{arith}
@@ -10,7 +10,7 @@ use lib.IntN.{ℤ, pos}
 use mir.Syntax.{w64}
 use mir.Val.{SFits}
 use mir.Facts.{toZ-ofZ}
-use Rattle.states.proofs.Entries.{Entries, entries-none, entries-more}
+use Rattle.states.proofs.Cells.{Cells, cells-none, cells-more}
 use Rattle.evaluation.proofs.Runs.{value-on}
 use Rattle.evaluation.proofs.pointwise.variable_row.Statement.{statement}
 use Rattle.evaluation.proofs.pointwise.variable_row.Tie as tie
@@ -20,15 +20,15 @@ Value weight size s z = z ≡ pos (s / weight % size)
 
 abbrev Inv-loop : tie.InvT-loop
 Inv-loop n weight size row₀ place₀ value₀ s₀ row place value s =
-    (s ≤ n) × (place ≡ s % weight) × (value ≡ s / weight % size) × Entries (pos 0) (Value weight size) s row
+    (s ≤ n) × (place ≡ s % weight) × (value ≡ s / weight % size) × Cells (pos 0) (Value weight size) s row
 
 abbrev μ-loop : tie.MeasureT-loop
 μ-loop n weight size row₀ place₀ value₀ s₀ row place value s = n - s
 
 loop-holds : tie.Need-loop-holds Inv-loop μ-loop
-loop-holds c = (omega arith, sym (zero-mod _), rw (zero-div (c .args .weight)) (sym (zero-mod _)), entries-none (pos 0) _)
+loop-holds c = (omega arith, sym (zero-mod _), rw (zero-div (c .args .weight)) (sym (zero-mod _)), cells-none (pos 0) _)
 
--- A state's value is no more than the state's number.
+-- The value at a state is at most the state's number.
 value-fits : (c : tie.In-loop Inv-loop μ-loop) → SFits w64 (pos (c .before .loop .value))
 value-fits c =
     let a = c .before .before .args in
@@ -53,7 +53,7 @@ loop-again c =
       place,
       c .next-value .ensures ∙ ap₂ (λ p v. cond (eqb p 0) ((v + 1) % a .size) v) place (now .2)
           ∙ value-on (k .loop .s) (a .weight) (a .size) (k .before .pre .1),
-      entries-more (pos 0) (Value (a .weight) (a .size)) _ _ _ (omega arith) (toZ-ofZ (value-fits (c .before .before)) ∙ ap pos (now .2))
+      cells-more (pos 0) (Value (a .weight) (a .size)) _ _ _ (omega arith) (toZ-ofZ (value-fits (c .before .before)) ∙ ap pos (now .2))
           (now .3),
     )
 

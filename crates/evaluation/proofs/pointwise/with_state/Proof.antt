@@ -1,4 +1,4 @@
--- Joined with the state alone, or left as it is.
+-- The join with the state alone, or the set as it is.
 use mathlib.Core.Bool.{_||_, or-false}
 use mathlib.Core.Path.{_∙_, sym, ap}
 use borrow.Author.Needs.{needs}

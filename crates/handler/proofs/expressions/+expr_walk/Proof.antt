@@ -13,7 +13,7 @@ use borrow.Fn.PlainCycle.{Measures, is, falls, and}
 use Rattle.handler.specs.Expressions.{exprHead, bad, exprAt}
 use Rattle.handler.specs.Shapes.{exprShape}
 use Rattle.handler.proofs.Folds.{expr-step, childless, row-used, Headed, headed-as}
-use Rattle.handler.proofs.Shapes.{Small, shape-small, left-operand-fault, right-operand-fault, op-shape}
+use Rattle.handler.proofs.Shapes.{FewNodes, shape-small, left-operand-fault, right-operand-fault, op-shape}
 use Rattle.handler.proofs.expressions.expr_walk.Reads as expr-walk
 use Rattle.handler.proofs.expressions.expr_walk.Kinds as expr-walk-kinds
 use Rattle.handler.proofs.expressions.+expr_walk.Lts-expr_walk as expr-walk-lts
@@ -89,10 +89,10 @@ unfolding Headed
 room t c = headed-as _ _ _ _ _ (head-is t c) .0
 
 -- What the sums need: an operand's numbers are at most 31.
-small-left : (t : ℕ) (c : expr-walk-lts.After-known-told3 (callees t) (expr-walk-at t) expr-walk.Post) → Small (c .before .first .given .0 .0)
+small-left : (t : ℕ) (c : expr-walk-lts.After-known-told3 (callees t) (expr-walk-at t) expr-walk.Post) → FewNodes (c .before .first .given .0 .0)
 small-left t c = shape-small _ _ _ _ _ _ _ _ (left-is t c)
 
-small-right : (t : ℕ) (c : expr-walk-lts.After-known-told4 (callees t) (expr-walk-at t) expr-walk.Post) → Small (c .before .second .given .0 .0)
+small-right : (t : ℕ) (c : expr-walk-lts.After-known-told4 (callees t) (expr-walk-at t) expr-walk.Post) → FewNodes (c .before .second .given .0 .0)
 small-right t c = shape-small _ _ _ _ _ _ _ _ (right-is t c)
 
 expr-walk-returns : (t : ℕ) → expr-walk-lts.Need-returns (callees t) (expr-walk-at t) expr-walk.Post
@@ -140,7 +140,7 @@ abbrev left-read : (t : ℕ) → expr-walk-lts.After-struct-known2 (callees t) (
 left-read t c = both-read t c .before .before .before .before
 
 sums : (t : ℕ) (c : expr-walk-lts.After-struct-known2 (callees t) (expr-walk-at t) expr-walk.Post)
-    → Small (left-read t c .before .first .given .0 .0) × Small (both-read t c .before .second .given .0 .0)
+    → FewNodes (left-read t c .before .first .given .0 .0) × FewNodes (both-read t c .before .second .given .0 .0)
 sums t c = (small-left t (left-read t c), small-right t (both-read t c))
 
 expr-walk-returns-6 : (t : ℕ) → expr-walk-lts.Need-returns-6 (callees t) (expr-walk-at t) expr-walk.Post

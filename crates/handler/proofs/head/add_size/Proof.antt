@@ -13,6 +13,7 @@ use borrow.Author.Tests.{ltb-false, lt-ltb, le-ltb}
 use lib.Dec.{ltb}
 use lib.ListN.{length, set, replicate, length-append}
 use lib.Seq.{set-at}
+use Rattle.states.specs.Sets.{capacity}
 use Rattle.bits.specs.Fields.{fieldAt}
 use Rattle.bits.specs.declared.Field.the-variants.{Value}
 use Rattle.semantics.specs.States.{product}
@@ -27,7 +28,7 @@ use Rattle.handler.proofs.head.add_size.Tie as tie
 record Begun (s : List ℕ) (k : ℕ) (file : HeadFile) (at : ℕ) : Type 0 where
   sizes : List ℕ
   counted : length sizes ≡ k
-  most : product sizes ≤ 64
+  most : product sizes ≤ capacity
   is : file .head ≡ headOf sizes
   next-size : sizesRead s (k + 1) ≡ sizeRead s sizes at (fieldAt s at 5)
 
@@ -110,15 +111,15 @@ mul-states c =
     let b = so-far c in
     let n = c .before .before .before .before .before .before .before .before .before .before .before .before .args .file .head .states in
     let size = c .before .before .before .before .before .size .given .0 .0 in
-    let few : n ≤ 64 = rw (b .is) (b .most) in
-    omega (arith, mul-le-mul {n₁ = n} {m₁ = size} {n₂ = 64} {m₂ = 16} few (size-small c))
+    let few : n ≤ capacity = rw (b .is) (b .most) in
+    omega (arith, mul-le-mul {n₁ = n} {m₁ = size} {n₂ = capacity} {m₂ = 16} few (size-small c))
 
 returns-4 : tie.Need-returns-4
 unfolding sizeRead headOf
 returns-4 c =
     let at = c .before .before in
     let over = rw (so-far at .is) at (c .before .if3 .taken) in
-    rw (c .faulty3 .ensures, next-is at, le-ltb _ 2 (at .before .before .before .if1 .left), small-enough (at .before .before), lt-ltb 64 _ over)
+    rw (c .faulty3 .ensures, next-is at, le-ltb _ 2 (at .before .before .before .if1 .left), small-enough (at .before .before), lt-ltb capacity _ over)
 
 cast-sizes : tie.Need-cast-sizes
 cast-sizes c = omega (arith, size-small (c .before .before))
@@ -135,7 +136,7 @@ unfolding sizeRead headOf
 returns-5 c =
     let at = c .before .before .before in
     let under = rw (so-far at .is) at (c .before .before .if3 .left) in
-    rw (next-is at, le-ltb _ 2 (at .before .before .before .if1 .left), small-enough (at .before .before), le-ltb 64 _ under)
+    rw (next-is at, le-ltb _ 2 (at .before .before .before .if1 .left), small-enough (at .before .before), le-ltb capacity _ under)
     (grown _ _ _ _ _ _ (search needs) (so-far at))
 
 pub add-size-spec : {M : Type 1} → statement M

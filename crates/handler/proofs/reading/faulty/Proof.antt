@@ -1,11 +1,11 @@
 -- A faulty file declares nothing.
 use borrow.Author.Needs.{needs}
-use Rattle.handler.specs.Shapes.{fileOf}
+use Rattle.handler.specs.Shapes.{handlerFile}
 use Rattle.handler.proofs.reading.faulty.Statement.{statement}
 use Rattle.handler.proofs.reading.faulty.Tie as tie
 
 returns : tie.Need-returns
-unfolding fileOf
+unfolding handlerFile
 returns c = rw (c .no-head .ensures)
 
 pub faulty-spec : {M : Type 1} → statement M

@@ -1,4 +1,4 @@
--- The head says which case of `onHead` holds, N is 1 to 64, and the statement begins within 23 bits. What is found is what is read,
+-- The head says which case of `onHead` holds, N is 1 to the capacity, and the statement begins within 23 bits. What is found is what is read,
 -- and the table that the walk fills is that of the handler.
 use Prim.Native.Nat.{ℕ}
 use mathlib.Core.List.{List}
@@ -14,9 +14,9 @@ use Rattle.handler.specs.declared.HandlerFound.{HandlerFound}
 use Rattle.handler.specs.declared.HandlerFound.the-variants as found
 use Rattle.handler.specs.declared.HandlerSummary.{HandlerSummary}
 use Rattle.handler.specs.Statements.{stmtAt, wholeStmt}
-use Rattle.handler.specs.StatementTable.{Filled}
+use Rattle.handler.specs.StatementTable.{StatementsStored}
 use Rattle.handler.specs.Reading.{readHandler}
-use Rattle.handler.specs.Shapes.{stmtShape, foundOf, fileOf}
+use Rattle.handler.specs.Shapes.{stmtShape, handlerFound, handlerFile}
 use Rattle.handler.proofs.StatementTable.{table-made}
 use Rattle.handler.proofs.StmtShapes.{found-read}
 use Rattle.handler.proofs.Handlers.{known-handler, found-refused, found-handler}
@@ -29,14 +29,14 @@ same-file p q r = rw (p, q, r)
 
 -- If a head was read and h is that head as the code passes it on.
 module _ (bytes sizes : List ℕ) (h : Head) (at : ℕ) (read : headAt bytes ≡ declared sizes at) (is : h ≡ headOf sizes) where
-  found-is : foundOf bytes at (stmtShape (h .states) at (stmtAt 17 bytes (h .count) 0 at)) ≡ fileOf (readHandler bytes) .found
+  found-is : handlerFound bytes at (stmtShape (h .states) at (stmtAt 17 bytes (h .count) 0 at)) ≡ handlerFile (readHandler bytes) .found
   unfolding readHandler headOf
   found-is = rw (is, read) (found-read bytes sizes at)
 
-  file-is : (x : HandlerFound) (w : HandlerSummary) (table : List ℕ) → x ≡ fileOf (readHandler bytes) .found → x ≡ found.Handler w
-      → Filled (replicate 63 0) table 0 at (stmtAt 17 bytes (h .count) 0 at)
-      → _≡_ {A = HandlerFile} (record { found = x; head = h; statements = table }) (fileOf (readHandler bytes))
-  unfolding fileOf headOf wholeStmt
+  file-is : (x : HandlerFound) (w : HandlerSummary) (table : List ℕ) → x ≡ handlerFile (readHandler bytes) .found → x ≡ found.Handler w
+      → StatementsStored (replicate 63 0) table 0 at (stmtAt 17 bytes (h .count) 0 at)
+      → _≡_ {A = HandlerFile} (record { found = x; head = h; statements = table }) (handlerFile (readHandler bytes))
+  unfolding handlerFile headOf wholeStmt
   file-is x w table e is-handler filled =
       let g = found-handler (readHandler bytes) w (sym e ∙ is-handler) in
       let known = known-handler bytes (g .sizes) (w .at) (g .S) (g .read) in
@@ -44,8 +44,8 @@ module _ (bytes sizes : List ℕ) (h : Head) (at : ℕ) (read : headAt bytes ≡
       let sizes-are : g .sizes ≡ sizes = cc in
       let at-is : w .at ≡ at = cc in
       let words = rw (is, ← sizes-are, ← at-is, known .stands .read) at filled in
-      same-file (e ∙ ap (λ r. fileOf r .found) (g .read)) (is ∙ ap headOf (sym sizes-are)) (words ∙ table-made (w .at) (g .S) (known .few))
-      ∙ sym (ap fileOf (g .read))
+      same-file (e ∙ ap (λ r. handlerFile r .found) (g .read)) (is ∙ ap headOf (sym sizes-are)) (words ∙ table-made (w .at) (g .S) (known .few))
+      ∙ sym (ap handlerFile (g .read))
 
 -- What is known once the head is read.
 head-found : (c : tie.After-known-told2) → let r = c .before .before .before .before in
@@ -78,7 +78,7 @@ returns-2 c =
     let f = head-found (c .before .before .before .before .before .before .before .before) in
     let w = c .before .before .before .before in
     let e = rw (walked (w .before .before)) at (w .found-of .ensures) in
-    c .faulty2 .ensures ∙ sym (ap fileOf (found-refused _ _ _ (sym (e ∙ found-is _ (f .sizes) _ _ (f .read) (f .is)) ∙ c .before .before .found .given .1)))
+    c .faulty2 .ensures ∙ sym (ap handlerFile (found-refused _ _ _ (sym (e ∙ found-is _ (f .sizes) _ _ (f .read) (f .is)) ∙ c .before .before .found .given .1)))
 
 returns-3 : tie.Need-returns-3
 returns-3 c =

@@ -1,9 +1,10 @@
--- With at most 64 states and a capped body the sum fits, and capping the body does not change the capped sum.
+-- With no more states than a set can hold and a capped body the sum fits, and capping the body does not change the capped sum.
 use Prim.Native.Nat.{_+_, _-_, _*_, _^_, _≤_}
 use native.Mathlib.Nat.{mul-le-mul}
 use native.Mathlib.Omega.{arith}
 use borrow.Author.Needs.{needs}
 use borrow.Author.Tests.{eq-eqb, ne-eqb}
+use Rattle.states.specs.Sets.{capacity}
 use Rattle.handler.proofs.StmtShapes.{cap-part}
 use Rattle.handler.proofs.statements.test_steps.Statement.{statement}
 use Rattle.handler.proofs.statements.test_steps.Tie as tie
@@ -11,13 +12,13 @@ use Rattle.handler.proofs.statements.test_steps.Tie as tie
 returns : tie.Need-returns
 returns c = rw (eq-eqb _ 4 (c .before .if1 .taken)) (omega arith)
 
--- Both products are at most 64 times a number of 33 bits.
+-- Both products are at most the capacity times a number of 33 bits.
 products : (c : tie.Else1) → let a = c .before .before .args in
-    (a .n * (a .e + 2) ≤ 64 * (2 ^ 32 + 1)) × ((a .n - 1) * (c .before .capped .result + 1) ≤ 64 * (2 ^ 32 + 1))
+    (a .n * (a .e + 2) ≤ capacity * (2 ^ 32 + 1)) × ((a .n - 1) * (c .before .capped .result + 1) ≤ capacity * (2 ^ 32 + 1))
 products c =
     let a = c .before .before .args in (
-      mul-le-mul {n₁ = a .n} {m₁ = a .e + 2} {n₂ = 64} {m₂ = 2 ^ 32 + 1} (omega arith) (omega arith),
-      mul-le-mul {n₁ = a .n - 1} {m₁ = c .before .capped .result + 1} {n₂ = 64} {m₂ = 2 ^ 32 + 1} (omega arith) (omega arith),
+      mul-le-mul {n₁ = a .n} {m₁ = a .e + 2} {n₂ = capacity} {m₂ = 2 ^ 32 + 1} (omega arith) (omega arith),
+      mul-le-mul {n₁ = a .n - 1} {m₁ = c .before .capped .result + 1} {n₂ = capacity} {m₂ = 2 ^ 32 + 1} (omega arith) (omega arith),
     )
 
 returns-2 : tie.Need-returns-2

@@ -4,7 +4,7 @@ use borrow.Author.Needs.{needs}
 use Rattle.handler.specs.Header.{machineIn}
 use Rattle.evaluation.specs.Values.{exprIn}
 use Rattle.rules.specs.Words.{wordSpec}
-use Rattle.rules.proofs.Asking.{then}
+use Rattle.rules.proofs.Asking.{asked-then}
 use Rattle.rules.proofs.Movement.{unmoved-41}
 use Rattle.rules.proofs.Stores.{in-range-40, store-in-post-42, store-in-guarantee-43}
 use Rattle.rules.proofs.assignment.assignment_fault.Statement.{statement}
@@ -19,10 +19,10 @@ returns c =
     let own = wordSpec (machineIn (a .head) .states) (a .work .now) (a .own) in
     let rows = stores .successors .ensures in
     let still = c .before .before .before .before .before .before .before .unmoved .ensures ∙ unmoved-41 _ _ _ (c .before .before .before .before .before .before .before .before .moved .ensures) e in
-    then 43 _
-    (then 42 _
-    (then 41 _
-    (then 40 _ (rw n at (c .before .before .before .before .before .before .before .before .before .before .before .before .common .ensures))
+    asked-then 43 _
+    (asked-then 42 _
+    (asked-then 41 _
+    (asked-then 40 _ (rw n at (c .before .before .before .before .before .before .before .before .before .before .before .before .common .ensures))
     (c .before .before .before .before .before .before .before .before .before .ask .ensures) (rw n at (c .before .before .before .before .before .before .before .before .before .before .in-range .ensures) ∙ in-range-40 (a .head) (a .v) e _ rows own))
     (c .before .before .before .before .before .before .ask2 .ensures) still)
     (c .before .before .before .ask3 .ensures) (rw n at (c .before .before .before .before .store-in-post .ensures) ∙ store-in-post-42 (a .head) (a .v) e _ rows own))

@@ -2,6 +2,7 @@
 use mathlib.Core.Path.{_∙_, ap₂}
 use mathlib.Core.Bool.{_||_}
 use borrow.Author.Needs.{needs}
+use Rattle.states.specs.Sets.{capacity}
 use Rattle.states.specs.Search.{implies}
 use Rattle.states.proofs.Search.{all-cong}
 use Rattle.rules.proofs.Searches.{small-within}
@@ -15,7 +16,7 @@ returns c =
     let allowed = c .before .before in
     let a = allowed .before .before .before .before .before .args in
     c .included .ensures
-    ∙ all-cong 64 _ _ (λ t l. ap₂ implies (c .before .row .ensures t)
+    ∙ all-cong capacity _ _ (λ t l. ap₂ implies (c .before .row .ensures t)
     (allowed .join .ensures t ∙ ap₂ _||_ (allowed .before .before .single .ensures t) (allowed .before .row-at .ensures t) ∙ or-itself (a .s) t _ l))
     ∙ small-within (a .n) _ _ (rel-small (a .n) (a .after .now) (a .s))
 

@@ -6,10 +6,10 @@ use mathlib.Core.List.{List}
 use lib.Dec.{eqb}
 use borrow.Author.Needs.{needs}
 use Rattle.states.specs.Search.{Search, must, holds}
-use Rattle.states.specs.Sets.{has}
+use Rattle.states.specs.Sets.{capacity, has}
 use Rattle.states.specs.Relations.{rel}
 use Rattle.states.proofs.Reach.{count}
-use Rattle.states.proofs.Members.{Passed, passed-none, passed-more, Turn, turn}
+use Rattle.states.proofs.Members.{Passed, passed-none, passed-more, Turn, turn, none-left}
 use Rattle.semantics.specs.Conditions.{inSet}
 use Rattle.rules.specs.Words.{wordRelation}
 use Rattle.rules.proofs.Searches.{passed-search}
@@ -24,14 +24,17 @@ abbrev Inv-loop : tie.InvT-loop
 Inv-loop n work own after rest₀ held₀ rest held = Passed n (λ s. holds (guaranteed n work (own .g) after s)) rest₀ rest held
 
 abbrev μ-loop : tie.MeasureT-loop
-μ-loop n work own after rest₀ held₀ rest held = count 64 (has rest)
+μ-loop n work own after rest₀ held₀ rest held = count capacity (has rest)
 
 loop-holds : tie.Need-loop-holds Inv-loop μ-loop
 loop-holds c =
     let a = c .before .before .before .args in passed-none _ _ _ (λ s e. set-small (a .n) (a .work .now) (a .own .p) s (sym (c .set-at .ensures s) ∙ e) .1)
 
-one : (c : tie.After-without-least Inv-loop μ-loop) → Turn (c .before .before .before .before .before .loop .rest) (c .without-least .result)
-one c = let d = c .before .before in turn _ _ (d .struct-known2 .given .0 .fits) (d .before .if1 .taken) (c .without-least .ensures)
+one : (c : tie.After-without-least Inv-loop μ-loop)
+    → let d = c .before .before in Turn (d .before .before .before .loop .rest) (c .without-least .result) (d .least .result)
+one c =
+    let d = c .before .before in
+    turn _ _ (d .before .before .is-empty .ensures) (d .before .if1 .taken) _ (d .least .ensures) _ (c .without-least .ensures)
 
 loop-again : tie.Need-loop-again Inv-loop μ-loop
 loop-again c =
@@ -41,10 +44,11 @@ loop-again c =
     (c .before .guaranteed-at .ensures) (l .loop .inv)
 
 returns : tie.Need-returns Inv-loop μ-loop
-returns c = let l = c .before .before in passed-search _ _ _ _ _ _ (c .if1 .left) (λ s k. l .before .set-at .ensures s) (l .loop .inv)
+returns c = let l = c .before .before in passed-search _ _ _ _ _ _ (none-left _ _ (c .before .is-empty .ensures) (c .if1 .left)) (λ s k. l .before .set-at .ensures s) (l .loop .inv)
 
 pub store-in-guarantee-spec : {M : Type 1} → statement M
 store-in-guarantee-spec =
     tie.close
-    (tie.spec Inv-loop μ-loop (λ c κs. search needs) loop-holds (λ c κs. search needs) (λ c κs. search needs)
+    (tie.spec Inv-loop μ-loop (λ c κs. search needs) loop-holds (λ c κs. search needs) (λ c κs. search needs) (λ c κs. search needs)
+    (λ c κs. search needs)
     (λ c. one c .less) loop-again returns)

@@ -2,7 +2,7 @@
 use mathlib.Core.Path.{_∙_, fun-ext}
 use borrow.Author.Needs.{needs}
 use Rattle.evaluation.specs.Values.{exprIn}
-use Rattle.rules.proofs.Asking.{then}
+use Rattle.rules.proofs.Asking.{asked-then}
 use Rattle.rules.proofs.Movement.{unmoved-45}
 use Rattle.rules.proofs.conditional.if_fault.Statement.{statement}
 use Rattle.rules.proofs.conditional.if_fault.Tie as tie
@@ -14,9 +14,9 @@ returns c =
     let e = exprIn (a .handler .now) (a .head .count) (a .expr) in
     let still = c .before .before .before .unmoved .ensures ∙ unmoved-45 _ _ _ (c .before .before .before .before .moved .ensures) e in
     rw (test .before .states-in .ensures, fun-ext (test .truths-at .ensures .0), fun-ext (test .truths-at .ensures .1)) at
-    (then 46 _
-    (then 45 _
-    (then 34 _ (c .before .before .before .before .before .before .before .common .ensures) (c .before .before .before .before .before .ask .ensures) (c .before .before .before .before .before .before .if-tables .ensures))
+    (asked-then 46 _
+    (asked-then 45 _
+    (asked-then 34 _ (c .before .before .before .before .before .before .before .common .ensures) (c .before .before .before .before .before .ask .ensures) (c .before .before .before .before .before .before .if-tables .ensures))
     (c .before .before .ask2 .ensures) still)
     (c .ask3 .ensures) (c .before .skip-satisfies-post .ensures))
 

@@ -4,6 +4,7 @@ use mathlib.Core.Bool.{_&&_, _||_}
 use lib.Dec.{eqb}
 use borrow.Author.Tests.{lt-ltb}
 use borrow.Author.Needs.{needs}
+use Rattle.states.specs.Sets.{capacity}
 use Rattle.states.specs.Search.{implies}
 use Rattle.states.proofs.Search.{all-cong}
 use Rattle.rules.proofs.Searches.{at-member, at-other, small-within}
@@ -17,9 +18,9 @@ returns c =
     let e = d .before .before in
     let a = e .before .before .before .args in
     c .included .ensures
-    ∙ all-cong 64 _ _ (λ t l. ap₂ implies (d .row-at .ensures t)
+    ∙ all-cong capacity _ _ (λ t l. ap₂ implies (d .row-at .ensures t)
     (c .before .join .ensures t
-    ∙ ap₂ _||_ (c .before .before .before .single .ensures t ∙ ap (λ b. b && eqb (a .s) t) (lt-ltb t 64 l)) (c .before .before .row-at2 .ensures t)))
+    ∙ ap₂ _||_ (c .before .before .before .single .ensures t ∙ ap (λ b. b && eqb (a .s) t) (lt-ltb t capacity l)) (c .before .before .row-at2 .ensures t)))
     ∙ small-within (a .n) _ _ (relation-small (a .n) (a .work .now) (a .r) (a .s))
     ∙ at-member _ _ (sym (e .holds-state .ensures ∙ e .before .set-at .ensures _) ∙ d .before .if1 .taken)
 

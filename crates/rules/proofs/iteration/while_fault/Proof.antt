@@ -2,7 +2,7 @@
 use mathlib.Core.Path.{_∙_, fun-ext}
 use borrow.Author.Needs.{needs}
 use Rattle.evaluation.specs.Values.{exprIn}
-use Rattle.rules.proofs.Asking.{then}
+use Rattle.rules.proofs.Asking.{asked-then}
 use Rattle.rules.proofs.Movement.{read-once-50}
 use Rattle.rules.proofs.iteration.while_fault.Statement.{statement}
 use Rattle.rules.proofs.iteration.while_fault.Tie as tie
@@ -15,14 +15,14 @@ returns c =
     let e = exprIn (a .handler .now) (a .head .count) (a .expr) in
     let once = from-51 .before .before .before .read-once .ensures ∙ read-once-50 _ _ _ (from-51 .before .before .before .before .moved .ensures) e in
     rw (test .before .states-in .ensures, fun-ext (test .truths-at .ensures .0), fun-ext (test .truths-at .ensures .1)) at
-    (then 56 _
-    (then 55 _
-    (then 54 _
-    (then 53 _
-    (then 52 _
-    (then 51 _
-    (then 50 _
-    (then 34 _ (from-51 .before .before .before .before .before .before .before .common .ensures)
+    (asked-then 56 _
+    (asked-then 55 _
+    (asked-then 54 _
+    (asked-then 53 _
+    (asked-then 52 _
+    (asked-then 51 _
+    (asked-then 50 _
+    (asked-then 34 _ (from-51 .before .before .before .before .before .before .before .common .ensures)
     (from-51 .before .before .before .before .before .ask .ensures) (from-51 .before .before .before .before .before .before .while-tables .ensures))
     (from-51 .before .before .ask2 .ensures) once)
     (from-51 .ask3 .ensures) (from-51 .before .strict-order .ensures))

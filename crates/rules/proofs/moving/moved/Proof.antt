@@ -8,6 +8,7 @@ use borrow.Author.Needs.{needs}
 use Rattle.states.specs.Search.{any}
 use Rattle.states.proofs.Search.{any-none, any-more, any-done}
 use Rattle.states.specs.Sets.{has}
+use Rattle.states.proofs.Members.{none-in}
 use Rattle.handler.specs.Header.{machineIn}
 use Rattle.handler.specs.Shapes.{inMask}
 use Rattle.handler.proofs.Heads.{known-head}
@@ -46,7 +47,7 @@ returns-2 : tie.Need-returns-2 Inv-loop μ-loop
 returns-2 c v =
     let d = c .before .before in
     let a = d .before .before .before .before .before .before .before .args in
-    mask-none v ∙ sym (any-none (a .head .count) _ (λ u l. ap (λ b. b && eqb u v) (sym (enough d u) ∙ none-start _ _ _ (c .if2 .taken))))
+    mask-none v ∙ sym (any-none (a .head .count) _ (λ u l. ap (λ b. b && eqb u v) (sym (enough d u) ∙ none-start _ _ _ (none-in _ _ (c .before .is-empty .ensures) (c .if2 .taken)))))
     ∙ mask-moves (a .head) (a .work .now) (a .own) v
 
 loop-holds : tie.Need-loop-holds Inv-loop μ-loop
@@ -82,4 +83,4 @@ pub moved-spec : {M : Type 1} → statement M
 moved-spec =
     tie.close
     (tie.spec Inv-loop μ-loop (λ c κs. search needs) returns (λ c κs. search needs) (λ c κs. search needs) (λ c κs. search needs)
-    (λ c κs. search needs) returns-2 loop-holds (λ c κs. search needs) with-variable-requires (λ c. search needs) (λ c. search needs) loop-again returns-3)
+    (λ c κs. search needs) (λ c κs. search needs) returns-2 loop-holds (λ c κs. search needs) with-variable-requires (λ c. search needs) (λ c. search needs) loop-again returns-3)

@@ -4,15 +4,14 @@ use Prim.Native.Nat.{ℕ}
 use mathlib.Core.Path.{_≡_, _∙_, sym, ap, ap₂, refl}
 use mathlib.Core.Bool.{Bool, true, false, not, _&&_, _||_, and-false}
 use mathlib.Core.List.{List}
-use lib.Count.{trailingZeros}
 use lib.Dec.{ltb, eqb}
 use borrow.Author.Needs.{needs}
 use borrow.Author.Tests.{lt-ltb, eq-eqb}
 use Rattle.states.specs.Search.{implies, all, any}
-use Rattle.states.specs.Sets.{has}
+use Rattle.states.specs.Sets.{capacity, has}
 use Rattle.states.proofs.Search.{and-left, and-both, or-right, any-cong}
 use Rattle.states.proofs.Reach.{count, count-more}
-use Rattle.states.proofs.Members.{first-below, first-in, start-below, start-same, Passed, passed-none, passed-part, passed-all}
+use Rattle.states.proofs.Members.{least-of, none-left, start-below, start-same, Passed, passed-none, passed-part, passed-all}
 use Rattle.handler.specs.Header.{machineIn}
 use Rattle.evaluation.specs.declared.Variable.{Variable}
 use Rattle.evaluation.specs.Values.{agree, agreeIn}
@@ -31,12 +30,13 @@ abbrev Inv-loop : tie.InvT-loop
 Inv-loop n work r v variable rest₀ rest = Passed n (keeps n work r variable) rest₀ rest true
 
 abbrev μ-loop : tie.MeasureT-loop
-μ-loop n work r v variable rest₀ rest = count 64 (has rest)
+μ-loop n work r v variable rest₀ rest = count capacity (has rest)
 
 -- What is taken out, and what is asked of it.
-group : (c : tie.After-join Inv-loop μ-loop) → let d = c .before .before .before .before .before .before in
-    let first = trailingZeros 64 (d .loop .rest .bits) in
-    (s : ℕ) → has (c .join .result) s ≡ (agreeIn (d .before .before .before .variable-of .result) first s || ltb s 64 && eqb first s)
+group : (c : tie.After-join Inv-loop μ-loop) → let f = c .before .before .before in
+    let d = f .before .before .before in
+    let first = f .least .result in
+    (s : ℕ) → has (c .join .result) s ≡ (agreeIn (d .before .before .before .variable-of .result) first s || ltb s capacity && eqb first s)
 group c s = c .join .ensures s ∙ ap₂ _||_ (c .before .before .agreeing .ensures s) (c .before .single .ensures s)
 
 asked : (c : tie.After-leads-into Inv-loop μ-loop) → let d = c .before .before in
@@ -55,7 +55,7 @@ asked c =
 
 -- The states to take out are those of the set that are below n.
 start : (c : tie.After-meet Inv-loop μ-loop) → let a = c .before .before .before .before .args in
-    (s : ℕ) → has (c .meet .result) s ≡ (has (a .from) s && (ltb s 64 && ltb s (a .n)))
+    (s : ℕ) → has (c .meet .result) s ≡ (has (a .from) s && (ltb s capacity && ltb s (a .n)))
 start c s = c .meet .ensures s ∙ ap (λ b. has (c .before .before .before .before .args .from) s && b) (c .before .below .ensures s)
 
 loop-holds : tie.Need-loop-holds Inv-loop μ-loop
@@ -67,12 +67,11 @@ loop-less c =
     let d = c .before .before .before .before in
     let e = d .before .before .before in
     let set = e .before .before .before .loop .rest in
-    let first = trailingZeros 64 (set .bits) in
-    let low = first-below set (e .struct-known2 .given .0 .fits) (e .before .if1 .taken) in
-    let there = first-in set (e .struct-known2 .given .0 .fits) (e .before .if1 .taken) in
-    let own = group d first ∙ or-right (agreeIn _ first first) (ltb first 64 && eqb first first) (and-both _ _ (lt-ltb first 64 low) (eq-eqb first first refl)) in
-    count-more 64 _ _ (λ s h. and-left (has set s) _ (sym (c .narrow .ensures s) ∙ h)) first low
-    (c .narrow .ensures first ∙ ap (λ b. has set first && not b) own ∙ and-false (has set first)) there
+    let first = e .least .result in
+    let least = least-of set _ (e .before .before .is-empty .ensures) (e .before .if1 .taken) first (e .least .ensures) in
+    let own = group d first ∙ or-right (agreeIn _ first first) (ltb first capacity && eqb first first) (and-both _ _ (lt-ltb first capacity (least .below)) (eq-eqb first first refl)) in
+    count-more capacity _ _ (λ s h. and-left (has set s) _ (sym (c .narrow .ensures s) ∙ h)) first (least .below)
+    (c .narrow .ensures first ∙ ap (λ b. has set first && not b) own ∙ and-false (has set first)) (least .there)
 
 loop-again : tie.Need-loop-again Inv-loop μ-loop
 loop-again c =
@@ -97,11 +96,12 @@ returns c =
     moved (e .before) false (sym (passed-not _ _ _ _ _ (e .loop .inv) (sym (asked d) ∙ c .if2 .left)))
 
 returns-2 : tie.Need-returns-2 Inv-loop μ-loop
-returns-2 c = let d = c .before .before in moved (d .before) true (passed-all _ _ _ _ _ (c .if1 .left) (d .loop .inv))
+returns-2 c = let d = c .before .before in moved (d .before) true (passed-all _ _ _ _ _ (none-left _ _ (c .before .is-empty .ensures) (c .if1 .left)) (d .loop .inv))
 
 pub moves-variable-spec : {M : Type 1} → statement M
 moves-variable-spec =
     tie.close
     (tie.spec Inv-loop μ-loop (λ c κs. search needs) (λ c κs. search needs) (λ c κs. search needs) loop-holds (λ c κs. search needs) (λ c κs. search needs)
+    (λ c κs. search needs) (λ c κs. search needs)
     (λ c κs. search needs) (λ c κs. search needs) (λ c κs. search needs) (λ c κs. search needs) loop-less loop-again returns
     returns-2)

@@ -7,7 +7,7 @@ use mathlib.Core.Bool.{_&&_, _||_, or-false}
 use lib.Dec.{eqb}
 use lib.Pow.{shl-exact}
 use borrow.Author.Needs.{needs}
-use Rattle.states.proofs.Words.{or-bits, bit-power}
+use Rattle.states.proofs.Bits.{or-bits, bit-power}
 use Rattle.handler.specs.Shapes.{inMask}
 use Rattle.rules.proofs.moving.with_variable.Statement.{statement}
 use Rattle.rules.proofs.moving.with_variable.Tie as tie

@@ -1,9 +1,10 @@
--- A join of three, in 64 rows.
+-- A join of three.
 use Prim.Native.Nat.{ℕ}
 use mathlib.Core.Path.{_≡_, _∙_, refl}
 use mathlib.Core.Bool.{Bool, true, false, _&&_, _||_}
 use lib.Dec.{ltb}
 use borrow.Author.Needs.{needs}
+use Rattle.states.specs.Sets.{capacity}
 use Rattle.states.proofs.Rows.{union-rel}
 use Rattle.rules.specs.Words.{wordRelation}
 use Rattle.rules.proofs.parallel.changes.Statement.{statement}
@@ -25,7 +26,7 @@ returns c s t =
       c .before .before .before .before .rows-of2 .ensures,
       c .before .before .before .before .before .rows-of .ensures,
     ) at (union-rel _ _ _ (c .union-of2 .result) (c .union-of2 .ensures) s t)
-    ∙ once (ltb s 64) (r (a .r) || r (a .left)) (r (a .right))
+    ∙ once (ltb s capacity) (r (a .r) || r (a .left)) (r (a .right))
 
 pub changes-spec : {M : Type 1} → statement M
 changes-spec =

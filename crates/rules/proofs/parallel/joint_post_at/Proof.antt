@@ -4,7 +4,7 @@ use mathlib.Core.Path.{_≡_, _∙_, sym, ap, ap₂}
 use mathlib.Core.Bool.{Bool, true, _&&_}
 use borrow.Author.Needs.{needs}
 use Rattle.states.specs.Search.{implies, all, must, given, holds}
-use Rattle.states.specs.Sets.{has}
+use Rattle.states.specs.Sets.{capacity, has}
 use Rattle.states.proofs.Search.{and-left, all-cong}
 use Rattle.semantics.specs.Conditions.{inSet}
 use Rattle.rules.specs.Words.{wordSet, wordRelation}
@@ -23,18 +23,18 @@ member c = sym (c .before .holds-state .ensures ∙ c .before .before .set-at .e
 
 -- The condition for any property in the place of the reach, by the words.
 by-words : (c : tie.After-row-at3) (x : ℕ → Bool) → let a = c .before .before .before .before .before .before .before .before .before .args in
-    all 64 (λ t. implies (has (c .before .meet .result) t && x t) (has (c .row-at3 .result) t))
+    all capacity (λ t. implies (has (c .before .meet .result) t && x t) (has (c .row-at3 .result) t))
     ≡ holds (given (wordSet (a .n) (a .work .now) (a .p) (a .s)) (inSet (a .n)
     (λ t. wordRelation (a .n) (a .work .now) (a .left) (a .s) t && wordRelation (a .n) (a .work .now) (a .right) (a .s) t && x t)
     (λ t. must (wordRelation (a .n) (a .work .now) (a .q) (a .s) t))))
 by-words c x =
     let a = c .before .before .before .before .before .before .before .before .before .args in
-    all-cong 64 _ _ (λ t l. ap₂ (λ b q. implies (b && x t) q) (both (c .before) t) (c .row-at3 .ensures t))
+    all-cong capacity _ _ (λ t l. ap₂ (λ b q. implies (b && x t) q) (both (c .before) t) (c .row-at3 .ensures t))
     ∙ small-within (a .n) _ _ (λ t h. relation-small (a .n) (a .work .now) (a .left) (a .s) t (and-left _ _ (and-left _ (x t) h)))
     ∙ at-member _ _ (member (c .before .before .before .before))
 
 returns : tie.Need-returns
-returns c = sym (part-within 64 _ _ _ (sym (c .before .included .ensures) ∙ c .if2 .taken)) ∙ by-words (c .before .before) _
+returns c = sym (part-within capacity _ _ _ (sym (c .before .included .ensures) ∙ c .if2 .taken)) ∙ by-words (c .before .before) _
 
 returns-2 : tie.Need-returns-2
 returns-2 c =
@@ -44,7 +44,7 @@ returns-2 c =
     let low = set-small (a .n) (a .work .now) (a .p) (a .s) (member e) .0 in
     let reached = reached-set (a .n) (a .moves .now) (a .s) _ _ low (c .before .before .before .single .ensures) (c .before .before .reach .ensures) in
     c .included2 .ensures
-    ∙ all-cong 64 _ _ (λ t l. ap (λ b. implies b (has (d .row-at3 .result) t)) (c .before .meet2 .ensures t ∙ ap (λ b. has (d .before .meet .result) t && b) (reached t)))
+    ∙ all-cong capacity _ _ (λ t l. ap (λ b. implies b (has (d .row-at3 .result) t)) (c .before .meet2 .ensures t ∙ ap (λ b. has (d .before .meet .result) t && b) (reached t)))
     ∙ by-words d _
 
 returns-3 : tie.Need-returns-3

@@ -1,14 +1,14 @@
 -- 30 to 33, then 34, 65 and 66.
 use borrow.Author.Needs.{needs}
-use Rattle.rules.proofs.Asking.{then}
+use Rattle.rules.proofs.Asking.{asked-then}
 use Rattle.rules.proofs.parallel.parallel_fault.Statement.{statement}
 use Rattle.rules.proofs.parallel.parallel_fault.Tie as tie
 
 returns : tie.Need-returns
 returns c =
-    then 66 _
-    (then 65 _
-    (then 34 _
+    asked-then 66 _
+    (asked-then 65 _
+    (asked-then 34 _
     (c .before .before .before .before .before .before .common .ensures)
     (c .before .before .before .before .ask .ensures) (c .before .before .before .before .before .parallel-tables .ensures))
     (c .before .before .ask2 .ensures) (c .before .before .before .guarantees-within .ensures))

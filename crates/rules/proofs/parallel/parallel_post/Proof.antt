@@ -1,4 +1,4 @@
--- The states below s that are in P meet the condition. `holds-next` adds the next, whose reach by the 64 rows is the whole reach.
+-- The states below s that are in P meet the condition. `holds-next` adds the next, whose reach by the rows that there are is the whole reach.
 use Prim.Native.Nat.{ℕ, _≤_, _-_}
 use native.Mathlib.Omega.{arith}
 use mathlib.Core.Path.{_≡_, _∙_, ap, ap₂, fun-ext, refl}
@@ -6,6 +6,7 @@ use mathlib.Core.Bool.{Bool, _&&_, _||_}
 use mathlib.Core.List.{List}
 use lib.Dec.{ltb}
 use borrow.Author.Needs.{needs}
+use Rattle.states.specs.Sets.{capacity}
 use Rattle.states.specs.Search.{Search, must, given, each, holds}
 use Rattle.states.specs.Relations.{rel, reach}
 use Rattle.semantics.specs.Conditions.{inSet, c66}
@@ -26,7 +27,7 @@ abbrev whole : ℕ → List ℕ → Names → Names → Names → ℕ → ℕ �
 whole n work own left right s t = wordRelation n work (own .r) s t || wordRelation n work (left .g) s t || wordRelation n work (right .g) s t
 
 same-reach : (n : ℕ) (work : List ℕ) (own left right : Names) (rows : List ℕ)
-    → ((s t : ℕ) → rel n rows s t ≡ (ltb s 64 && whole n work own left right s t))
+    → ((s t : ℕ) → rel n rows s t ≡ (ltb s capacity && whole n work own left right s t))
     → (s : ℕ) → at n work own left right (rel n rows) s ≡ at n work own left right (whole n work own left right) s
 same-reach n work own left right rows same s =
     given-cong _ _ _ (λ e. ap (λ p. inSet n p (λ t. must (wordRelation n work (own .q) s t)))

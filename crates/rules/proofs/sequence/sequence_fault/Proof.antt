@@ -1,14 +1,14 @@
 -- 30 to 33, then 34, 60 and 61.
 use borrow.Author.Needs.{needs}
-use Rattle.rules.proofs.Asking.{then}
+use Rattle.rules.proofs.Asking.{asked-then}
 use Rattle.rules.proofs.sequence.sequence_fault.Statement.{statement}
 use Rattle.rules.proofs.sequence.sequence_fault.Tie as tie
 
 returns : tie.Need-returns
 returns c =
-    then 61 _
-    (then 60 _
-    (then 34 _
+    asked-then 61 _
+    (asked-then 60 _
+    (asked-then 34 _
     (c .before .before .before .before .before .before .common .ensures)
     (c .before .before .before .before .ask .ensures) (c .before .before .before .before .before .sequence-tables .ensures))
     (c .before .before .ask2 .ensures) (c .before .before .before .left-meets-right .ensures))

@@ -1,12 +1,12 @@
 -- 30 to 33, then 35.
 use borrow.Author.Needs.{needs}
-use Rattle.rules.proofs.Asking.{then}
+use Rattle.rules.proofs.Asking.{asked-then}
 use Rattle.rules.proofs.skip.skip_fault.Statement.{statement}
 use Rattle.rules.proofs.skip.skip_fault.Tie as tie
 
 returns : tie.Need-returns
 returns c =
-    then 35 _
+    asked-then 35 _
     (c .before .before .common .ensures)
     (c .ask .ensures) (c .before .reflexive .ensures)
 

@@ -5,7 +5,8 @@ use mathlib.Core.Bool.{_&&_}
 use lib.Dec.{ltb}
 use borrow.Author.Needs.{needs}
 use Rattle.states.specs.Search.{any}
-use Rattle.states.specs.Sets.{has}
+use Rattle.states.specs.Sets.{capacity, has}
+use Rattle.states.proofs.Members.{none-in}
 use Rattle.semantics.specs.Conditions.{c31, c32, c33}
 use Rattle.rules.specs.Words.{wordSet, wordRelation}
 use Rattle.rules.proofs.Searches.{inSet-intro, inSet-same, inSet-starting, inSet-none}
@@ -15,7 +16,7 @@ use Rattle.rules.proofs.stability.stable_under_rely.Tie as tie
 
 -- The states that start a pair of R, and those of P that do.
 starts : (c : tie.After-starting) → let a = c .before .before .before .args in
-    (s : ℕ) → has (c .starting .result) s ≡ (ltb s 64 && any (a .n) (wordRelation (a .n) (a .work .now) (a .own .r) s))
+    (s : ℕ) → has (c .starting .result) s ≡ (ltb s capacity && any (a .n) (wordRelation (a .n) (a .work .now) (a .own .r) s))
 unfolding wordRelation
 starts c = rw (c .before .rows-of .ensures) at (c .starting .ensures)
 
@@ -30,7 +31,7 @@ returns c =
     let a = d .before .before .before .args in
     let small = set-small (a .n) (a .work .now) (a .own .p) in
     let ends = relation-small (a .n) (a .work .now) (a .own .q) in
-    let none = c .if1 .taken in (
+    let none = none-in _ _ (c .before .is-empty .ensures) (c .if1 .taken) in (
       sym (inSet-none _ _ _ _ _ small (starts d) none),
       (
         sym (inSet-none _ _ _ _ _ small (starts d) none),
@@ -58,5 +59,5 @@ returns-2 c =
 pub stable-under-rely-spec : {M : Type 1} → statement M
 stable-under-rely-spec =
     tie.close
-    (tie.spec (λ c κs. search needs) (λ c κs. search needs) returns (λ c κs. search needs) (λ c κs. search needs) (λ c κs. search needs)
+    (tie.spec (λ c κs. search needs) (λ c κs. search needs) (λ c κs. search needs) returns (λ c κs. search needs) (λ c κs. search needs) (λ c κs. search needs)
     (λ c κs. search needs) (λ c κs. search needs) (λ c κs. search needs) returns-2)

@@ -6,9 +6,9 @@ use mathlib.Core.Bool.{_&&_}
 use lib.Dec.{ltb}
 use borrow.Author.Needs.{needs}
 use Rattle.states.specs.Search.{must, holds}
-use Rattle.states.specs.Sets.{has}
+use Rattle.states.specs.Sets.{capacity, has}
 use Rattle.states.proofs.Reach.{count}
-use Rattle.states.proofs.Members.{start-below, start-same, Passed, passed-none, passed-more, Turn, turn}
+use Rattle.states.proofs.Members.{start-below, start-same, Passed, passed-none, passed-more, Turn, turn, none-left}
 use Rattle.semantics.specs.Conditions.{inSet}
 use Rattle.rules.specs.Words.{wordRelation}
 use Rattle.rules.proofs.Searches.{passed-search}
@@ -21,15 +21,18 @@ Inv-loop n work a through b whole rest₀ held₀ rest held =
     (λ t. inSet n (wordRelation n work b t) (λ u. must (wordRelation n work whole s u))))) rest₀ rest held
 
 abbrev μ-loop : tie.MeasureT-loop
-μ-loop n work a through b whole rest₀ held₀ rest held = count 64 (has rest)
+μ-loop n work a through b whole rest₀ held₀ rest held = count capacity (has rest)
 
 -- The states to look at, and one taken out.
 start : (c : tie.After-meet Inv-loop μ-loop) → let a = c .before .before .before .args in
-    (s : ℕ) → has (c .meet .result) s ≡ (has (a .from) s && (ltb s 64 && ltb s (a .n)))
+    (s : ℕ) → has (c .meet .result) s ≡ (has (a .from) s && (ltb s capacity && ltb s (a .n)))
 start c s = c .meet .ensures s ∙ ap (λ b. has (c .before .before .before .args .from) s && b) (c .before .below .ensures s)
 
-one : (c : tie.After-without-least Inv-loop μ-loop) → Turn (c .before .before .before .before .before .loop .rest) (c .without-least .result)
-one c = let d = c .before .before in turn _ _ (d .struct-known2 .given .0 .fits) (d .before .if1 .taken) (c .without-least .ensures)
+one : (c : tie.After-without-least Inv-loop μ-loop)
+    → let d = c .before .before in Turn (d .before .before .before .loop .rest) (c .without-least .result) (d .least .result)
+one c =
+    let d = c .before .before in
+    turn _ _ (d .before .before .is-empty .ensures) (d .before .if1 .taken) _ (d .least .ensures) _ (c .without-least .ensures)
 
 loop-holds : tie.Need-loop-holds Inv-loop μ-loop
 loop-holds c = passed-none _ _ _ (start-below _ (c .before .before .before .args .from) _ (start c))
@@ -40,7 +43,7 @@ loop-again c = passed-more _ _ _ _ _ _ _ _ (one c .taken) (c .before .row-chains
 returns : tie.Need-returns Inv-loop μ-loop
 returns c =
     let l = c .before .before in
-    passed-search _ _ _ _ _ _ (c .if1 .left) (start-same _ (l .before .before .before .before .args .from) _ (start (l .before))) (l .loop .inv)
+    passed-search _ _ _ _ _ _ (none-left _ _ (c .before .is-empty .ensures) (c .if1 .left)) (start-same _ (l .before .before .before .before .args .from) _ (start (l .before))) (l .loop .inv)
 
 pub chains-into-spec : {M : Type 1} → statement M
 chains-into-spec =
@@ -50,7 +53,7 @@ chains-into-spec =
     μ-loop
     (λ c κs. search needs) (λ c κs. search needs)
     loop-holds
-    (λ c κs. search needs) (λ c κs. search needs)
+    (λ c κs. search needs) (λ c κs. search needs) (λ c κs. search needs) (λ c κs. search needs)
     (λ c. one c .less)
     loop-again
     returns)

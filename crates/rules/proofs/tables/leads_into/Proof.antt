@@ -1,4 +1,4 @@
--- The ends are within the other set, over the 64 states of a set as over the n.
+-- The ends are within the other set, over all that a set can hold as over the n.
 use mathlib.Core.Path.{_∙_}
 use borrow.Author.Needs.{needs}
 use Rattle.states.specs.Sets.{has}

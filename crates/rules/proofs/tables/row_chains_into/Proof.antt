@@ -3,7 +3,7 @@ use mathlib.Core.Path.{_∙_, sym, ap, ap₂}
 use mathlib.Core.Bool.{_&&_}
 use borrow.Author.Needs.{needs}
 use Rattle.states.specs.Search.{implies}
-use Rattle.states.specs.Sets.{has}
+use Rattle.states.specs.Sets.{capacity, has}
 use Rattle.states.proofs.Search.{all-cong}
 use Rattle.rules.proofs.Searches.{full-within}
 use Rattle.rules.proofs.Words.{relation-small, leads-cong}
@@ -15,7 +15,7 @@ returns c =
     let d = c .before .before in
     let a = d .before .before .before .args in
     sym (full-within (a .n) _ _ _ (relation-small (a .n) (a .work .now) (a .b))
-    (sym (all-cong 64 _ _ (λ t l. ap₂ implies (d .below .ensures t) (d .before .row-at .ensures t))) ∙ sym (c .before .included .ensures) ∙ c .if1 .taken))
+    (sym (all-cong capacity _ _ (λ t l. ap₂ implies (d .below .ensures t) (d .before .row-at .ensures t))) ∙ sym (c .before .included .ensures) ∙ c .if1 .taken))
 
 returns-2 : tie.Need-returns-2
 returns-2 c =

@@ -1,4 +1,4 @@
--- The one row is within the other, over the 64 states of a row as over the n.
+-- The one row is within the other, over all that a set can hold as over the n.
 use mathlib.Core.Path.{_∙_}
 use borrow.Author.Needs.{needs}
 use Rattle.semantics.specs.Conditions.{setLiesIn}

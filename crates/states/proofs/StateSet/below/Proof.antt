@@ -9,7 +9,8 @@ use borrow.Author.Tests.{lt-ltb, le-ltb}
 use lib.Dec.{ltb}
 use lib.Pow.{pow-pos}
 use Rattle.states.specs.Sets.{has}
-use Rattle.states.proofs.Words.{bit, bit-ones, mem-bit, shifted}
+use Rattle.states.proofs.Bits.{bit, bit-ones, shifted}
+use Rattle.states.proofs.Words.{mem-bit}
 use Rattle.states.proofs.StateSet.below.Statement.{statement}
 use Rattle.states.proofs.StateSet.below.Tie as tie
 

@@ -1,12 +1,19 @@
 -- A word is 0 where it has no member.
-use Rattle.states.specs.Sets.{has}
-use Rattle.states.proofs.Words.{empty-word}
+use mathlib.Core.Path.{_∙_}
+use mathlib.Core.Bool.{not}
+use lib.Dec.{eqb}
+use Rattle.states.specs.Sets.{capacity, has}
+use Rattle.states.proofs.Bits.{word-empty}
+use Rattle.states.proofs.Words.{word-all}
+use Rattle.states.proofs.Search.{all-not}
 use Rattle.states.proofs.StateSet.is_empty.Statement.{statement}
 use Rattle.states.proofs.StateSet.is_empty.Tie as tie
 
 returns : tie.Need-returns
 unfolding has
-returns c = empty-word _ (c .struct-known .given .0 .fits)
+returns c =
+    let fits = c .struct-known .given .0 .fits in
+    word-all (λ x y. eqb x 0) (λ p q. not p) (λ x y l k. word-empty x l) _ _ fits fits ∙ all-not capacity _
 
 pub is-empty-spec : {M : Type 1} → statement M
 is-empty-spec = tie.close (tie.spec returns)

@@ -3,7 +3,8 @@ use mathlib.Core.Path.{refl}
 use mathlib.Core.Bool.{_||_}
 use lib.Bits.{bitOr}
 use Rattle.states.specs.Sets.{has}
-use Rattle.states.proofs.Words.{mem-word, or-bits}
+use Rattle.states.proofs.Bits.{or-bits}
+use Rattle.states.proofs.Words.{mem-word}
 use Rattle.states.proofs.StateSet.join.Statement.{statement}
 use Rattle.states.proofs.StateSet.join.Tie as tie
 

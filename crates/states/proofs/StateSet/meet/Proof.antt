@@ -3,7 +3,8 @@ use mathlib.Core.Path.{refl}
 use mathlib.Core.Bool.{_&&_}
 use lib.Bits.{bitAnd}
 use Rattle.states.specs.Sets.{has}
-use Rattle.states.proofs.Words.{mem-word, and-bits}
+use Rattle.states.proofs.Bits.{and-bits}
+use Rattle.states.proofs.Words.{mem-word}
 use Rattle.states.proofs.StateSet.meet.Statement.{statement}
 use Rattle.states.proofs.StateSet.meet.Tie as tie
 

@@ -3,7 +3,8 @@ use mathlib.Core.Path.{refl}
 use mathlib.Core.Bool.{not, _&&_}
 use lib.Bits.{bitAnd, bitXor}
 use Rattle.states.specs.Sets.{has}
-use Rattle.states.proofs.Words.{mem-word, without-bits}
+use Rattle.states.proofs.Bits.{without-bits}
+use Rattle.states.proofs.Words.{mem-word}
 use Rattle.states.proofs.StateSet.narrow.Statement.{statement}
 use Rattle.states.proofs.StateSet.narrow.Tie as tie
 

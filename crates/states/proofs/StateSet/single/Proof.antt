@@ -7,7 +7,8 @@ use borrow.Author.Tests.{ltb-true, eqb-true}
 use lib.Dec.{ltb, eqb}
 use Rattle.states.specs.Sets.{has}
 use Rattle.states.proofs.Search.{and-left, and-right, not-true-false}
-use Rattle.states.proofs.Words.{bit, bit-power, mem-bit, mem-nought, shifted}
+use Rattle.states.proofs.Bits.{bit, bit-power, shifted}
+use Rattle.states.proofs.Words.{mem-bit, mem-nought}
 use Rattle.states.proofs.StateSet.single.Statement.{statement}
 use Rattle.states.proofs.StateSet.single.Tie as tie
 

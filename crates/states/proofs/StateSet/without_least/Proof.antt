@@ -1,18 +1,28 @@
 -- The word 0 has no bit; of another, `x & (x - 1)` keeps the bits above the lowest.
-use native.Mathlib.Omega.{arith}
+use Prim.Native.Nat.{_-_}
+use mathlib.Core.Path.{_∙_, sym, ap}
+use mathlib.Core.Bool.{cond}
+use mathlib.Core.List.{[], _∷_}
+use lib.Bits.{bitAnd}
+use borrow.Author.Tests.{eq-eqb, ne-eqb}
 use borrow.Author.Needs.{needs}
-use Rattle.states.specs.Sets.{has}
-use Rattle.states.proofs.Words.{mem-nought, mem-lower}
+use Rattle.states.specs.Sets.{mem, has}
+use Rattle.states.proofs.Words.{one-word, mem-lowered}
 use Rattle.states.proofs.StateSet.without_least.Statement.{statement}
 use Rattle.states.proofs.StateSet.without_least.Tie as tie
 
 returns : tie.Need-returns
 unfolding has
-returns c s = rw (c .if1 .taken, mem-nought s)
+returns c s =
+    let x = c .before .before .args .self .bits in
+    sym (ap (λ b. mem (cond b (x ∷ []) (bitAnd x (x - 1) ∷ [])) s) (eq-eqb x 0 (c .if1 .taken))) ∙ mem-lowered (x ∷ []) (one-word (c .before .struct-known .given .0 .fits)) s
 
 returns-2 : tie.Need-returns-2
 unfolding has
-returns-2 c s = mem-lower _ s (omega (arith, c .before .before .if1 .left))
+returns-2 c s =
+    let d = c .before .before in
+    let x = d .before .before .args .self .bits in
+    sym (ap (λ b. mem (cond b (x ∷ []) (bitAnd x (x - 1) ∷ [])) s) (ne-eqb x 0 (d .if1 .left))) ∙ mem-lowered (x ∷ []) (one-word (d .before .struct-known .given .0 .fits)) s
 
 pub without-least-spec : {M : Type 1} → statement M
 without-least-spec = tie.close (tie.spec (λ c. search needs) returns returns-2)

@@ -1,20 +1,17 @@
--- The word at s, masked to the states below n, where s is one of them.
+-- Entry s, masked to the states below n, where s is one of them.
 use native.Mathlib.Omega.{arith}
-use mathlib.Core.Path.{_∙_, sym, ap, ap₂}
+use mathlib.Core.Path.{_∙_, sym, ap₂}
 use mathlib.Core.Bool.{_&&_}
-use mathlib.Core.List.{[], _∷_}
 use borrow.Author.Needs.{needs}
-use Rattle.states.specs.Sets.{mem, has}
 use Rattle.states.proofs.Search.{not-true-false}
 use Rattle.states.proofs.Rows.{rel-between, rel-row}
 use Rattle.states.proofs.relations.row.Statement.{statement}
 use Rattle.states.proofs.relations.row.Tie as tie
 
 returns : tie.Need-returns
-unfolding has
 returns c t =
     let a = c .before .before .before .before .before .args in
-    c .meet .ensures t ∙ ap₂ _&&_ (ap (λ w. mem (w ∷ []) t) (c .before .before .word .ensures)) (c .before .below .ensures t)
+    c .meet .ensures t ∙ ap₂ _&&_ (c .before .before .entry-at .ensures t) (c .before .below .ensures t)
     ∙ rel-row (a .n) (a .rows .now) (a .s) t (c .before .before .before .if1 .taken)
 
 returns-2 : tie.Need-returns-2

@@ -1,7 +1,8 @@
--- The inclusion of the two rows over 64 states is the one over n, and is asked for only where s is in the set.
+-- The inclusion of the two rows over all states is the one over n, and is asked for only where s is in the set.
 use mathlib.Core.Path.{_∙_, refl, ap₂, sym}
 use borrow.Author.Needs.{needs}
 use Rattle.states.specs.Search.{implies}
+use Rattle.states.specs.Sets.{capacity}
 use Rattle.states.proofs.Search.{all-cong}
 use Rattle.states.proofs.Rows.{row-all}
 use Rattle.states.proofs.relations.row_included.Statement.{statement}
@@ -11,7 +12,7 @@ returns : tie.Need-returns
 unfolding implies
 returns c =
     rw (sym (c .before .before .before .before .holds-state .ensures) ∙ c .before .before .before .if1 .taken)
-    (c .included .ensures ∙ all-cong 64 _ _ (λ t l. ap₂ implies (c .before .before .row .ensures t) (c .before .row2 .ensures t))
+    (c .included .ensures ∙ all-cong capacity _ _ (λ t l. ap₂ implies (c .before .before .row .ensures t) (c .before .row2 .ensures t))
     ∙ row-all implies refl _ _ _ _)
 
 returns-2 : tie.Need-returns-2

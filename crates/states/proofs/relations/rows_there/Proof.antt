@@ -8,7 +8,7 @@ returns : tie.Need-returns
 returns c = let held = c .before .rows-held .ensures in (held .2, omega arith, λ s l m k. held .1 s l m)
 
 returns-2 : tie.Need-returns-2
-returns-2 c = (omega arith, omega arith, λ s l m k. k)
+returns-2 c = (omega arith, omega arith, λ s l m k. omega arith)
 
 pub rows-there-spec : {M : Type 1} → statement M
 rows-there-spec = tie.close (tie.spec (λ c κs. search needs) (λ c. search needs) (λ c. search needs) returns returns-2)

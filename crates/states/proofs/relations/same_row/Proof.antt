@@ -1,7 +1,8 @@
--- The comparison of the two rows over 64 states is the one over n.
+-- The comparison of the two rows over all states is the one over n.
 use mathlib.Core.Path.{_∙_, refl, ap₂}
 use mathlib.Core.Bool.{Bool·beq}
 use borrow.Author.Needs.{needs}
+use Rattle.states.specs.Sets.{capacity}
 use Rattle.states.proofs.Search.{all-cong}
 use Rattle.states.proofs.Rows.{row-all}
 use Rattle.states.proofs.relations.same_row.Statement.{statement}
@@ -9,7 +10,7 @@ use Rattle.states.proofs.relations.same_row.Tie as tie
 
 returns : tie.Need-returns
 returns c =
-    c .same .ensures ∙ all-cong 64 _ _ (λ t l. ap₂ Bool·beq (c .before .before .row .ensures t) (c .before .row2 .ensures t))
+    c .same .ensures ∙ all-cong capacity _ _ (λ t l. ap₂ Bool·beq (c .before .before .row .ensures t) (c .before .row2 .ensures t))
     ∙ row-all Bool·beq refl _ _ _ _
 
 pub same-row-spec : {M : Type 1} → statement M

@@ -1,27 +1,24 @@
 -- s is joined where its row is not empty.
 use mathlib.Core.Path.{_≡_, _∙_, sym, ap}
-use mathlib.Core.Bool.{Bool, true, false, not, _||_, or-false, and-true, and-false}
+use mathlib.Core.Bool.{not, _||_, or-false, and-true, and-false}
 use borrow.Author.Needs.{needs}
 use lib.Dec.{ltb}
 use Rattle.states.specs.Search.{any}
-use Rattle.states.specs.Sets.{has}
+use Rattle.states.specs.Sets.{capacity, has}
+use Rattle.states.proofs.Search.{turned}
 use Rattle.states.proofs.relations.with_start.Statement.{statement}
 use Rattle.states.proofs.relations.with_start.Tie as tie
 
-turned : (a b : Bool) → a ≡ not b → b ≡ not a
-turned a true e = sym (ap not e)
-turned a false e = sym (ap not e)
-
-starts : (c : tie.After-is-empty) → any 64 (λ u. has (c .before .args .row) u) ≡ not (c .is-empty .result)
+starts : (c : tie.After-is-empty) → any capacity (λ u. has (c .before .args .row) u) ≡ not (c .is-empty .result)
 starts c = turned _ _ (c .is-empty .ensures)
 
 returns : tie.Need-returns
-returns c t = rw (starts (c .before), c .if1 .taken, and-false (ltb t 64)) (sym (or-false _))
+returns c t = rw (starts (c .before), c .if1 .taken, and-false (ltb t capacity)) (sym (or-false _))
 
 returns-2 : tie.Need-returns-2
 returns-2 c t =
     let d = c .before .before in
-    rw (starts (d .before), d .if1 .left, and-true (ltb t 64))
+    rw (starts (d .before), d .if1 .left, and-true (ltb t capacity))
     (c .join .ensures t ∙ ap (λ b. has (d .before .before .args .found) t || b) (c .before .single .ensures t))
 
 pub with-start-spec : {M : Type 1} → statement M

@@ -1,0 +1,42 @@
+-- An array with a cell for each state that a set can hold, which a loop fills from the first on: the cells below k are as wanted, the
+-- others as they were made.
+use Prim.Native.Nat.{ℕ, _+_, _<_, _≤_, zero-le}
+use native.Mathlib.Nat.{not-suc-le-zero}
+use native.Mathlib.Numerals.{add-one}
+use native.Mathlib.Decide.{decLt}
+use native.Mathlib.Omega.{arith}
+use mathlib.Core.List.{List}
+use mathlib.Core.Path.{_≡_, _∙_}
+use lib.ListN.{getD, length, set, replicate, length-replicate, getD-replicate, length-set, List·getD-eq-default}
+use lib.Seq.{getD-set-same, getD-set-other}
+use Rattle.states.specs.Sets.{capacity}
+use Rattle.states.proofs.Search.{below-cases}
+
+module _ {A : Type 0} (d : A) (P : ℕ → A → Type 0) where
+  pub record Cells (k : ℕ) (row : List A) : Type 0 where
+    pub most : k ≤ capacity
+    pub long : length row ≡ capacity
+    pub hold : (s : ℕ) → s < k → P s (getD row s d)
+    pub rest : (s : ℕ) → k ≤ s → getD row s d ≡ d
+
+  pub cells-none : Cells 0 (replicate capacity d)
+  cells-none =
+      record { most = omega arith; long = length-replicate capacity d; hold = λ s l. absurd (not-suc-le-zero l); rest = λ s l. at s (decLt s capacity) }
+    where
+      at : (s : ℕ) → Dec (s < capacity) → getD (replicate capacity d) s d ≡ d
+      at s (yes l) = getD-replicate capacity s d d l
+      at s (no l) = List·getD-eq-default (replicate capacity d) d {n = s} (omega (arith, length-replicate capacity d))
+
+  pub cells-more : (k : ℕ) (row : List A) (x : A) → k < capacity → P k x → Cells k row → Cells (k + 1) (set row k x)
+  cells-more k row x l new old =
+      record { most = omega arith; long = length-set row k x ∙ old .long; hold = hold; rest = λ s h. getD-set-other row k s x d (omega arith) ∙ old .rest s (omega arith) }
+    where
+      hold : (s : ℕ) → s < k + 1 → P s (getD (set row k x) s d)
+      hold s h =
+          below-cases (λ i. P i (getD (set row k x) i d)) k s (rw add-one at h)
+          (rw (getD-set-same row k x d (omega (arith, old .long))) new)
+          (λ low. rw (getD-set-other row k s x d (omega arith)) (old .hold s low))
+
+-- An array as it is made has the same in each cell, and past its end too.
+pub cell-none : {A : Type 0} (d : A) (s : ℕ) → getD (replicate capacity d) s d ≡ d
+cell-none d s = cells-none d (λ s x. Unit {0}) .rest s zero-le
