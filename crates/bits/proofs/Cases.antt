@@ -35,8 +35,8 @@ unfolding hasBits
 bits-there = (refl, refl, refl, refl)
 
 -- The last fill bit may not be set, and a further byte is wrong at its first bit.
-pub ends :
+pub fill-cases :
     (fillAt handler 23 ≡ Ends) × (fillAt (0x22 ∷ 0x20 ∷ 0x03 ∷ []) 23 ≡ Wrong 23) × (fillAt handler 24 ≡ Ends)
     × (fillAt handler 16 ≡ Wrong 16) × (fillAt handler 11 ≡ Wrong 16) × (fillAt handler 9 ≡ Wrong 10) × (fillAt [] 0 ≡ Ends)
 unfolding fillAt fillFrom furtherByte fillBits firstSet bitAt
-ends = (refl, refl, refl, refl, refl, refl, refl)
+fill-cases = (refl, refl, refl, refl, refl, refl, refl)

@@ -1,23 +1,18 @@
 -- Laws of the packed reader's definitions, for the proofs here and for callers: bits, then fields, then the fill.
 use Prim.Native.Nat.{ℕ, zero, suc, _+_, _*_, _/_, _%_, _^_, _≤_, _<_}
-use mathlib.Core.Bool.{Bool, true, false, cond, _&&_, and-eq-true-iff, not-eq-not, true≢false}
+use mathlib.Core.Bool.{Bool, true, false, cond, and-eq-true-iff, not-eq-not}
 use mathlib.Core.List.{List}
-use mathlib.Core.Logic.{⊎-elim}
-use mathlib.Core.Option.{Option, none, some}
 use mathlib.Core.Path.{_≡_, refl, sym, _∙_}
-use native.Mathlib.Nat.{add-zero, add-suc, add-assoc, pow-suc, zero-div, lt-of-not-le, le-of-suc-le-suc, eq-or-lt-of-le}
+use native.Mathlib.Nat.{add-zero, add-suc, add-assoc, pow-suc, zero-div}
 use native.Mathlib.Numerals.{add-one}
 use native.Mathlib.Omega.{arith}
-use borrow.Author.Tests.{leb-true, ltb-true, le-leb, lt-ltb, eqb-true, eqb-false}
-use lib.Dec.{ltb, eqb}
+use borrow.Author.Tests.{leb-true, ltb-true, le-leb, lt-ltb}
 use lib.ListN.{length, List·getD-eq-default}
 use lib.Pow.{pow-mono}
 use lib.Arith.{digits-div, digits-mod}
-use Rattle.bits.specs.Fields.{bitAt, bitsAt, isThere, fieldAt, numberAt, firstSet, fillBits, furtherByte, fillFrom, fillAt}
+use Rattle.bits.specs.Fields.{bitAt, bitsAt, isThere, fieldAt, numberAt}
 use Rattle.bits.specs.declared.Field.{Field}
 use Rattle.bits.specs.declared.Field.the-variants.{Value, Missing}
-use Rattle.bits.specs.declared.Fill.{Fill}
-use Rattle.bits.specs.declared.Fill.the-variants.{Ends, Wrong}
 
 -- Two tests are one where the second passes after the first and not without it.
 pub same-test : (a b : Bool) → (a ≡ true → b ≡ true) → (a ≡ false → b ≡ true → ⊥) → a ≡ b
@@ -107,9 +102,6 @@ of-field s at w = by (isThere s at w) refl
 pub there : (s : List ℕ) (at w v next : ℕ) → fieldAt s at w ≡ Value v next → There s at w v next
 there s at w v next e = rw e at (of-field s at w)
 
-pub missing : (s : List ℕ) (at w : ℕ) → fieldAt s at w ≡ Missing → isThere s at w ≡ false
-missing s at w e = rw e at (of-field s at w)
-
 -- A field that is there is two that touch.
 pub parted : (s : List ℕ) (at w k v next : ℕ) → 1 ≤ w → 1 ≤ k → fieldAt s at (w + k) ≡ Value v next
     → (fieldAt s at w ≡ Value (v / 2 ^ k) (at + w)) × (fieldAt s (at + w) k ≡ Value (v % 2 ^ k) next)
@@ -121,66 +113,3 @@ parted s at w k v next least more e =
     let first = found s at w least (omega (arith, t)) (omega (arith, t)) (omega (arith, t)) in
     let second = found s (at + w) k more (omega (arith, t)) (omega (arith, t)) (omega (arith, t)) in
     (rw (v-is, digits-div (bitsAt s at w) small) first, rw (v-is, digits-mod (bitsAt s at w) small, end) second)
-
--- What a search for the first set bit shows: all are zero, or the one found is not.
-abbrev OfFirst : List ℕ → ℕ → ℕ → Option ℕ → Type 0
-OfFirst s at n none = (i : ℕ) → at ≤ i → i < at + n → bitAt s i ≡ 0
-OfFirst s at n (some i) = (at ≤ i) × (bitAt s i ≡ 0 → ⊥)
-
-of-first : (s : List ℕ) (at n : ℕ) → OfFirst s at n (firstSet s at n)
-unfolding firstSet
-of-first s at zero = λ i after before. absurd (omega arith)
-of-first s at (suc n) = by (eqb (bitAt s at) 0) refl (firstSet s (suc at) n) (of-first s (suc at) n)
-  where
-    by : (b : Bool) → eqb (bitAt s at) 0 ≡ b → (o : Option ℕ) → OfFirst s (suc at) n o → OfFirst s at (suc n) (cond b o (some at))
-    by true t none zeros =
-        λ i after before.
-        ⊎-elim
-        (λ first. rw first at (eqb-true (bitAt s at) 0 t))
-        (λ later. zeros i later (omega arith))
-        (eq-or-lt-of-le after)
-    by true t (some i) set = (omega arith, set .1)
-    by false t o later = (omega arith, eqb-false (bitAt s at) 0 t)
-
--- What is known of a file that ends as it must after a last field that ends at `at`.
-pub record FillEnds (s : List ℕ) (at : ℕ) : Type 0 where
-  pub zeros : (i : ℕ) → at ≤ i → i < at + fillBits at → bitAt s i ≡ 0
-  pub over : 8 * length s < 2 ^ 64 → 8 * length s ≤ at + fillBits at
-
--- What is known of a bit i that is wrong there.
-pub record FillWrong (s : List ℕ) (at i : ℕ) : Type 0 where
-  pub after : at ≤ i
-  pub inside : i < 8 * length s
-
--- What each answer about the fill shows.
-abbrev OfFill : List ℕ → ℕ → Fill → Type 0
-OfFill s at Ends = FillEnds s at
-OfFill s at (Wrong i) = FillWrong s at i
-
-of-further : (s : List ℕ) (at next : ℕ) → at + fillBits at ≡ next → OfFirst s at (fillBits at) none → OfFill s at (furtherByte s next)
-unfolding furtherByte
-of-further s at next here zeros = by (ltb next (8 * length s) && ltb next (2 ^ 64)) refl
-  where
-    no-more : 8 * length s < 2 ^ 64 → (ltb next (8 * length s) && ltb next (2 ^ 64)) ≡ false → ¬ (next < 8 * length s)
-    no-more short t more = true≢false (simp (lt-ltb next (8 * length s), lt-ltb next (2 ^ 64) (omega arith)) at t)
-
-    by : (b : Bool) → (ltb next (8 * length s) && ltb next (2 ^ 64)) ≡ b → OfFill s at (cond b (Wrong next) Ends)
-    by true t =
-        let tests = simp and-eq-true-iff at t in
-        omega (arith, ltb-true)
-    by false t =
-        record { zeros = zeros; over = λ short. rw here (le-of-suc-le-suc (lt-of-not-le (no-more short t))) }
-
-of-fill : (s : List ℕ) (at : ℕ) → OfFill s at (fillAt s at)
-unfolding fillAt fillFrom
-of-fill s at = by (firstSet s at (fillBits at)) (of-first s at (fillBits at))
-  where
-    by : (o : Option ℕ) → OfFirst s at (fillBits at) o → OfFill s at (fillFrom s (at + fillBits at) o)
-    by none zeros = of-further s at (at + fillBits at) refl zeros
-    by (some i) set = record { after = set .0; inside = lt-of-not-le (λ past. set .1 (bit-past s i past)) }
-
-pub fill-ends : (s : List ℕ) (at : ℕ) → fillAt s at ≡ Ends → FillEnds s at
-fill-ends s at e = rw e at (of-fill s at)
-
-pub fill-wrong : (s : List ℕ) (at i : ℕ) → fillAt s at ≡ Wrong i → FillWrong s at i
-fill-wrong s at i e = rw e at (of-fill s at)

@@ -18,7 +18,7 @@ use Rattle.semantics.specs.Conditions.{statementCode}
 use Rattle.semantics.specs.Checking.{Broken, firstBroken, skipObligations, assignmentObligations, sequenceObligations, parallelObligations, ifObligations, whileObligations, weakenObligations, obligations}
 use Rattle.handler.specs.Header.{headOf, machineIn}
 use Rattle.evaluation.specs.Values.{exprIn}
-use Rattle.evaluation.proofs.Laws.{expr-read}
+use Rattle.evaluation.proofs.Laws.{expr-whole}
 use Rattle.handler.specs.Kinds.{width, stmtWidth}
 use Rattle.handler.specs.StatementTable.{statements, statementIn, statementRecord}
 use Rattle.handler.proofs.StmtFolds.{TargetsBelow}
@@ -109,7 +109,7 @@ module _ (env : Decoded) where
   -- The expression of a statement.
   expr-is : (place : ℕ) (e : Expr) → StandsExpr (env .bytes) (length (env .sizes)) place e → exprIn (env .bytes) (headOf (env .sizes) .count) place ≡ e
   unfolding headOf
-  expr-is place e x = expr-read (env .bytes) (length (env .sizes)) place e (x .nodes) (x .next) (x .read)
+  expr-is place e x = expr-whole (env .bytes) (length (env .sizes)) place e (x .nodes) (x .next) (x .read)
 
   -- A node's children.
   pub two-nodes : (i bit word : ℕ) (l r : Derivation) → Known (env .sets) (env .relations) l → Known (env .sets) (env .relations) r → i + suc (nodes l + nodes r) ≤ 127 → (rest : List ℕ)

@@ -60,7 +60,7 @@ handled hb file w made found =
 proof-inj : (x y : ProofHead) → Found.Proof x ≡ Found.Proof y → x ≡ y
 proof-inj x y e = cc
 
-pub refused-proof : (r : Proofs.ProofRead) (k place : ℕ) → Proofs.foundOf r ≡ Found.Fault k place → r ≡ Proofs.refused k place
+pub refused-proof : (r : Proofs.ProofRead) (k place : ℕ) → Proofs.proofFound r ≡ Found.Fault k place → r ≡ Proofs.refused k place
 refused-proof (Proofs.proof s r a d) k place f = absurd (let z : _≡_ {A = ℕ} 0 1 = cc in omega arith)
 refused-proof (Proofs.refused j p) k place f =
     let j-is : j ≡ k = cc in
@@ -74,7 +74,7 @@ pub record ProofIs (r : Proofs.ProofRead) (file : ProofFile) (x : ProofHead) : T
   pub counted : x .nodes ≡ nodes d
   pub table : file .nodes ≡ nodeTable (x .root) d
 
-pub proof-is : (r : Proofs.ProofRead) (file : ProofFile) (x : ProofHead) → file ≡ Proofs.fileOf r → file .found ≡ Found.Proof x → ProofIs r file x
+pub proof-is : (r : Proofs.ProofRead) (file : ProofFile) (x : ProofHead) → file ≡ Proofs.proofFile r → file .found ≡ Found.Proof x → ProofIs r file x
 proof-is (Proofs.refused k place) file x is found =
     absurd (let f = sym (ap (λ y. y .found) is) ∙ found in let z : _≡_ {A = ℕ} 0 1 = cc in omega arith)
 proof-is (Proofs.proof sets relations root d) file x is found =
@@ -103,7 +103,7 @@ module _ (hb pb : List ℕ) (head : Head) (statements : List ℕ) (k : ℕ) (h :
 
     -- What the loop finds decides.
     module _ (before work table : List ℕ) (count : ℕ) (enough : workWords ≤ length before)
-        (words : work ≡ written (Proofs.wordsOf pb n (Proofs.readProof pb n)) before) (is : table ≡ nodeTable root d) (counts : count ≡ nodes d) where
+        (words : work ≡ written (Proofs.loadedWord pb n (Proofs.readProof pb n)) before) (is : table ≡ nodeTable root d) (counts : count ≡ nodes d) where
       known : KnownHandler hb (h .sizes) (h .place) (h .S)
       known = known-handler hb (h .sizes) (h .place) (h .S) (h .reads)
 

@@ -13,7 +13,7 @@ use Rattle.states.proofs.EntryLaws.{entry-from}
 use Rattle.semantics.specs.States.{product}
 use Rattle.semantics.specs.Derivations.{Derivation, Tables, setOf, relationOf}
 use Rattle.derivation.specs.Tables.{mostTables, workWords, inSetOf, inRelationOf, written}
-use Rattle.derivation.specs.Reading.{proof, readProof, wordsOf}
+use Rattle.derivation.specs.Reading.{proof, readProof, loadedWord}
 use Rattle.derivation.proofs.Membership.{set-member, pair-member}
 use Rattle.rules.specs.Words.{wordSet, wordRelation}
 use Rattle.checker.specs.Verdicts.{tablesOf}
@@ -25,7 +25,7 @@ twice false b = refl
 
 module _ (pb sizes before : List ℕ) (sets relations root : ℕ) (d : Derivation)
     (reads : readProof pb (product sizes) ≡ proof sets relations root d) (enough : workWords ≤ length before) (few : product sizes ≤ capacity)
-    (work : List ℕ) (words : work ≡ written (wordsOf pb (product sizes) (readProof pb (product sizes))) before) where
+    (work : List ℕ) (words : work ≡ written (loadedWord pb (product sizes) (readProof pb (product sizes))) before) where
   abbrev n : ℕ
   n = product sizes
 

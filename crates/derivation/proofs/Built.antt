@@ -11,7 +11,7 @@ use Rattle.derivation.specs.declared.NodeHead.{NodeHead}
 use Rattle.derivation.specs.Nodes.{alone, overTwo, overOne}
 use Rattle.derivation.specs.NodeTable.{nodeWord, nodeBits, nodeWords}
 use Rattle.derivation.specs.Storing.{recordOf}
-use Rattle.derivation.proofs.Heads.{Within, plain, loop}
+use Rattle.derivation.proofs.Heads.{HeadWithin, plain, loop}
 use Rattle.derivation.proofs.NodeTable.{Known}
 
 module _ (sets relations at : ℕ) where
@@ -35,7 +35,7 @@ module _ (sets relations at : ℕ) where
     pub words : (i : ℕ) → nodeWords i at d
         ≡ nodeWord (recordOf x (suc i + nodes l) at) ∷ (nodeWords (suc i) (x .next) l ++ nodeWords (suc i + nodes l) (x .next + nodeBits l) r)
 
-  pub leaf : (x : NodeHead) → Within sets relations at x → x .rule < 2 → Leaf x (alone x)
+  pub leaf : (x : NodeHead) → HeadWithin sets relations at x → x .rule < 2 → Leaf x (alone x)
   leaf _ (loop h K W n k w) few = absurd (omega arith)
   leaf _ (plain rule h under other n) few = ⊎-elim
       (λ last. let e : rule ≡ 1 = omega arith in rw e (record { size = refl; bits = refl; known = n; words = alone-after 1 }))
@@ -47,14 +47,14 @@ module _ (sets relations at : ℕ) where
           ≡ nodeWord (record { rule = r; names = h; k = 0; w = 0; after = suc i; bit = at }) ∷ []
       alone-after r i = let e : suc i + 0 ≡ suc i = omega arith in rw e
 
-  pub over-two : (x : NodeHead) → Within sets relations at x → 2 ≤ x .rule → x .rule < 4 → (l r : Derivation) → OverTwo x l r (overTwo x l r)
+  pub over-two : (x : NodeHead) → HeadWithin sets relations at x → 2 ≤ x .rule → x .rule < 4 → (l r : Derivation) → OverTwo x l r (overTwo x l r)
   over-two _ (loop h K W n k w) over few l r = absurd (omega arith)
   over-two _ (plain rule h under other n) over few l r = ⊎-elim
       (λ same. let e : rule ≡ 2 = omega arith in rw e (record { size = refl; bits = omega arith; known = λ kl kr. (n, kl, kr); words = λ i. refl }))
       (λ more. let e : rule ≡ 3 = omega arith in rw e (record { size = refl; bits = omega arith; known = λ kl kr. (n, kl, kr); words = λ i. refl }))
       (eq-or-lt-of-le over)
 
-  pub over-one : (x : NodeHead) → Within sets relations at x → 4 ≤ x .rule → (c : Derivation) → OverOne x c (overOne x c)
+  pub over-one : (x : NodeHead) → HeadWithin sets relations at x → 4 ≤ x .rule → (c : Derivation) → OverOne x c (overOne x c)
   over-one _ (loop h K W n k w) over c = record { size = refl; bits = omega arith; known = λ kc. (n, k, w, kc); words = λ i. refl }
   over-one _ (plain rule h under other n) over c = ⊎-elim
       (λ same. let e : rule ≡ 4 = omega arith in rw e (record { size = refl; bits = omega arith; known = λ kc. (n, kc); words = λ i. refl }))

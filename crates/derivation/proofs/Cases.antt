@@ -8,7 +8,7 @@ use Rattle.semantics.specs.declared.Names.{Names}
 use Rattle.semantics.specs.Derivations.{skip, assignment, parallel, iteration, weaken}
 use Rattle.derivation.specs.declared.HeadFound.the-variants.{Head, Fault}
 use Rattle.derivation.specs.Tables.{mostTables, setAt, rowAt, tablesThere, isCount, relationsRead, setsRead, tablesAt, wordAt, setWordAt, entryWord, tableWord, tabulate, written}
-use Rattle.derivation.specs.Nodes.{onName, named, loopHead, namesHead, ruleHead, nodeHead, nodeAt, wholeNode}
+use Rattle.derivation.specs.Nodes.{onName, namedTable, loopHead, namesHead, ruleHead, nodeHead, nodeAt, wholeNode}
 use Rattle.derivation.specs.Reading.{ProofRead, proof, refused, readProof, tableOf}
 use Rattle.derivation.specs.NodeTable.{nodeWord, nodeOf, nodeIn, padded, nodeTable}
 
@@ -38,7 +38,7 @@ tree = nodeTable 24 (parallel all (iteration all 4 9 (skip all)) (weaken all (as
 -- Opens every definition of reading, for the cases to compute.
 reading : List ℕ → ℕ → ProofRead
 unfolding readProof tablesAt setsRead relationsRead isCount tablesThere rowAt wholeNode nodeAt nodeHead ruleHead namesHead loopHead
-    named onName fieldAt isThere bitsAt bitAt bitLength fillAt fillFrom furtherByte fillBits firstSet
+    namedTable onName fieldAt isThere bitsAt bitAt bitLength fillAt fillFrom furtherByte fillBits firstSet
 reading = readProof
 
 pub sample-read : readProof sample 2 ≡ proof 1 3 24 (assignment (record { p = 0; r = 0; g = 1; q = 2 }))

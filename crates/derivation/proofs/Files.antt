@@ -23,7 +23,7 @@ use Rattle.derivation.specs.declared.ProofFound.the-variants as Found
 use Rattle.derivation.specs.declared.NodeEnd.the-variants as End
 use Rattle.derivation.specs.Tables.{mostTables, rowAt, tablesThere, isCount, tablesHead, relationsRead, setsRead, tablesAt}
 use Rattle.derivation.specs.Nodes.{NodeRead, whole, fault, wholeNode, endOf}
-use Rattle.derivation.specs.Reading.{ProofRead, proof, refused, onFill, onNodes, onTables, readProof, foundOf, fileOf, wordsOf}
+use Rattle.derivation.specs.Reading.{ProofRead, proof, refused, onProofFill, onNodes, onTables, readProof, proofFound, proofFile, loadedWord}
 use Rattle.derivation.specs.NodeTable.{nodeWords, nodeTable}
 use Rattle.derivation.proofs.Counts.{count-range}
 use Rattle.derivation.proofs.NodeTable.{Known, length-nodeWords}
@@ -99,7 +99,7 @@ module _ (bytes : List ℕ) (n : ℕ) where
     where
       fill : (x : TablesHead) (count next : ℕ) (d : Derivation) → tablesAt bytes n ≡ Counts x
           → wholeNode bytes (x .sets) (x .relations) (x .root) ≡ whole d count next → (f : Fill) → fillAt bytes next ≡ f
-          → StagesIn (onFill (x .sets) (x .relations) (x .root) d f)
+          → StagesIn (onProofFill (x .sets) (x .relations) (x .root) d f)
       fill x count next d t w Ends f = record { tables = t; count = count; next = next; nodes-read = w; ends = f }
       fill x count next d t w (Wrong place) f = tt
 
@@ -135,12 +135,12 @@ module _ (bytes : List ℕ) (n : ℕ) where
   module _ (table exit : List ℕ) where
     abbrev pub FileDone : ProofFound → Type 0
     FileDone r =
-        (r ≡ foundOf (readProof bytes n))
+        (r ≡ proofFound (readProof bytes n))
         × ((sets relations at : ℕ) (d : Derivation) → readProof bytes n ≡ proof sets relations at d → exit ≡ stored table 0 (nodeWords 0 at d))
 
     refused-done : (k place : ℕ) → readProof bytes n ≡ refused k place → FileDone (Found.Fault k place)
     refused-done k place e =
-        (sym (ap foundOf e), λ sets relations at d p. absurd (let z : _≡_ {A = ℕ} 0 1 = cc in omega arith))
+        (sym (ap proofFound e), λ sets relations at d p. absurd (let z : _≡_ {A = ℕ} 0 1 = cc in omega arith))
 
     pub no-tables : (k place : ℕ) → tablesAt bytes n ≡ Fault k place → FileDone (Found.Fault k place)
     unfolding readProof
@@ -170,7 +170,7 @@ module _ (bytes : List ℕ) (n : ℕ) where
             let is : readProof bytes n ≡ proof (x .sets) (x .relations) (x .root) (d-read .0) = rw (tables, d-read .1, e) in
             let shows = read bytes (x .sets) (x .relations) 25 0 (x .root) (d-read .0) count next (d-read .1) in
             let counts : count ≡ nodes (d-read .0) = omega (arith, shows .counted) in (
-              ap (λ (k : ℕ). Found.Proof (record { sets = x .sets; relations = x .relations; nodes = k; root = x .root })) counts ∙ sym (ap foundOf is),
+              ap (λ (k : ℕ). Found.Proof (record { sets = x .sets; relations = x .relations; nodes = k; root = x .root })) counts ∙ sym (ap proofFound is),
               λ sets relations at d p.
                   let same-at : x .root ≡ at = cc in
                   let same-d : d-read .0 ≡ d = cc in
@@ -179,18 +179,18 @@ module _ (bytes : List ℕ) (n : ℕ) where
 
   -- The file as it is answered, by what was read into a table of 0.
   module _ (r : ProofFound) (exit : List ℕ) (done : FileDone (replicate 127 0) exit r) where
-    pub file-refused : (k place : ℕ) → r ≡ Found.Fault k place → record { found = Found.Fault k place; nodes = replicate 127 0 } ≡ fileOf (readProof bytes n)
+    pub file-refused : (k place : ℕ) → r ≡ Found.Fault k place → record { found = Found.Fault k place; nodes = replicate 127 0 } ≡ proofFile (readProof bytes n)
     file-refused k place e = by (readProof bytes n) (sym e ∙ done .0)
       where
-        by : (p : ProofRead) → Found.Fault k place ≡ foundOf p → record { found = Found.Fault k place; nodes = replicate 127 0 } ≡ fileOf p
+        by : (p : ProofRead) → Found.Fault k place ≡ proofFound p → record { found = Found.Fault k place; nodes = replicate 127 0 } ≡ proofFile p
         by (proof sets relations at d) f = absurd (let z : _≡_ {A = ℕ} 0 1 = cc in omega arith)
         by (refused k′ place′) f = λ i. record { found = f i; nodes = replicate 127 0 }
 
-    pub file-read : (x : ProofHead) → r ≡ Found.Proof x → record { found = Found.Proof x; nodes = exit } ≡ fileOf (readProof bytes n)
+    pub file-read : (x : ProofHead) → r ≡ Found.Proof x → record { found = Found.Proof x; nodes = exit } ≡ proofFile (readProof bytes n)
     unfolding nodeTable
     file-read x e = by (readProof bytes n) refl (sym e ∙ done .0)
       where
-        by : (p : ProofRead) → readProof bytes n ≡ p → Found.Proof x ≡ foundOf p → record { found = Found.Proof x; nodes = exit } ≡ fileOf p
+        by : (p : ProofRead) → readProof bytes n ≡ p → Found.Proof x ≡ proofFound p → record { found = Found.Proof x; nodes = exit } ≡ proofFile p
         by (proof sets relations at d) is f =
             let few : length (nodeWords 0 at d) ≤ 127 = rw (length-nodeWords 0 at d) (read-known sets relations at d is .nodes-most) in
             let table = done .1 sets relations at d is ∙ stored-padded 127 (nodeWords 0 at d) few in
@@ -198,13 +198,13 @@ module _ (bytes : List ℕ) (n : ℕ) where
         by (refused k place) is f = absurd (let z : _≡_ {A = ℕ} 0 1 = cc in omega arith)
 
 -- The code's answer tells whether the file was read without fault, how many nodes it has, and what its words are.
-pub answered : (r : ProofRead) (x : ProofHead) → foundOf r ≡ Found.Proof x
+pub answered : (r : ProofRead) (x : ProofHead) → proofFound r ≡ Found.Proof x
     → (d : Derivation) × (r ≡ proof (x .sets) (x .relations) (x .root) d) × (x .nodes ≡ nodes d)
 answered (proof sets relations at d) x e =
     let same : record { sets = sets; relations = relations; nodes = nodes d; root = at } ≡ x = cc in
     (d, (λ i. proof (same i .sets) (same i .relations) (same i .root) d), sym (ap (λ h. h .nodes) same))
 answered (refused k place) x e = absurd (let z : _≡_ {A = ℕ} 0 1 = cc in omega arith)
 
-pub no-words : (bytes : List ℕ) (n : ℕ) (r : ProofRead) (k place : ℕ) → foundOf r ≡ Found.Fault k place → (j : ℕ) → wordsOf bytes n r j ≡ 0
+pub no-words : (bytes : List ℕ) (n : ℕ) (r : ProofRead) (k place : ℕ) → proofFound r ≡ Found.Fault k place → (j : ℕ) → loadedWord bytes n r j ≡ 0
 no-words bytes n (proof sets relations at d) k place e j = absurd (let z : _≡_ {A = ℕ} 0 1 = cc in omega arith)
 no-words bytes n (refused k' place') k place e j = refl

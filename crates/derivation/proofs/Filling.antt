@@ -19,7 +19,7 @@ use Rattle.derivation.specs.declared.NodeEnd.the-variants.{Ends, Fault}
 use Rattle.derivation.specs.Nodes.{NodeRead, whole, fault, alone, overTwo, overOne, onChild, onNodeHead, nodeHead, nodeAt, endOf}
 use Rattle.derivation.specs.NodeTable.{nodeWord, nodeBits, nodeWords, padded}
 use Rattle.derivation.specs.Storing.{recordOf}
-use Rattle.derivation.proofs.Heads.{Within, next-near, node-within}
+use Rattle.derivation.proofs.Heads.{HeadWithin, next-near, node-within}
 use Rattle.derivation.proofs.NodeTable.{length-nodeWords}
 use Rattle.derivation.proofs.Built.{leaf, over-one, over-two}
 use Rattle.derivation.proofs.NodesRead.{ended-whole, ended-faulty, bits-most, unrolled, Read, read}
@@ -48,7 +48,7 @@ stored-padded n ws fits =
     sets-eq ws (replicate n 0) 0 room ∙ rw (zero-add, drop-replicate)
 
 -- A node's own word, stored after the words of its first child, and before those of its second.
-module _ (sets-count relations at : ℕ) (x : NodeHead) (w : Within sets-count relations at x) (table : List ℕ) (before : ℕ) where
+module _ (sets-count relations at : ℕ) (x : NodeHead) (w : HeadWithin sets-count relations at x) (table : List ℕ) (before : ℕ) where
   abbrev filled : Derivation → ℕ → List ℕ
   filled c after = set (sets table (before + 1) (nodeWords (before + 1) (x .next) c)) before (nodeWord (recordOf x after at))
 
@@ -116,7 +116,7 @@ module _ (bytes : List ℕ) (sets-count relations : ℕ) where
       step : node ≡ onNodeHead (Found.Head x) before below
       step = rw (unrolled bytes sets-count relations levels before at some, head)
 
-      w : Within sets-count relations at x
+      w : HeadWithin sets-count relations at x
       w = node-within bytes sets-count relations at (levels - 1) before x head
 
       pub leaf-done : x .rule < 2 → (exit : List ℕ) → exit ≡ set table before (nodeWord (recordOf x (before + 1) at))

@@ -14,25 +14,25 @@ use Rattle.semantics.specs.declared.Names.{Names}
 use Rattle.derivation.specs.declared.NodeHead.{NodeHead}
 use Rattle.derivation.specs.declared.HeadFound.{HeadFound}
 use Rattle.derivation.specs.declared.HeadFound.the-variants.{Head, Fault}
-use Rattle.derivation.specs.Nodes.{onName, named, loopHead, namesHead, ruleHead, nodeHead}
+use Rattle.derivation.specs.Nodes.{onName, namedTable, loopHead, namesHead, ruleHead, nodeHead}
 
 module _ (bytes : List ℕ) (limit at : ℕ) (f : ℕ → HeadFound) where
-  pub named-missing : fieldAt bytes at 4 ≡ Missing → named bytes limit at f ≡ Fault 20 (bitLength bytes)
-  unfolding named onName
+  pub named-missing : fieldAt bytes at 4 ≡ Missing → namedTable bytes limit at f ≡ Fault 20 (bitLength bytes)
+  unfolding namedTable onName
   named-missing e = rw e
 
-  pub named-over : (i next : ℕ) → fieldAt bytes at 4 ≡ Value i next → limit ≤ i → named bytes limit at f ≡ Fault 23 at
-  unfolding named onName
+  pub named-over : (i next : ℕ) → fieldAt bytes at 4 ≡ Value i next → limit ≤ i → namedTable bytes limit at f ≡ Fault 23 at
+  unfolding namedTable onName
   named-over i next e over = rw (e, le-ltb i limit)
 
-  pub named-there : (i next : ℕ) → fieldAt bytes at 4 ≡ Value i next → i < limit → named bytes limit at f ≡ f i
-  unfolding named onName
+  pub named-there : (i next : ℕ) → fieldAt bytes at 4 ≡ Value i next → i < limit → namedTable bytes limit at f ≡ f i
+  unfolding namedTable onName
   named-there i next e under = rw (e, lt-ltb i limit)
 
 -- After a name that is there the second is read where the first ends.
 pub second-name : (bytes : List ℕ) (first second at i next : ℕ) → fieldAt bytes at 4 ≡ Value i next → i < first
     → (f : ℕ → ℕ → ℕ → HeadFound)
-    → named bytes first at (λ i. named bytes second (at + 4) (λ j. f i j (at + 8))) ≡ named bytes second next (λ j. f i j (next + 4))
+    → namedTable bytes first at (λ i. namedTable bytes second (at + 4) (λ j. f i j (at + 8))) ≡ namedTable bytes second next (λ j. f i j (next + 4))
 second-name bytes first second at i next e under f =
     let moved : next ≡ at + 4 = there bytes at 4 i next e .moved in
     let end : next + 4 ≡ at + 8 = omega arith in
@@ -62,8 +62,8 @@ four-names bytes sets relations rule at v next e p-there r-there g-there q-there
 
 -- What holds of every fault, and of what is read after each name that there is, holds of what is read from a name on.
 named-all : (bytes : List ℕ) (limit at : ℕ) (f : ℕ → HeadFound) (Good : HeadFound → Type 0)
-    → ((k place : ℕ) → Good (Fault k place)) → ((i : ℕ) → i < limit → Good (f i)) → Good (named bytes limit at f)
-unfolding named onName
+    → ((k place : ℕ) → Good (Fault k place)) → ((i : ℕ) → i < limit → Good (f i)) → Good (namedTable bytes limit at f)
+unfolding namedTable onName
 named-all bytes limit at f Good fault after = by (fieldAt bytes at 4)
   where
     test : (i : ℕ) (b : Bool) → ltb i limit ≡ b → Good (cond b (f i) (Fault 23 at))
@@ -82,19 +82,19 @@ pub record Named (sets relations : ℕ) (h : Names) : Type 0 where
   pub Q-below : h .q < relations
 
 -- The head of a node that begins at a bit: a rule that is not a while, in 19 bits, or a while, in 27.
-pub data Within (sets relations at : ℕ) : NodeHead → Type 0 where
+pub data HeadWithin (sets relations at : ℕ) : NodeHead → Type 0 where
   plain : (rule : ℕ) (h : Names) → rule < 7 → (rule ≡ 5 → ⊥) → Named sets relations h
-      → Within sets relations at (record { rule = rule; names = h; k = 0; w = 0; next = at + 19 })
+      → HeadWithin sets relations at (record { rule = rule; names = h; k = 0; w = 0; next = at + 19 })
   loop : (h : Names) (K W : ℕ) → Named sets relations h → K < sets → W < relations
-      → Within sets relations at (record { rule = 5; names = h; k = K; w = W; next = at + 27 })
+      → HeadWithin sets relations at (record { rule = 5; names = h; k = K; w = W; next = at + 27 })
 
-pub next-near : (sets relations at : ℕ) (x : NodeHead) → Within sets relations at x → x .next ≤ at + 27
+pub next-near : (sets relations at : ℕ) (x : NodeHead) → HeadWithin sets relations at x → x .next ≤ at + 27
 next-near sets relations at _ (plain rule h under other n) = omega arith
 next-near sets relations at _ (loop h K W n k w) = omega arith
 
 abbrev WithinHead : ℕ → ℕ → ℕ → HeadFound → Type 0
 WithinHead sets relations at (Fault k place) = Unit {0}
-WithinHead sets relations at (Head x) = Within sets relations at x
+WithinHead sets relations at (Head x) = HeadWithin sets relations at x
 
 module _ (bytes : List ℕ) (sets relations at : ℕ) where
   abbrev Good : HeadFound → Type 0
@@ -105,7 +105,7 @@ module _ (bytes : List ℕ) (sets relations at : ℕ) where
   loop-within rule h under n = by (eqb rule 5) refl
     where
       by : (b : Bool) → eqb rule 5 ≡ b → Good (cond b
-          (named bytes sets (at + 19) (λ K. named bytes relations (at + 19 + 4) (λ W. Head (record { rule = rule; names = h; k = K; w = W; next = at + 19 + 8 }))))
+          (namedTable bytes sets (at + 19) (λ K. namedTable bytes relations (at + 19 + 4) (λ W. Head (record { rule = rule; names = h; k = K; w = W; next = at + 19 + 8 }))))
           (Head (record { rule = rule; names = h; k = 0; w = 0; next = at + 19 })))
       by true t =
           let end : at + 19 + 8 ≡ at + 27 = omega arith in
@@ -140,7 +140,7 @@ module _ (bytes : List ℕ) (sets relations at : ℕ) where
           let field = there bytes at 3 rule next e in
           rw (field .moved) (code rule (field .small) (eqb rule 7) refl)
 
-  pub node-within : (below before : ℕ) (x : NodeHead) → nodeHead bytes sets relations below before at ≡ Head x → Within sets relations at x
+  pub node-within : (below before : ℕ) (x : NodeHead) → nodeHead bytes sets relations below before at ≡ Head x → HeadWithin sets relations at x
   node-within below before x e = rw e at (head-within below before)
 
   -- A node that is read without fault has fewer than 127 before it.

@@ -20,7 +20,7 @@ use Rattle.states.proofs.Bits.{bit}
 use Rattle.states.proofs.EntryLaws.{entry-below}
 use Rattle.semantics.specs.Derivations.{Derivation}
 use Rattle.derivation.specs.Tables.{mostTables, setAt, rowAt, inSetOf, inRelationOf, wordAt, setWordAt, entryWord, tableWord, workWords, written}
-use Rattle.derivation.specs.Reading.{proof, readProof, wordsOf}
+use Rattle.derivation.specs.Reading.{proof, readProof, loadedWord}
 use Rattle.derivation.proofs.Buffers.{written-at}
 use Rattle.derivation.proofs.Files.{Counted, counted, stages}
 
@@ -92,7 +92,7 @@ module _ (bytes : List ℕ) where
 module _ (bytes : List ℕ) (n sets relations at : ℕ) (d : Derivation) (read : readProof bytes n ≡ proof sets relations at d)
     (work : List ℕ) (enough : workWords ≤ length work) where
   abbrev words : List ℕ
-  words = written (wordsOf bytes n (readProof bytes n)) work
+  words = written (loadedWord bytes n (readProof bytes n)) work
 
   few : Counted bytes n (record { sets = sets; relations = relations; root = at })
   few = counted bytes n _ (stages bytes n sets relations at d read .tables)
@@ -103,11 +103,11 @@ module _ (bytes : List ℕ) (n sets relations at : ℕ) (d : Derivation) (read :
   word-is i k table part =
       let entry : (setWords * i + k) / setWords ≡ i = omega arith in
       let place : (setWords * i + k) % setWords ≡ k = omega arith in
-      written-at (wordsOf bytes n (readProof bytes n)) work (setWords * i + k) (omega arith) (omega arith) ∙ rw (read, entry, place)
+      written-at (loadedWord bytes n (readProof bytes n)) work (setWords * i + k) (omega arith) (omega arith) ∙ rw (read, entry, place)
 
   -- State s is in set i as the words hold it iff it is a state and the file has it in the set.
   pub set-member : (i s : ℕ) → i < sets
-      → mem (entryAt (written (wordsOf bytes n (readProof bytes n)) work) i) s ≡ (ltb s n && inSetOf bytes n i s)
+      → mem (entryAt (written (loadedWord bytes n (readProof bytes n)) work) i) s ≡ (ltb s n && inSetOf bytes n i s)
   unfolding entryWord inSetOf
   set-member i s under =
       let first : i < mostTables = omega (arith, few .sets-most) in
@@ -115,7 +115,7 @@ module _ (bytes : List ℕ) (n sets relations at : ℕ) (d : Derivation) (read :
 
   -- The pair (s,t) likewise, for each row that the words have room for.
   pub pair-member : (r s t : ℕ) → r < relations → s < capacity
-      → mem (entryAt (written (wordsOf bytes n (readProof bytes n)) work) (mostTables + capacity * r + s)) t
+      → mem (entryAt (written (loadedWord bytes n (readProof bytes n)) work) (mostTables + capacity * r + s)) t
       ≡ (ltb s n && ltb t n && inRelationOf bytes n sets r s t)
   unfolding inRelationOf entryWord setWordAt wordAt
   pair-member r s t under row = by (ltb s n) refl

@@ -11,7 +11,7 @@ use Rattle.derivation.specs.declared.NodeHead.{NodeHead}
 use Rattle.derivation.specs.Tables.{mostTables}
 use Rattle.derivation.specs.NodeTable.{nodeWord, nodeOf, nodeIn, nodeBits, nodeRecord, nodeWords}
 use Rattle.derivation.specs.Storing.{Fits, recordOf}
-use Rattle.derivation.proofs.Heads.{Named, Within, plain, loop}
+use Rattle.derivation.proofs.Heads.{Named, HeadWithin, plain, loop}
 
 -- The fields of a word that is made of fields with room.
 module _ (rule P R G Q K W after bit : ℕ) (rule-fits : rule < 8) (P-fits : P < 16) (R-fits : R < 16) (G-fits : G < 16)
@@ -109,7 +109,7 @@ module _ (sets relations : ℕ) (few-sets : sets ≤ mostTables) (few-relations 
   }
 
   -- So have the head of a node and the root of a derivation.
-  pub head-fits : (at : ℕ) (x : NodeHead) → Within sets relations at x → (after bit : ℕ) → after < 128 → Fits (recordOf x after bit)
+  pub head-fits : (at : ℕ) (x : NodeHead) → HeadWithin sets relations at x → (after bit : ℕ) → after < 128 → Fits (recordOf x after bit)
   head-fits at _ (plain rule h under other n) after bit few = fits _ n (omega arith)
   head-fits at _ (loop h K W n k w) after bit few = fits _ n (omega arith)
 

@@ -11,9 +11,9 @@ use Rattle.derivation.specs.declared.NodeHead.{NodeHead}
 use Rattle.derivation.specs.declared.HeadFound.{HeadFound}
 use Rattle.derivation.specs.declared.HeadFound.the-variants.{Head, Fault}
 use Rattle.derivation.specs.declared.NodeEnd.the-variants as End
-use Rattle.derivation.specs.Nodes.{NodeRead, whole, fault, alone, overTwo, overOne, onChild, onLeft, onNodeHead, nodeHead, nodeAt, endOf}
+use Rattle.derivation.specs.Nodes.{NodeRead, whole, fault, alone, overTwo, overOne, onChild, onLeftNode, onNodeHead, nodeHead, nodeAt, endOf}
 use Rattle.derivation.specs.NodeTable.{nodeBits}
-use Rattle.derivation.proofs.Heads.{Within, node-within, head-few}
+use Rattle.derivation.proofs.Heads.{HeadWithin, node-within, head-few}
 use Rattle.derivation.proofs.NodeTable.{Known}
 use Rattle.derivation.proofs.Built.{leaf, over-one, over-two}
 
@@ -67,7 +67,7 @@ module _ (bytes : List ℕ) (sets relations : ℕ) where
   Shows before at (fault k place) = Unit {0}
 
   -- A node shows it if its children do.
-  module _ (before at : ℕ) (x : NodeHead) (w : Within sets relations at x) where
+  module _ (before at : ℕ) (x : NodeHead) (w : HeadWithin sets relations at x) where
     leaf-shows : before < 127 → x .rule < 2 → Read before at (alone x) (suc before) (x .next)
     leaf-shows free few =
         let b = leaf sets relations at x w few in
@@ -97,7 +97,7 @@ module _ (bytes : List ℕ) (sets relations : ℕ) where
         }
 
     two-shows : 2 ≤ x .rule → x .rule < 4 → (left : NodeRead) → Shows (suc before) (x .next) left
-        → (right : ℕ → ℕ → NodeRead) → ((before at : ℕ) → Shows before at (right before at)) → Shows before at (onLeft (overTwo x) left right)
+        → (right : ℕ → ℕ → NodeRead) → ((before at : ℕ) → Shows before at (right before at)) → Shows before at (onLeftNode (overTwo x) left right)
     two-shows over few (fault k place) c right r = tt
     two-shows over few (whole l between middle) c right r = right-shows over few l between middle c (right between middle) (r between middle)
 
@@ -106,12 +106,12 @@ module _ (bytes : List ℕ) (sets relations : ℕ) where
   head-shows levels before at below (Fault k place) head = tt
   head-shows levels before at below (Head x) head = by (ltb (x .rule) 2) refl (ltb (x .rule) 4) refl
     where
-      w : Within sets relations at x
+      w : HeadWithin sets relations at x
       w = node-within bytes sets relations at levels before x head
 
       by : (no-child : Bool) → ltb (x .rule) 2 ≡ no-child → (two : Bool) → ltb (x .rule) 4 ≡ two
           → Shows before at (cond no-child (whole (alone x) (suc before) (x .next))
-          (cond two (onLeft (overTwo x) (node levels (suc before) (x .next)) (node levels)) (onChild (overOne x) (node levels (suc before) (x .next)))))
+          (cond two (onLeftNode (overTwo x) (node levels (suc before) (x .next)) (node levels)) (onChild (overOne x) (node levels (suc before) (x .next)))))
       by true t two u = leaf-shows before at x w (head-few bytes sets relations at levels before x head) (ltb-true (x .rule) 2 t)
       by false t true u =
           two-shows before at x w (ltb-false (x .rule) 2 t) (ltb-true (x .rule) 4 u) (node levels (suc before) (x .next)) (below (suc before) (x .next))

@@ -22,8 +22,8 @@ unfoldable pub onName : List ℕ → ℕ → ℕ → Field → (ℕ → HeadFoun
 onName bytes limit at Missing f = Fault 20 (bitLength bytes)
 onName bytes limit at (Value i next) f = cond (ltb i limit) (f i) (Fault 23 at)
 
-unfoldable pub named : List ℕ → ℕ → ℕ → (ℕ → HeadFound) → HeadFound
-named bytes limit at f = onName bytes limit at (fieldAt bytes at 4) f
+unfoldable pub namedTable : List ℕ → ℕ → ℕ → (ℕ → HeadFound) → HeadFound
+namedTable bytes limit at f = onName bytes limit at (fieldAt bytes at 4) f
 
 -- What two tables read one after the other give to what is read after them.
 unfoldable pub onPair : TwoNames → (ℕ → ℕ → ℕ → HeadFound) → HeadFound
@@ -35,13 +35,13 @@ module _ (bytes : List ℕ) (sets relations : ℕ) where
   unfoldable pub loopHead : ℕ → Names → ℕ → HeadFound
   loopHead rule h at =
       cond (eqb rule 5)
-      (named bytes sets at (λ K. named bytes relations (at + 4) (λ W. Head (record { rule = rule; names = h; k = K; w = W; next = at + 8 }))))
+      (namedTable bytes sets at (λ K. namedTable bytes relations (at + 4) (λ W. Head (record { rule = rule; names = h; k = K; w = W; next = at + 8 }))))
       (Head (record { rule = rule; names = h; k = 0; w = 0; next = at }))
 
   unfoldable pub namesHead : ℕ → ℕ → HeadFound
   namesHead rule at =
-      named bytes sets at (λ P. named bytes relations (at + 4) (λ R. named bytes relations (at + 8) (λ G.
-      named bytes relations (at + 12) (λ Q. loopHead rule (record { p = P; r = R; g = G; q = Q }) (at + 16)))))
+      namedTable bytes sets at (λ P. namedTable bytes relations (at + 4) (λ R. namedTable bytes relations (at + 8) (λ G.
+      namedTable bytes relations (at + 12) (λ Q. loopHead rule (record { p = P; r = R; g = G; q = Q }) (at + 16)))))
 
   -- A node's rule: 20 not there, then 24 the 128th node or the 25th level, then 22 the unused code 7, then its tables.
   unfoldable pub ruleHead : Bool → ℕ → Field → HeadFound
@@ -71,16 +71,16 @@ abbrev pub onChild : (Derivation → Derivation) → NodeRead → NodeRead
 onChild f (fault k place) = fault k place
 onChild f (whole d before next) = whole (f d) before next
 
-abbrev pub onLeft : (Derivation → Derivation → Derivation) → NodeRead → (ℕ → ℕ → NodeRead) → NodeRead
-onLeft f (fault k place) right = fault k place
-onLeft f (whole l before next) right = onChild (f l) (right before next)
+abbrev pub onLeftNode : (Derivation → Derivation → Derivation) → NodeRead → (ℕ → ℕ → NodeRead) → NodeRead
+onLeftNode f (fault k place) right = fault k place
+onLeftNode f (whole l before next) right = onChild (f l) (right before next)
 
 -- Its child nodes: none for skip and assignment, two for sequence and parallel, one for if, while and weaken.
 abbrev pub onNodeHead : HeadFound → ℕ → (ℕ → ℕ → NodeRead) → NodeRead
 onNodeHead (Fault k place) before node = fault k place
 onNodeHead (Head x) before node =
     cond (ltb (x .rule) 2) (whole (alone x) (suc before) (x .next))
-    (cond (ltb (x .rule) 4) (onLeft (overTwo x) (node (suc before) (x .next)) node) (onChild (overOne x) (node (suc before) (x .next))))
+    (cond (ltb (x .rule) 4) (onLeftNode (overTwo x) (node (suc before) (x .next)) node) (onChild (overOne x) (node (suc before) (x .next))))
 
 -- The derivation at a bit; the levels to go are one more than the 24 that can be there, so their end is never met.
 unfoldable pub nodeAt : ℕ → List ℕ → ℕ → ℕ → ℕ → ℕ → NodeRead

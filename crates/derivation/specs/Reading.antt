@@ -21,13 +21,13 @@ pub data ProofRead : Type 0 where
   refused : ℕ → ℕ → ProofRead
 
 -- 25: a fill bit that is not zero, or a further byte.
-abbrev pub onFill : ℕ → ℕ → ℕ → Derivation → Fill → ProofRead
-onFill sets relations at d Ends = proof sets relations at d
-onFill sets relations at d (Wrong place) = refused 25 place
+abbrev pub onProofFill : ℕ → ℕ → ℕ → Derivation → Fill → ProofRead
+onProofFill sets relations at d Ends = proof sets relations at d
+onProofFill sets relations at d (Wrong place) = refused 25 place
 
 abbrev pub onNodes : List ℕ → ℕ → ℕ → ℕ → NodeRead → ProofRead
 onNodes bytes sets relations at (fault k place) = refused k place
-onNodes bytes sets relations at (whole d before next) = onFill sets relations at d (fillAt bytes next)
+onNodes bytes sets relations at (whole d before next) = onProofFill sets relations at d (fillAt bytes next)
 
 abbrev pub onTables : List ℕ → TablesEnd → ProofRead
 onTables bytes (Fault k place) = refused k place
@@ -38,19 +38,19 @@ unfoldable pub readProof : List ℕ → ℕ → ProofRead
 readProof bytes n = onTables bytes (tablesAt bytes n)
 
 -- What the code answers of a proof file.
-abbrev pub foundOf : ProofRead → ProofFound
-foundOf (proof sets relations at d) = Found.Proof (record { sets = sets; relations = relations; nodes = nodes d; root = at })
-foundOf (refused k place) = Found.Fault k place
+abbrev pub proofFound : ProofRead → ProofFound
+proofFound (proof sets relations at d) = Found.Proof (record { sets = sets; relations = relations; nodes = nodes d; root = at })
+proofFound (refused k place) = Found.Fault k place
 
 -- The table of its nodes, or 0 after a fault.
 abbrev pub tableOf : ProofRead → List ℕ
 tableOf (proof sets relations at d) = nodeTable at d
 tableOf (refused k place) = replicate 127 0
 
-abbrev pub fileOf : ProofRead → ProofFile
-fileOf r = record { found = foundOf r; nodes = tableOf r }
+abbrev pub proofFile : ProofRead → ProofFile
+proofFile r = record { found = proofFound r; nodes = tableOf r }
 
 -- The table words that a proof file leaves: its tables, or 0 after a fault.
-abbrev pub wordsOf : List ℕ → ℕ → ProofRead → ℕ → ℕ
-wordsOf bytes n (proof sets relations at d) j = tableWord bytes n sets relations j
-wordsOf bytes n (refused k place) j = 0
+abbrev pub loadedWord : List ℕ → ℕ → ProofRead → ℕ → ℕ
+loadedWord bytes n (proof sets relations at d) j = tableWord bytes n sets relations j
+loadedWord bytes n (refused k place) j = 0

@@ -3,6 +3,7 @@ use semantics::Names;
 use states::CAPACITY;
 use states::SET_WORDS;
 
+pub mod codes;
 pub mod header;
 mod nodes;
 pub mod reading;

@@ -10,6 +10,10 @@ use super::NodeHead;
 use super::SEQUENCE;
 use super::TwoNames;
 use super::WHILE;
+use super::codes::NO_TABLE;
+use super::codes::PROOF_MISSING;
+use super::codes::TOO_MANY_NODES;
+use super::codes::UNUSED_RULE;
 use super::table::node_word;
 use bits::Field;
 use semantics::Names;
@@ -21,29 +25,36 @@ ghost use lib.ListN.{set};
 ghost use lib.Seq.{sets as stored};
 ghost use Rattle.semantics.specs.Derivations.{Derivation};
 ghost use Rattle.derivation.specs.Tables.{mostTables};
-ghost use Rattle.derivation.specs.Nodes.{named, onPair, loopHead, namesHead, nodeHead, whole, nodeAt, wholeNode, endOf};
+ghost use Rattle.derivation.specs.Nodes.{namedTable, onPair, loopHead, namesHead, nodeHead, whole, nodeAt, wholeNode, endOf};
 ghost use Rattle.derivation.specs.NodeTable.{nodeWord, nodeWords};
 ghost use Rattle.derivation.specs.Storing.{Fits, recordOf};
 
 // The code that is no rule.
 const NO_RULE: u64 = 7;
 
+// The bits of a node's rule, of a table that it names, and of P, R, G and Q together.
+const RULE_BITS: usize = 3;
+
+const NAME_BITS: usize = 4;
+
+const FOUR_NAMES_BITS: usize = 4 * NAME_BITS;
+
 // The two tables named at a bit, each below its limit. The promise is over whatever is read after them.
 fn names_at(src: &[u8], first: u32, second: u32, at: usize) -> TwoNames
     ensures { λ r. ⌜ ((f : ℕ → ℕ → ℕ → HeadFound) →
-        named (now (src .entry)) first at (λ i. named (now (src .entry)) second (at + 4) (λ j. f i j (at + 8))) ≡ onPair r f) ⌝ }
+        namedTable (now (src .entry)) first at (λ i. namedTable (now (src .entry)) second (at + 4) (λ j. f i j (at + 8))) ≡ onPair r f) ⌝ }
 {
-    let Field::Value(i, next) = bits::read(src, at, 4) else {
-        return TwoNames::Fault(20, bits::bit_length(src));
+    let Field::Value(i, next) = bits::read(src, at, NAME_BITS) else {
+        return TwoNames::Fault(PROOF_MISSING, bits::bit_length(src));
     };
     if i >= first as u64 {
-        return TwoNames::Fault(23, at);
+        return TwoNames::Fault(NO_TABLE, at);
     }
-    let Field::Value(j, end) = bits::read(src, next, 4) else {
-        return TwoNames::Fault(20, bits::bit_length(src));
+    let Field::Value(j, end) = bits::read(src, next, NAME_BITS) else {
+        return TwoNames::Fault(PROOF_MISSING, bits::bit_length(src));
     };
     if j >= second as u64 {
-        return TwoNames::Fault(23, next);
+        return TwoNames::Fault(NO_TABLE, next);
     }
     TwoNames::Pair(NamePair {
         first: i as u32,
@@ -109,7 +120,7 @@ fn all_there(sets: u32, relations: u32, names: Names) -> bool
 fn names_head(src: &[u8], sets: u32, relations: u32, rule: u32, at: usize) -> HeadFound
     ensures { λ r. ⌜ r ≡ namesHead (now (src .entry)) sets relations rule at ⌝ }
 {
-    let Field::Value(four, next) = bits::read(src, at, 16) else {
+    let Field::Value(four, next) = bits::read(src, at, FOUR_NAMES_BITS) else {
         return names_in_turn(src, sets, relations, rule, at);
     };
     let names = Names {
@@ -135,14 +146,14 @@ fn node_head_at(
 ) -> HeadFound
     ensures { λ r. ⌜ r ≡ nodeHead (now (src .entry)) sets relations below before at ⌝ }
 {
-    let Field::Value(rule, next) = bits::read(src, at, 3) else {
-        return HeadFound::Fault(20, bits::bit_length(src));
+    let Field::Value(rule, next) = bits::read(src, at, RULE_BITS) else {
+        return HeadFound::Fault(PROOF_MISSING, bits::bit_length(src));
     };
     if below == 0 || before >= MOST_NODES as u32 {
-        return HeadFound::Fault(24, at);
+        return HeadFound::Fault(TOO_MANY_NODES, at);
     }
     if rule == NO_RULE {
-        return HeadFound::Fault(22, at);
+        return HeadFound::Fault(UNUSED_RULE, at);
     }
     names_head(src, sets, relations, rule as u32, next)
 }
@@ -162,7 +173,7 @@ fn has_two_children(rule: u32) -> bool
 }
 
 // Stores node i, which begins at a bit, with the number of the node after its first child.
-fn store(table: &mut [u64; MOST_NODES], i: u32, head: NodeHead, after: u32, bit: usize)
+fn store_node(table: &mut [u64; MOST_NODES], i: u32, head: NodeHead, after: u32, bit: usize)
     requires { ⌜ (i < 127) × Fits (recordOf head after bit) × (bit < 2 ^ 30) ⌝ }
     ensures { λ _. ⌜ now (table .exit) ≡ set (now (table .entry)) i (nodeWord (recordOf head after bit)) ⌝ }
 {
@@ -197,7 +208,7 @@ fn node_walk(
         → now (table .exit) ≡ stored (now (table .entry)) before (nodeWords before at d)) ⌝ }
 {
     if levels == 0 {
-        return NodeEnd::Fault(24, at);
+        return NodeEnd::Fault(TOO_MANY_NODES, at);
     }
     let below = levels - 1;
     match node_head_at(src, sets, relations, below, before, at) {
@@ -207,13 +218,13 @@ fn node_walk(
             let next = head.next;
             let first = before + 1;
             if has_no_child(rule) {
-                store(table, before, head, first, at);
+                store_node(table, before, head, first, at);
                 return NodeEnd::Ends(first, next);
             }
             match node_walk(src, sets, relations, below, first, next, table) {
                 NodeEnd::Fault(fault, place) => NodeEnd::Fault(fault, place),
                 NodeEnd::Ends(after, end) => {
-                    store(table, before, head, after, at);
+                    store_node(table, before, head, after, at);
                     if has_two_children(rule) {
                         return node_walk(src, sets, relations, below, after, end, table);
                     }

@@ -1,6 +1,7 @@
 // The work words: a set for each set and for each row of a relation, as document 01 lays them out.
 use super::MOST_TABLES;
 use super::WORK_WORDS;
+use super::header::TABLES_FROM;
 use super::header::row_cursor;
 use states::CAPACITY;
 use states::RELATION_WORDS;
@@ -78,7 +79,7 @@ fn table_word(src: &[u8], n: usize, sets: usize, relations: usize, j: usize) -> 
     let part = j % SET_WORDS;
     if entry < MOST_TABLES {
         if entry < sets {
-            return set_word_at(src, 10 + n * entry, n, part);
+            return set_word_at(src, TABLES_FROM + n * entry, n, part);
         }
         return 0;
     }

@@ -27,9 +27,9 @@ use Rattle.evaluation.specs.Refinement.{nodeBound, storedBy}
 use Rattle.evaluation.proofs.Sizes.{later-sizes, one-size}
 
 -- The expression at a cursor is the one that is read there, if there is one.
-pub expr-read : (bytes : List ℕ) (count at : ℕ) (e : Expr) (nodes next : ℕ) → wholeExpr bytes count at ≡ good e nodes next → exprIn bytes count at ≡ e
+pub expr-whole : (bytes : List ℕ) (count at : ℕ) (e : Expr) (nodes next : ℕ) → wholeExpr bytes count at ≡ good e nodes next → exprIn bytes count at ≡ e
 unfolding exprIn
-expr-read bytes count at e nodes next read = rw read
+expr-whole bytes count at e nodes next read = rw read
 
 -- A variable that is not declared has the same value at all states.
 pub get-past : (head : Head) (v s t : ℕ) → head .count ≤ v → machineIn head .get s v ≡ machineIn head .get t v
@@ -83,14 +83,14 @@ same-number a b =
     (λ h. let e = eqb-true a b h in and-both _ _ (le-leb a b (omega arith)) (le-leb b a (omega arith)))
 
 -- What `isSmall` says about a variable's numbers.
-pub record Small (x : Variable) : Type 0 where
+pub record SmallVariable (x : Variable) : Type 0 where
   pub few : x .states ≤ capacity
   pub weighs : 0 < x .weight
   pub light : x .weight ≤ capacity
   pub sized : 0 < x .size
   pub short : x .size ≤ capacity
 
-pub small : (x : Variable) → isSmall x ≡ true → Small x
+pub small : (x : Variable) → isSmall x ≡ true → SmallVariable x
 unfolding isSmall
 small x h =
     let c = and-left _ (leb (x .size) capacity) h in

@@ -15,8 +15,8 @@ use Rattle.states.specs.Sets.{capacity, has}
 abbrev pub Holds : (ℕ → Bool) → ℕ → StateSet → Type 0
 Holds p k set = (t : ℕ) → has set t ≡ (ltb t k && p t)
 
-pub holds-none : (p : ℕ → Bool) (set : StateSet) → ((t : ℕ) → has set t ≡ false) → Holds p 0 set
-holds-none p set empty t = rw (le-ltb t 0 (omega arith)) (empty t)
+pub holds-no-state : (p : ℕ → Bool) (set : StateSet) → ((t : ℕ) → has set t ≡ false) → Holds p 0 set
+holds-no-state p set empty t = rw (le-ltb t 0 (omega arith)) (empty t)
 
 pub holds-more : (p : ℕ → Bool) (k : ℕ) (set more : StateSet) (one : Bool) → k < capacity → one ≡ p k
     → ((t : ℕ) → has more t ≡ (has set t || one && (ltb t capacity && eqb k t))) → Holds p k set → Holds p (k + 1) more

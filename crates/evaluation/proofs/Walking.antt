@@ -79,8 +79,8 @@ pub record Place : Type 0 where
   pub more : 0 < levels
 
 -- What is read there, and what a walk promises about its row.
-abbrev pub headAt : Place → ExprHead
-headAt p = exprHead (p .bytes) (p .count) (p .nodes) (p .at)
+abbrev pub headHere : Place → ExprHead
+headHere p = exprHead (p .bytes) (p .count) (p .nodes) (p .at)
 
 abbrev pub RowAt : Place → Values → Type 0
 RowAt p row = Walked (p .n) (p .m) (p .nodes) row (exprAt (p .levels) (p .bytes) (p .count) (p .nodes) (p .at))
@@ -90,10 +90,10 @@ abbrev pub OperandAt : Place → ℕ → ℕ → Values → Type 0
 OperandAt p nodes at row = Walked (p .n) (p .m) nodes row (exprAt (p .levels - 1) (p .bytes) (p .count) nodes at)
 
 module _ (p : Place) where
-  step : (h : ExprHead) → headAt p ≡ h → exprAt (p .levels) (p .bytes) (p .count) (p .nodes) (p .at) ≡ onExprHead h (p .nodes) (exprAt (p .levels - 1) (p .bytes) (p .count))
+  step : (h : ExprHead) → headHere p ≡ h → exprAt (p .levels) (p .bytes) (p .count) (p .nodes) (p .at) ≡ onExprHead h (p .nodes) (exprAt (p .levels - 1) (p .bytes) (p .count))
   step h = expr-step (p .bytes) (p .count) (p .levels) (p .nodes) (p .at) h (p .more)
 
-  pub known-at : (h : ExprHead) → headAt p ≡ h → Headed (p .count) (p .nodes) (p .at) h
+  pub known-at : (h : ExprHead) → headHere p ≡ h → Headed (p .count) (p .nodes) (p .at) h
   known-at h = headed-as (p .bytes) (p .count) (p .nodes) (p .at) h
 
   leaf : (e : Expr) (next : ℕ) (row : Values) → exprAt (p .levels) (p .bytes) (p .count) (p .nodes) (p .at) ≡ good e (suc (p .nodes)) next
@@ -102,7 +102,7 @@ module _ (p : Place) where
   leaf e next row read room counted ends each =
       rw read (λ s l. each s l .0, λ valued. (omega arith, ends, omega arith, omega arith, λ s l. omega (arith, each s l .1)))
 
-  pub walked-integer : (z : ℤ) (next : ℕ) → headAt p ≡ head.Integer z next → (row : Values)
+  pub walked-integer : (z : ℤ) (next : ℕ) → headHere p ≡ head.Integer z next → (row : Values)
       → (row .kind ≡ integersKind) × (row .nodes ≡ p .nodes + 1) × (row .next ≡ next) × (row .integers ≡ replicate capacity z) → RowAt p row
   unfolding Headed
   walked-integer z next e row made =
@@ -110,7 +110,7 @@ module _ (p : Place) where
       leaf (lit (int z)) next row (step _ e) (known .0) (made .1) (made .2)
       (λ s l. rw (made .0, made .3, getD-replicate capacity s z (pos 0) (omega (arith, p .most))) (refl, known .2))
 
-  pub walked-truth : (b : Bool) (next : ℕ) → headAt p ≡ head.Truth b next → (row : Values) (set : StateSet)
+  pub walked-truth : (b : Bool) (next : ℕ) → headHere p ≡ head.Truth b next → (row : Values) (set : StateSet)
       → (row .kind ≡ truthsKind) × (row .nodes ≡ p .nodes + 1) × (row .next ≡ next) × (row .truths ≡ set) × ((s : ℕ) → integerIn row s ≡ pos 0)
       → ((s : ℕ) → s < capacity → has set s ≡ b) → RowAt p row
   unfolding Headed
@@ -118,7 +118,7 @@ module _ (p : Place) where
       leaf (lit (truth b)) next row (step _ e) (known-at _ e .0) (made .1) (made .2)
       (λ s l. (rw (made .0, made .3, always s (omega (arith, p .most))), rw (made .4 s) (omega arith)))
 
-  pub walked-variable : (v next : ℕ) → headAt p ≡ head.Variable v next → (row : Values) (values : List ℤ)
+  pub walked-variable : (v next : ℕ) → headHere p ≡ head.Variable v next → (row : Values) (values : List ℤ)
       → ((s : ℕ) → s < p .n → (getD values s (pos 0) ≡ p .m .get s v) × (mag (getD values s (pos 0)) < nodeBound))
       → (row .kind ≡ integersKind) × (row .nodes ≡ p .nodes + 1) × (row .next ≡ next) × (row .integers ≡ values) → RowAt p row
   unfolding Headed
@@ -126,7 +126,7 @@ module _ (p : Place) where
       leaf (var v) next row (step _ e) (known-at _ e .0) (made .1) (made .2)
       (λ s l. rw (made .0, made .3) (ap (λ z. some (int z)) (each s l .0), each s l .1))
 
-  pub walked-fault : (k place : ℕ) → headAt p ≡ head.Fault k place → (row : Values) → row .kind ≡ nothingKind → RowAt p row
+  pub walked-fault : (k place : ℕ) → headHere p ≡ head.Fault k place → (row : Values) → row .kind ≡ nothingKind → RowAt p row
   walked-fault k place e row nothing = rw (step _ e) (omega arith)
 
 -- Where no level is left.
@@ -140,7 +140,7 @@ pub record Operation : Type 0 where
   pub place : Place
   pub o : ℕ
   pub first : ℕ
-  pub is : headAt place ≡ head.Operation o first
+  pub is : headHere place ≡ head.Operation o first
   pub left : Values
   pub walked : OperandAt place (place .nodes + 1) first left
 

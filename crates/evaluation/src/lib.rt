@@ -2,6 +2,7 @@
 // states: each node gives a row, with a value for each state.
 mod pointwise;
 
+use handler::expressions::EXPR_LEVELS;
 use handler::expressions::ExprHead;
 use handler::expressions::ExprShape;
 use handler::expressions::expr_head_at;
@@ -37,11 +38,6 @@ ghost use Rattle.handler.specs.Expressions.{exprAt};
 ghost use Rattle.handler.specs.Shapes.{inMask};
 ghost use Rattle.evaluation.specs.Values.{exprIn, leadsTo, variableIn, isSmall, agreeIn};
 ghost use Rattle.evaluation.specs.Refinement.{integersKind, truthsKind, nothingKind, mostNodes, operandsBound, integerIn, valueIn, Applied, Walked, Evaluated, storedBy};
-
-// An expression has at most 31 nodes, so it is read to one level more.
-const MOST_NODES: u32 = 31;
-
-const LEVELS: u32 = MOST_NODES + 1;
 
 // The kinds of a row: an integer at each state, a truth value at each state, or no value.
 const INTEGERS: u32 = 0;
@@ -245,7 +241,7 @@ fn values_walk(src: &[u8], head: Head, n: u32, levels: u32, nodes: u32, at: usiz
 fn values_at(src: &[u8], head: Head, at: usize) -> Values
     ensures { λ r. ⌜ Evaluated head (now (src .entry)) at r ⌝ }
 {
-    values_walk(src, head, states_in(head), LEVELS, 0, at)
+    values_walk(src, head, states_in(head), EXPR_LEVELS, 0, at)
 }
 
 // The states at which the expression at a cursor is true, and those at which it is false.

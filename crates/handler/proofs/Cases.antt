@@ -76,8 +76,8 @@ unfolding opened
 nodes = (refl, refl, refl, refl, refl, refl, refl, refl)
 
 -- 16: an assigned truth value, an operand of +. 18: a byte after the last field, a fill bit before 16.
-pub ends :
+pub fill-faults :
     (readHandler (0x22 ∷ 0x23 ∷ []) ≡ refused 16 13) × (readHandler (0x22 ∷ 0x26 ∷ 0x1C ∷ 0x00 ∷ []) ≡ refused 16 18)
     × (readHandler (0x22 ∷ 0x20 ∷ 0x02 ∷ 0x00 ∷ []) ≡ refused 18 24) × (readHandler (0x22 ∷ 0x23 ∷ 0x80 ∷ []) ≡ refused 18 16)
 unfolding opened
-ends = (refl, refl, refl, refl)
+fill-faults = (refl, refl, refl, refl)

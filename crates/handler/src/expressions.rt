@@ -15,9 +15,9 @@ ghost use Rattle.handler.specs.Expressions.{signed, integerHead, truthHe
 ghost use Rattle.handler.specs.Shapes.{inMask, earlierOf, exprShape};
 
 // An expression has at most 31 nodes. One level more than that is read.
-const MOST_NODES: u32 = 31;
+const MOST_EXPR_NODES: u32 = 31;
 
-const LEVELS: u32 = 32;
+pub const EXPR_LEVELS: u32 = MOST_EXPR_NODES + 1;
 
 // The widths in bits of a node's tag and of what follows each tag.
 const TAG_BITS: usize = 2;
@@ -149,7 +149,7 @@ pub fn expr_head_at(src: &[u8], count: u32, nodes: u32, at: usize) -> ExprHead
     let Field::Value(tag, next) = bits::read(src, at, TAG_BITS) else {
         return ExprHead::Fault(MISSING, bits::bit_length(src));
     };
-    if nodes >= MOST_NODES {
+    if nodes >= MOST_EXPR_NODES {
         return ExprHead::Fault(TOO_MANY, at);
     }
     payload_at(src, count, next, tag)
@@ -279,5 +279,5 @@ fn expr_walk(
 pub fn expr_shape(src: &[u8], count: u32, wanted: Kind, moved: u32, at: usize) -> ExprShape
     ensures { λ r. ⌜ r ≡ exprShape wanted moved at (wholeExpr (now (src .entry)) count at) ⌝ }
 {
-    expr_walk(src, count, wanted, moved, LEVELS, 0, at)
+    expr_walk(src, count, wanted, moved, EXPR_LEVELS, 0, at)
 }

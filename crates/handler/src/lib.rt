@@ -22,6 +22,9 @@ pub const IF: u32 = 4;
 
 pub const WHILE: u32 = 5;
 
+// A handler has at most 63 statements.
+pub const MOST_STATEMENTS: usize = 63;
+
 // What a statement's first bits hold, with the cursor after them: nil; an assignment, by its variable; a sequence or parallel, by its
 // code; an if or while, by its code; or a fault.
 pub enum StmtHead {
@@ -64,5 +67,5 @@ pub enum HandlerFound {
 pub struct HandlerFile {
     pub found: HandlerFound,
     pub head: Head,
-    pub statements: [u64; 63],
+    pub statements: [u64; MOST_STATEMENTS],
 }

@@ -2,6 +2,7 @@
 use crate::HandlerFile;
 use crate::HandlerFound;
 use crate::HandlerSummary;
+use crate::MOST_STATEMENTS;
 use crate::StmtShape;
 use crate::codes::FILL;
 use crate::codes::KINDS;
@@ -9,7 +10,7 @@ use crate::expressions::KindError;
 use crate::head::HeadEnd;
 use crate::head::no_head;
 use crate::head::read_head;
-use crate::statements::LEVELS;
+use crate::statements::STMT_LEVELS;
 use crate::statements::stmt_walk;
 use bits::Fill;
 ghost use mathlib.Core.Path.{_≡_};
@@ -24,7 +25,7 @@ fn faulty(code: u32, place: usize) -> HandlerFile
     HandlerFile {
         found: HandlerFound::Fault(code, place),
         head,
-        statements: [0; 63],
+        statements: [0; MOST_STATEMENTS],
     }
 }
 
@@ -61,8 +62,16 @@ pub fn read_handler(src: &[u8]) -> HandlerFile
     match end {
         HeadEnd::Fault(code, place) => faulty(code, place),
         HeadEnd::Statement(at) => {
-            let mut statements = [0u64; 63];
-            let read = stmt_walk(src, &mut statements, head.count, head.states, LEVELS, 0, at);
+            let mut statements = [0u64; MOST_STATEMENTS];
+            let read = stmt_walk(
+                src,
+                &mut statements,
+                head.count,
+                head.states,
+                STMT_LEVELS,
+                0,
+                at,
+            );
             let found = found_of(src, at, read);
             match found {
                 HandlerFound::Fault(code, place) => faulty(code, place),

@@ -1,6 +1,7 @@
 // Statements: reading a statement's head, and the summary of a whole statement.
 use crate::ASSIGNMENT;
 use crate::IF;
+use crate::MOST_STATEMENTS;
 use crate::NIL;
 use crate::PARALLEL;
 use crate::StmtHead;
@@ -16,7 +17,7 @@ use crate::expressions::ExprSummary;
 use crate::expressions::KindError;
 use crate::expressions::earlier_of;
 use crate::expressions::expr_shape;
-use crate::table::store;
+use crate::table::store_statement;
 use bits::Field;
 use semantics::Kind;
 ghost use mathlib.Core.Path.{_≡_};
@@ -29,9 +30,9 @@ ghost use Rattle.handler.specs.Statements.{targetHead, codeHead, stmtHea
 ghost use Rattle.handler.specs.StatementTable.{StatementsStored};
 
 // A handler has at most 63 statements on at most 16 levels. One level more than that is read.
-const MOST_STATEMENTS: u32 = 63;
+const MOST_COUNT: u32 = MOST_STATEMENTS as u32;
 
-pub(crate) const LEVELS: u32 = 17;
+pub(crate) const STMT_LEVELS: u32 = 17;
 
 // The widths in bits of a statement's code and of an assignment's variable.
 const CODE_BITS: usize = 3;
@@ -81,7 +82,7 @@ pub fn stmt_head_at(src: &[u8], count: u32, below: u32, before: u32, at: usize) 
     let Field::Value(code, next) = bits::read(src, at, CODE_BITS) else {
         return StmtHead::Fault(MISSING, bits::bit_length(src));
     };
-    if below == 0 || before >= MOST_STATEMENTS {
+    if below == 0 || before >= MOST_COUNT {
         return StmtHead::Fault(TOO_MANY, at);
     }
     code_at(src, count, at, code as u32, next)
@@ -188,7 +189,7 @@ pub(crate) fn stmt_walk(
     }
     match stmt_head_at(src, count, levels - 1, before, at) {
         StmtHead::Nil(next) => {
-            store(table, before, NIL, 0, before + 1, 0);
+            store_statement(table, before, NIL, 0, before + 1, 0);
             StmtShape::Whole(StmtSummary {
                 steps: 0,
                 error: KindError::Nowhere,
@@ -197,7 +198,7 @@ pub(crate) fn stmt_walk(
             })
         }
         StmtHead::Assign(v, next) => {
-            store(table, before, ASSIGNMENT, v, before + 1, next);
+            store_statement(table, before, ASSIGNMENT, v, before + 1, next);
             assigned_of(before + 1, expr_shape(src, count, Kind::Integer, 0, next))
         }
         StmtHead::Pair(code, next) => {
@@ -205,7 +206,7 @@ pub(crate) fn stmt_walk(
             let StmtShape::Whole(left) = first else {
                 return first;
             };
-            store(table, before, code, 0, left.statements, 0);
+            store_statement(table, before, code, 0, left.statements, 0);
             let second = stmt_walk(src, table, count, n, levels - 1, left.statements, left.next);
             pair_of(left, second)
         }
@@ -216,7 +217,7 @@ pub(crate) fn stmt_walk(
                 let StmtShape::Whole(body) = second else {
                     return second;
                 };
-                store(table, before, code, 0, body.statements, next);
+                store_statement(table, before, code, 0, body.statements, next);
                 tested_of(n, code, test, body)
             }
         },

@@ -3,7 +3,7 @@ use Prim.Native.Nat.{ℕ}
 use Rattle.handover.specs.declared.Reading.{Reading}
 use Rattle.handover.specs.declared.Reading.the-variants.{Bytes, Failed}
 
--- How many bytes stand at the front of the buffer.
+-- How many bytes are at the front of the buffer.
 abbrev pub amount : Reading → ℕ
 amount (Bytes n) = n
 amount Failed = 0

@@ -68,7 +68,7 @@ fn read_argument(i: usize, name: &[u8], buf: &mut [u8]) -> Reading
 
 // Prints the line.
 fn print(v: Verdict) {
-    let mut line = [0u8; 64];
+    let mut line = [0u8; report::LINE_BYTES];
     let n = report::write_line(v, &mut line);
     if !io::write_all(STDOUT_FILENO, &line[..n]) {
         os::fail(b"standard output");

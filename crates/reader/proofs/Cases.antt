@@ -9,12 +9,12 @@ use Rattle.reader.specs.declared.Answer.the-variants.{Found, None}
 abbrev handler : List ℕ
 handler = 0x22 ∷ 0x20 ∷ 0x02 ∷ []
 
--- One variable, of size 2: the second field stands where the first ends.
+-- One variable, of size 2: the second field is where the first ends.
 pub head : twoAnswers handler 0 3 5 ≡ record { first = Found 1; second = Found 2 }
 unfolding fieldOf movedTo fieldAt isThere bitsAt bitAt
 head = refl
 
--- A refused read leaves the reader where it stands, so the read after it finds what it would have found.
+-- A refused read leaves the reader where it is, so the read after it finds what it would have found.
 pub refused-then-read : twoAnswers handler 8 17 16 ≡ record { first = None; second = Found 0x2002 }
 unfolding fieldOf movedTo fieldAt isThere bitsAt bitAt
 refused-then-read = refl

@@ -4,7 +4,7 @@ ghost use mathlib.Core.Path.{_≡_};
 ghost use Rattle.bits.specs.Fields.{fieldAt};
 ghost use Rattle.reader.specs.Reading.{readerOf, outcomeOf, answerOf, movedOn, twoAnswers};
 
-// A file, and the number of the bit that is read next. It may stand past the end, where every read is refused.
+// A file, and the number of the bit that is read next. It may be past the end, where every read is refused.
 pub struct Reader<'a> {
     pub file: &'a [u8],
     pub at: usize,
@@ -16,7 +16,7 @@ pub enum Answer {
     None,
 }
 
-// An answer, and where the reader stands after it.
+// An answer, and the reader's position after it.
 pub struct Outcome {
     pub answer: Answer,
     pub at: usize,
@@ -59,7 +59,7 @@ pub fn file<'a>(r: Reader<'a>) -> &'a [u8]
     r.file
 }
 
-// The field of `width` bits at the reader's position, which then stands past it; or none, and it stands where it stood.
+// The field of `width` bits at the reader's position, which moves past it; or none, and the position does not change.
 pub fn read<'s, 'a>(r: &'s mut Reader<'a>, width: usize) -> Answer
     ensures { λ a. ⌜ (a ≡ answerOf (now (r .entry)) width) × (now (r .exit) ≡ movedOn (now (r .entry)) width) ⌝ }
 {

@@ -24,7 +24,7 @@ use Rattle.handler.specs.Expressions.{signed, integerHead, truthHead, variableH
 use Rattle.handler.specs.Statements.{targetHead, codeHead, markHead, stmtHead, stmtAt, wholeStmt}
 use Rattle.handler.specs.Reading.{HandlerRead, handler, refused, readHandler}
 use Rattle.derivation.specs.Tables.{setAt, rowAt, tablesThere, isCount, relationsRead, setsRead, tablesAt, inSetOf, inRelationOf}
-use Rattle.derivation.specs.Nodes.{onName, named as namedTable, loopHead, namesHead, ruleHead, nodeHead, nodeAt, wholeNode}
+use Rattle.derivation.specs.Nodes.{onName, namedTable, loopHead, namesHead, ruleHead, nodeHead, nodeAt, wholeNode}
 use Rattle.derivation.specs.Reading.{readProof}
 use Rattle.checker.specs.Verdicts.{answer}
 use Rattle.report.specs.Line.{ascii, digits, decimal, placeText, verdictText, lineOf}

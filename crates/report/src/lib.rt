@@ -9,9 +9,13 @@ ghost use Rattle.report.specs.Put.{Put};
 use checker::Place;
 use checker::Verdict;
 
-const HALF: u64 = 2147483648;
+// A number is kept modulo 2 ^ 31, and a place modulo 2 ^ 32.
+const NUMBERS: u64 = 2147483648;
 
-const WORD: u64 = 4294967296;
+const PLACES: u64 = 4294967296;
+
+// So many bytes hold every line.
+pub const LINE_BYTES: usize = 64;
 
 // The verdict as one number, by which a host learns it over the C interface.
 pub fn code_of(v: Verdict) -> u64
@@ -20,11 +24,11 @@ pub fn code_of(v: Verdict) -> u64
     match v {
         Verdict::Accepted(steps) => steps as u64,
         Verdict::Refused(fault) => {
-            let number = fault.number as u64 % HALF * 2;
+            let number = fault.number as u64 % NUMBERS * 2;
             let place = fault.place;
             match place {
-                Place::Bit(i) => number * WORD + i as u64 % WORD,
-                Place::Node(k) => (number + 1) * WORD + k as u64 % WORD,
+                Place::Bit(i) => number * PLACES + i as u64 % PLACES,
+                Place::Node(k) => (number + 1) * PLACES + k as u64 % PLACES,
             }
         }
     }
@@ -46,7 +50,7 @@ fn put_number(out: &mut [u8], at: usize, n: u64) -> usize
     requires { ⌜ at + length (decimal n) ≤ length (now out) ⌝ }
     ensures { λ r. ⌜ Put (now (out .entry)) at (decimal n) (now (out .exit)) r ⌝ }
 {
-    let digit = [48 + (n % 10) as u8];
+    let digit = [b'0' + (n % 10) as u8];
     if n < 10 {
         return put(out, at, &digit);
     }
@@ -96,7 +100,7 @@ fn put_words(out: &mut [u8], v: Verdict) -> usize
 pub fn write_line(v: Verdict, out: &mut [u8]) -> usize
     ensures { λ r. ⌜ (r ≡ lineLength v (now (out .entry))) × (now (out .exit) ≡ lineInto v (now (out .entry))) ⌝ }
 {
-    let mut line = [0u8; 64];
+    let mut line = [0u8; LINE_BYTES];
     let end = put_words(&mut line, v);
     let n = put(&mut line, end, b"\n");
     if n <= out.len() {

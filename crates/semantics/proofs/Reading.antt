@@ -114,7 +114,7 @@ module _ {m : Machine} {P : ℕ → Type 0} {R : ℕ → ℕ → Type 0} {moved 
       (each-append _ _ (each-map (λ d. op o d r) (step-left o r t l) _ (expr-steps l t p at-l))
       (each-map (λ d. op o l d) (step-right o l t r) _ (expr-steps r t p at-r))) (step-result o l r t h)
 
-  -- Others act: the remainder stays, and what it may be worth narrows.
+  -- Others act: the remainder stays, and it has no more possible values than before.
   reading-later : {s t u : ℕ} {e d : Expr} → Star R t u → Reading m R moved s e d t → Reading m R moved s e d u
   reading-later r now = record { since = star-trans (now .since) r; few = now .few; was = λ x q. now .was x (star-trans r q) }
 

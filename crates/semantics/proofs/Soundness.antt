@@ -159,7 +159,7 @@ module _ (t : Tables) where
   Sound d S =
       (s : ℕ) → specOf t (namesOf d) .P s ≡ true → SafeAt (t .machine) (specOf t (namesOf d)) (steps (t .machine .states) S) S s
 
-  -- What is safe for the statement that condition 30 says stands at a node is safe for the statement at hand.
+  -- What is safe for the statement that condition 30 says is at a node is safe for the statement at hand.
   as-made : (d : Derivation) (S : Stmt) (k : ℕ) → must (eqb (statementCode S) k) ≡ none → kindsFit S ≡ true
       → (kindsFit (made k S) ≡ true → Sound d (made k S)) → Sound d S
   as-made d S k e30 kinds safe =

@@ -17,7 +17,7 @@ pub data Val : Type 0 where
   int : ℤ → Val
   truth : Bool → Val
 
--- Variables and operations stand by their numbers in the handler file; the operations are + − < = > ∧ ∨, from 0.
+-- Variables and operations are given by their numbers in the handler file; the operations are + − < = > ∧ ∨, from 0.
 pub data Expr : Type 0 where
   lit : Val → Expr
   var : ℕ → Expr

@@ -4,7 +4,7 @@ use borrow.Author.Needs.{needs}
 use Rattle.semantics.specs.States.{product}
 use Rattle.derivation.specs.Tables.{written}
 use Rattle.handler.specs.Reading.{readHandler}
-use Rattle.derivation.specs.Reading.{readProof, fileOf, wordsOf}
+use Rattle.derivation.specs.Reading.{readProof, proofFile, loadedWord}
 use Rattle.checker.specs.Verdicts.{onHandler}
 use Rattle.checker.specs.Refinement.{decided}
 use Rattle.checker.proofs.Stages.{written-twice}
@@ -14,11 +14,11 @@ use Rattle.checker.proofs.check_proof.Tie as tie
 
 -- What reading the proof file gave.
 file-is : (c : tie.After-load) → let s = c .before .before .before .before .before .before in let a = s .args in
-    c .load .result ≡ fileOf (readProof (a .proof .now) (product (s .pre .0 .sizes)))
+    c .load .result ≡ proofFile (readProof (a .proof .now) (product (s .pre .0 .sizes)))
 file-is c = let s = c .before .before .before .before .before .before in rw (states-are _ (s .args .proof .now) _ _ _ (s .pre .0)) at (c .load .ensures .0)
 
 words-are : (c : tie.After-load) → let s = c .before .before .before .before .before .before in let a = s .args in let n = product (s .pre .0 .sizes) in
-    c .load .last .1 .1 .0 ≡ written (wordsOf (a .proof .now) n (readProof (a .proof .now) n)) (a .work .now)
+    c .load .last .1 .1 .0 ≡ written (loadedWord (a .proof .now) n (readProof (a .proof .now) n)) (a .work .now)
 words-are c = let s = c .before .before .before .before .before .before in rw (states-are _ (s .args .proof .now) _ _ _ (s .pre .0)) at (c .load .ensures .1)
 
 returns : tie.Need-returns

@@ -15,7 +15,7 @@ use Rattle.handler.specs.Header.{machineIn}
 use Rattle.handler.proofs.Folds.{Headed}
 use Rattle.evaluation.specs.Values.{isSmall}
 use Rattle.evaluation.proofs.Laws.{states-most, small, variable-small, variable-values}
-use Rattle.evaluation.proofs.Walking.{Place, Operation, headAt, known-at, walked-out, walked-integer, walked-truth, walked-variable, walked-fault, known-left, walked-left, walked-right, operands-small, walked-both}
+use Rattle.evaluation.proofs.Walking.{Place, Operation, headHere, known-at, walked-out, walked-integer, walked-truth, walked-variable, walked-fault, known-left, walked-left, walked-right, operands-small, walked-both}
 use Rattle.evaluation.proofs.values_walk.Reads as values-walk
 use Rattle.evaluation.proofs.values_walk.Kinds as values-walk-kinds
 use Rattle.evaluation.proofs.+values_walk.Lts-values_walk as lts
@@ -75,7 +75,7 @@ place t b =
       more = pos-of-ne-zero (b .before .if1 .left);
     }
 
-node-is : (t : ℕ) (b : lts.After-expr-head-at (callees t) (now-at t) values-walk.Post) (h : ExprHead) → b .expr-head-at .result ≡ h → headAt (place t b) ≡ h
+node-is : (t : ℕ) (b : lts.After-expr-head-at (callees t) (now-at t) values-walk.Post) (h : ExprHead) → b .expr-head-at .result ≡ h → headHere (place t b) ≡ h
 node-is t b h e = rw (← b .expr-head-at .ensures) e
 
 -- An operation whose left operand has been walked.

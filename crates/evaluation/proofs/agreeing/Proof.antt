@@ -8,7 +8,7 @@ use borrow.Author.Needs.{needs}
 use Rattle.states.proofs.Search.{and-left}
 use Rattle.evaluation.specs.declared.Variable.{Variable}
 use Rattle.evaluation.specs.Values.{valueBy, isSmall, agreeIn}
-use Rattle.evaluation.proofs.Laws.{Small, small}
+use Rattle.evaluation.proofs.Laws.{SmallVariable, small}
 use Rattle.evaluation.proofs.agreeing.Statement.{statement}
 use Rattle.evaluation.proofs.agreeing.Tie as tie
 
@@ -16,7 +16,7 @@ use Rattle.evaluation.proofs.agreeing.Tie as tie
 asked : (c : tie.After-is-small) (b : Bool) → let a = c .before .args in (c .is-small .result && ltb (a .s) (a .x .states)) ≡ b → (isSmall (a .x) && ltb (a .s) (a .x .states)) ≡ b
 asked c b e = rw (← c .is-small .ensures) e
 
-known : (c : tie.After-struct-known2) → Small (c .before .before .before .before .args .x)
+known : (c : tie.After-struct-known2) → SmallVariable (c .before .before .before .before .args .x)
 known c = small _ (and-left _ _ (asked (c .before .before .before) true (c .before .if1 .taken)))
 
 -- Where s is a state, the states with its value agree with it; where it is not, none do.

@@ -9,7 +9,7 @@ use Rattle.report.proofs.Writing.{put-then, whole}
 use Rattle.report.proofs.write_line.Statement.{statement}
 use Rattle.report.proofs.write_line.Tie as tie
 
--- What stands in the 64 bytes.
+-- What is in the 64 bytes.
 made : (c : tie.After-put)
     → (c .put .result ≡ length (lineOf (c .before .before .before .before .before .before .before .args .v))) × (take (c .put .result) (c .put .last .0) ≡ lineOf (c .before .before .before .before .before .before .before .args .v))
 unfolding lineOf

@@ -10,7 +10,7 @@ use borrow.Fn.PlainCycle.{Measures, is, falls, and}
 use Rattle.derivation.specs.declared.NodeHead.{NodeHead}
 use Rattle.derivation.specs.declared.HeadFound.the-variants as Found
 use Rattle.derivation.specs.Nodes.{nodeHead}
-use Rattle.derivation.proofs.Heads.{Within, next-near, node-within, head-few}
+use Rattle.derivation.proofs.Heads.{HeadWithin, next-near, node-within, head-few}
 use Rattle.derivation.proofs.NodeTable.{head-fits}
 use Rattle.derivation.proofs.Filling.{no-level, no-head, leaf-done, first-faulty, after-few, end-near, one-done, two-done}
 use Rattle.derivation.proofs.nodes.node_walk.Reads as node-walk
@@ -19,7 +19,7 @@ use Rattle.derivation.proofs.nodes.+node_walk.Lts-node_walk as lts
 use Rattle.derivation.proofs.nodes.has_no_child.Reads as no-child
 use Rattle.derivation.proofs.nodes.has_two_children.Reads as two-children
 use Rattle.derivation.proofs.nodes.node_head_at.Reads as head
-use Rattle.derivation.proofs.nodes.store.Reads as store
+use Rattle.derivation.proofs.nodes.store_node.Reads as store
 use Rattle.derivation.proofs.nodes.+node_walk.{statement}
 use Rattle.derivation.proofs.nodes.+node_walk.Tie.{close}
 
@@ -58,7 +58,7 @@ module _ (t : ℕ) where
   few : (c : Seen) → start c .args .before < 127
   few c = head-few _ _ _ _ _ _ _ (is-head c)
 
-  within : (c : Seen) → let a = start c .args in Within (a .sets) (a .relations) (a .at) (x c)
+  within : (c : Seen) → let a = start c .args in HeadWithin (a .sets) (a .relations) (a .at) (x c)
   within c = node-within _ _ _ _ _ _ _ (is-head c)
 
   some : (c : Seen) → start c .args .levels ≡ 0 → ⊥
@@ -70,7 +70,7 @@ module _ (t : ℕ) where
   returns : lts.Need-returns (callees t) (given t) node-walk.Post
   returns c = no-level _ _ _ _ _ _ _ _ (c .if1 .taken)
 
-  store-requires : lts.Need-store-requires (callees t) (given t) node-walk.Post
+  store-requires : lts.Need-store-node-requires (callees t) (given t) node-walk.Post
   store-requires c κs =
       let s = c .before .before .before in
       (few s, head-fits _ _ (start s .pre .1 .0) (start s .pre .1 .1) _ _ (within s) _ _ (omega (arith, few s)), near s)
@@ -79,7 +79,7 @@ module _ (t : ℕ) where
   returns-2 c =
       let s = c .before .before .before .before in
       let leaf = ltb-true _ 2 (sym (c .before .before .before .has-no-child .ensures) ∙ c .before .before .if2 .taken) in
-      leaf-done _ _ _ _ _ _ (some s) _ (x s) (is-head s) leaf _ (c .store .ensures)
+      leaf-done _ _ _ _ _ _ (some s) _ (x s) (is-head s) leaf _ (c .store-node .ensures)
 
   walk-requires : lts.Need-node-walk-requires (callees t) (given t) node-walk.Post
   walk-requires c κs =
@@ -96,7 +96,7 @@ module _ (t : ℕ) where
       let s = seen w in
       after-few _ _ _ _ _ _ (some s) _ (x s) (is-head s) _ _ (w .node-walk .ensures) (past w) _ _ (c .after .given .1)
 
-  store-requires-2 : lts.Need-store-requires-2 (callees t) (given t) node-walk.Post
+  store-requires-2 : lts.Need-store-node-requires-2 (callees t) (given t) node-walk.Post
   store-requires-2 c κs =
       let ends = c .before .before in
       let s = seen (ends .before .before) in
@@ -118,7 +118,7 @@ module _ (t : ℕ) where
       let w = ends .before .before in
       let s = seen w in
       two-done _ _ _ _ _ _ (some s) _ (x s) (is-head s) _ _ (w .node-walk .ensures) (past w) _ _ (ends .after .given .1)
-      (ltb-true _ 4 (sym (asked .has-two-children .ensures) ∙ c .before .before .if3 .taken)) _ (own .store2 .ensures) _ _ (c .node-walk2 .ensures)
+      (ltb-true _ 4 (sym (asked .has-two-children .ensures) ∙ c .before .before .if3 .taken)) _ (own .store-node2 .ensures) _ _ (c .node-walk2 .ensures)
 
   returns-5 : lts.Need-returns-5 (callees t) (given t) node-walk.Post
   returns-5 c =
@@ -133,7 +133,7 @@ module _ (t : ℕ) where
       let w = ends .before .before in
       let s = seen w in
       one-done _ _ _ _ _ _ (some s) _ (x s) (is-head s) _ _ (w .node-walk .ensures) (past w) _ _ (ends .after .given .1)
-      (ltb-false _ 4 (sym (c .before .has-two-children .ensures) ∙ c .if3 .left)) _ (own .store2 .ensures)
+      (ltb-false _ 4 (sym (c .before .has-two-children .ensures) ∙ c .if3 .left)) _ (own .store-node2 .ensures)
 
   returns-4 : lts.Need-returns-4 (callees t) (given t) node-walk.Post
   returns-4 c =

@@ -5,18 +5,18 @@ use mathlib.Core.Path.{_≡_, sym, _∙_}
 use native.Mathlib.Omega.{arith}
 use borrow.Author.Needs.{needs}
 use Rattle.derivation.specs.declared.HeadFound.{HeadFound}
-use Rattle.derivation.specs.Nodes.{named, onPair, loopHead, namesHead}
+use Rattle.derivation.specs.Nodes.{namedTable, onPair, loopHead, namesHead}
 use Rattle.derivation.proofs.nodes.names_in_turn.Statement.{statement}
 use Rattle.derivation.proofs.nodes.names_in_turn.Tie as tie
 
 -- What is read after P and R.
 abbrev after : List ℕ → ℕ → ℕ → ℕ → ℕ → ℕ → ℕ → HeadFound
 after bytes sets relations rule P R at =
-    named bytes relations at (λ G. named bytes relations (at + 4) (λ Q.
+    namedTable bytes relations at (λ G. namedTable bytes relations (at + 4) (λ Q.
     loopHead bytes sets relations rule (record { p = P; r = R; g = G; q = Q }) (at + 8)))
 
 in-pairs : (bytes : List ℕ) (sets relations rule at : ℕ) → namesHead bytes sets relations rule at
-    ≡ named bytes sets at (λ P. named bytes relations (at + 4) (λ R. after bytes sets relations rule P R (at + 8)))
+    ≡ namedTable bytes sets at (λ P. namedTable bytes relations (at + 4) (λ R. after bytes sets relations rule P R (at + 8)))
 unfolding namesHead
 in-pairs bytes sets relations rule at =
     let third : at + 12 ≡ at + 8 + 4 = omega arith in

@@ -13,7 +13,7 @@ use mir.Facts.{toZ-ofZ}
 use Rattle.semantics.specs.Language.{truth, ofIntegers}
 use Rattle.semantics.specs.States.{isTruth}
 use Rattle.evaluation.specs.Refinement.{lessCode, andCode}
-use Rattle.evaluation.proofs.Runs.{Holds, holds-none, holds-more}
+use Rattle.evaluation.proofs.Runs.{Holds, holds-no-state, holds-more}
 use Rattle.evaluation.proofs.pointwise.compared.Statement.{statement}
 use Rattle.evaluation.proofs.pointwise.compared.Tie as tie
 
@@ -61,6 +61,6 @@ returns c s l =
 pub compared-spec : {M : Type 1} → statement M
 compared-spec =
     tie.close
-    (tie.spec Inv-loop μ-loop (λ c κs. search needs) (λ c. (omega arith, holds-none _ _ (c .empty .ensures))) (λ c. search needs)
+    (tie.spec Inv-loop μ-loop (λ c κs. search needs) (λ c. (omega arith, holds-no-state _ _ (c .empty .ensures))) (λ c. search needs)
     (λ c. search needs) (λ c. search needs) (λ c. search needs) (λ c. search needs) (λ c. search needs) (λ c κs. search needs)
     (λ c κs. search needs) (λ c. search needs) (λ c. search needs) loop-again returns)

@@ -1,4 +1,4 @@
--- The shape of the statement, the end of the file and the kind error say which case of `foundOf` holds.
+-- The shape of the statement, the end of the file and the kind error say which case of `handlerFound` holds.
 use borrow.Author.Needs.{needs}
 use Rattle.handler.proofs.reading.found_of.Statement.{statement}
 use Rattle.handler.proofs.reading.found_of.Tie as tie

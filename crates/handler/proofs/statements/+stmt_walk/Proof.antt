@@ -26,7 +26,7 @@ use Rattle.handler.proofs.statements.assigned_of.Reads as assigned-of-r
 use Rattle.handler.proofs.statements.pair_of.Reads as pair-of-reads
 use Rattle.handler.proofs.statements.stmt_head_at.Reads as stmt-head-at-reads
 use Rattle.handler.proofs.statements.tested_of.Reads as tested-of-reads
-use Rattle.handler.proofs.table.store.Reads as store-reads
+use Rattle.handler.proofs.table.store_statement.Reads as store-reads
 use Rattle.handler.proofs.statements.+stmt_walk.{statement}
 use Rattle.handler.proofs.statements.+stmt_walk.Tie.{close}
 
@@ -86,13 +86,13 @@ head-is t c head e = sym (c .stmt-head-at .ensures) ∙ e
 more : (t : ℕ) (c : StmtHeadRead t) → 0 < c .before .before .before .before .args .levels
 more t c = pos-of-ne-zero (c .before .if1 .left)
 
-nil-store : (t : ℕ) → lts.Need-store-requires (callees t) (stmt-walk-at t) stmt-walk.Post
+nil-store : (t : ℕ) → lts.Need-store-statement-requires (callees t) (stmt-walk-at t) stmt-walk.Post
 unfolding Marked
 nil-store t c κs =
     let h = c .before .before .before .before in
     omega (arith, marked _ _ _ _ _ _ (head-is t h _ (c .before .before .next .given .1)))
 
-assign-store : (t : ℕ) → lts.Need-store-requires-2 (callees t) (stmt-walk-at t) stmt-walk.Post
+assign-store : (t : ℕ) → lts.Need-store-statement-requires-2 (callees t) (stmt-walk-at t) stmt-walk.Post
 unfolding Marked
 assign-store t c κs =
     let h = c .before .before .before .before in
@@ -160,7 +160,7 @@ stmt-walk-requires-2 t c κs =
     let pre = pair-of-left t l .before .before .before .before .before .before .before .pre in
     omega (arith, left-room t l, c .before .before .table4 .given, l .before .before .before .before .table3 .given, pre)
 
-test-store : (t : ℕ) → lts.Need-store-requires-4 (callees t) (stmt-walk-at t) stmt-walk.Post
+test-store : (t : ℕ) → lts.Need-store-statement-requires-4 (callees t) (stmt-walk-at t) stmt-walk.Post
 test-store t c κs =
     let k = head-of-test t (test-of-body t (c .before)) in
     omega (arith, test-room t k, c .before .before .before .before .before .table6 .given, k .before .before .before .before .before .before .before .pre)
@@ -198,7 +198,7 @@ nil-returns t c =
     let k = c .before .before .before .before in
     let h = k .before .before .before in
     let head = head-is t h _ (k .before .next .given .1) in
-    (rw (stmt-step _ _ _ _ _ _ (more t h) head, add-one), nil-filled _ _ _ _ _ (more t h) _ head _ _ (c .before .before .store .ensures))
+    (rw (stmt-step _ _ _ _ _ _ (more t h) head, add-one), nil-filled _ _ _ _ _ (more t h) _ head _ _ (c .before .before .store-statement .ensures))
 
 assign-returns : (t : ℕ) → lts.Need-returns-5 (callees t) (stmt-walk-at t) stmt-walk.Post
 assign-returns t c =
@@ -206,7 +206,7 @@ assign-returns t c =
     let h = k .before .before .before in
     let head = head-is t h _ (k .before .v .given .1) in (
       rw (c .assigned-of .ensures, c .before .expr-shape .ensures) (assign-shape _ _ _ _ _ _ (more t h) _ _ head),
-      assign-filled _ _ _ _ _ (more t h) _ _ head _ _ (c .before .before .before .before .store2 .ensures),
+      assign-filled _ _ _ _ _ (more t h) _ _ head _ _ (c .before .before .before .before .store-statement2 .ensures),
     )
 
 pair-returns : (t : ℕ) → lts.Need-returns-6 (callees t) (stmt-walk-at t) stmt-walk.Post
@@ -219,7 +219,7 @@ pair-returns t c =
     let second = c .before .before .before .stmt-walk2 in (
       rw (c .pair-of .ensures, second .ensures .0) (pair-shape _ _ _ _ _ _ (more t h) _ _ head _ (left-is t l)),
       pair-filled _ _ _ _ _ (more t h) _ _ head (left .tree) _ _ (left .was) _ _ _ _
-          (l .before .before .before .before .before .stmt-walk .ensures .1) (c .before .before .before .before .before .before .before .store3 .ensures)
+          (l .before .before .before .before .before .stmt-walk .ensures .1) (c .before .before .before .before .before .before .before .store-statement3 .ensures)
           (second .ensures .1),
     )
 
@@ -242,7 +242,7 @@ tested-returns t c =
     let body = stmt-shaped _ _ _ _ (body-is t b) in (
       c .tested-of .ensures ∙ test-shape _ _ _ _ _ _ (more t h) _ _ head _ (test-is t r) _ (body-is t b),
       test-filled _ _ _ _ _ (more t h) _ _ head (test .tree) _ _ (test .was) (body .tree) _ _ (body .was) _ _ _
-          (b .before .before .before .before .before .stmt-walk3 .ensures .1) (c .before .before .before .store4 .ensures),
+          (b .before .before .before .before .before .stmt-walk3 .ensures .1) (c .before .before .before .store-statement4 .ensures),
     )
 
 fault-returns : (t : ℕ) → lts.Need-returns-9 (callees t) (stmt-walk-at t) stmt-walk.Post

@@ -1,4 +1,4 @@
--- A row of whole that holds all states takes in every chain; else the ends that lead on lead by b into it.
+-- If whole relates s to every state, every chain ends in its row; else b leads from the ends of a into that row.
 use mathlib.Core.Path.{_∙_, sym, ap, ap₂}
 use mathlib.Core.Bool.{_&&_}
 use borrow.Author.Needs.{needs}
