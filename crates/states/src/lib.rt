@@ -20,7 +20,7 @@ pub const RELATION_WORDS: usize = SET_WORDS * CAPACITY as usize;
 
 // A set of states: state s is at bit s, the lowest bit first.
 pub struct StateSet {
-    pub bits: u64,
+    bits: u64,
 }
 
 impl StateSet {
