@@ -1,4 +1,4 @@
--- Whole bytes: a byte of the file is the 8 bits that it holds, the 8 bits from any cursor on lie within two bytes, and 64 bits within nine.
+-- Laws of whole bytes: a byte is the value of its 8 bits; the 8 bits from any cursor on lie within two bytes, and 64 bits within nine.
 use Prim.Native.Nat.{ℕ, zero, suc, _+_, _-_, _*_, _/_, _%_, _^_, _≤_, _<_}
 use mathlib.Core.List.{List}
 use mathlib.Core.Path.{_≡_, sym, ap, subst, _∙_}
@@ -10,7 +10,7 @@ use Rattle.bits.specs.Fields.{bitAt, bitsAt}
 use Rattle.bits.proofs.Laws.{bits-join, bits-below}
 
 module _ (s : List ℕ) where
-  -- The first k bits of a byte are what a shift leaves of it.
+  -- Shifting a byte right by 8 - k leaves its first k bits.
   byte-first : (i k : ℕ) → getD s i 0 < 256 → k ≤ 8 → bitsAt s (8 * i) k ≡ getD s i 0 / 2 ^ (8 - k)
   unfolding bitsAt bitAt
   byte-first i zero small within = omega arith
@@ -21,18 +21,18 @@ module _ (s : List ℕ) where
       let longer : 8 - k ≡ 7 - k + 1 = omega arith in
       rw (byte, place, shorter, byte-first i k small (omega arith), longer, ← shr-shr) (omega arith)
 
-  -- A byte holds its 8 bits.
+  -- A byte is the value of its 8 bits.
   pub byte-bits : (i : ℕ) → getD s i 0 < 256 → bitsAt s (8 * i) 8 ≡ getD s i 0
   byte-bits i small = byte-first i 8 small (omega arith) ∙ div-one (getD s i 0)
 
-  -- The first w bits of a longer field are what a shift leaves of it.
+  -- Shifting a field of k bits right by k - w leaves its first w bits.
   pub bits-first : (at w k : ℕ) → w ≤ k → bitsAt s at k / 2 ^ (k - w) ≡ bitsAt s at w
   bits-first at w k within =
       let whole : k ≡ w + (k - w) = omega arith in
       let parts : bitsAt s at k ≡ bitsAt s at w * 2 ^ (k - w) + bitsAt s (at + w) (k - w) = ap (bitsAt s at) whole ∙ bits-join s at w (k - w) in
       rw parts (high (bitsAt s at w) (k - w) (bits-below s (at + w) (k - w)))
 
-  -- The last k bits of a longer field are what a mask leaves of it.
+  -- The remainder of a longer field modulo 2 ^ k is its last k bits.
   pub bits-last : (at w k : ℕ) → bitsAt s at (w + k) % 2 ^ k ≡ bitsAt s (at + w) k
   bits-last at w k = rw bits-join (low (bitsAt s at w) k (bits-below s (at + w) k))
 
@@ -44,7 +44,7 @@ module _ (s : List ℕ) where
       let after : 8 - skip ≡ 16 - (skip + 8) = omega arith in
       rw (next, ← bits-join s (8 * i) 8 8, after, bits-first (8 * i) (skip + 8) 16 (omega arith)) (bits-last (8 * i) skip 8)
 
-  -- A field of at most 64 bits, of which at most 8 are left.
+  -- A field of at most 64 bits, from its first `done` bits and the rest, at most 8.
   pub bits-left : (at done width : ℕ) → done ≤ width → width ≤ done + 8 → width ≤ 64
       → bitsAt s at done * 2 ^ (width - done) % 2 ^ 64 + bitsAt s (at + done) 8 / 2 ^ (8 - (width - done)) ≡ bitsAt s at width
   bits-left at done width within near most =
@@ -55,7 +55,7 @@ module _ (s : List ℕ) where
       )
       (sym (bits-join s at done (width - done)) ∙ ap (bitsAt s at) whole)
 
-  -- k bytes and the w bits after them.
+  -- The value of k bytes and the w bits after them.
   pub bytes-join : (i k w : ℕ) → bitsAt s (8 * i) (8 * k + w) ≡ bitsAt s (8 * i) (8 * k) * 2 ^ w + bitsAt s (8 * (i + k)) w
   bytes-join i k w =
       let after : 8 * (i + k) ≡ 8 * i + 8 * k = omega arith in

@@ -15,21 +15,21 @@ pub first-fields : (fieldAt handler 0 3 ≡ Value 1 3) × (fieldAt handler 3 5 �
 unfolding fieldAt isThere bitsAt bitAt
 first-fields = (refl, refl)
 
--- A field may end with the file and not one bit past it.
+-- A field may end at the end of the file, but not one bit past it.
 pub last-fields :
     (fieldAt handler 23 1 ≡ Value 0 24) × (fieldAt handler 8 16 ≡ Value 0x2002 24) × (fieldAt handler 9 16 ≡ Missing)
     × (fieldAt handler 24 1 ≡ Missing) × (fieldAt [] 0 1 ≡ Missing)
 unfolding fieldAt isThere bitsAt bitAt
 last-fields = (refl, refl, refl, refl, refl)
 
--- A field has 1 to 64 bits, and the largest cursor is answered.
+-- A field has 1 to 64 bits, and there is none at the largest cursor.
 pub widths :
     (fieldAt handler 0 0 ≡ Missing) × (fieldAt (1 ∷ 1 ∷ 1 ∷ 1 ∷ 1 ∷ 1 ∷ handler) 0 64 ≡ Value 0x0101010101012220 64)
     × (fieldAt (1 ∷ 1 ∷ 1 ∷ 1 ∷ 1 ∷ 1 ∷ handler) 0 65 ≡ Missing) × (fieldAt handler 0xffffffffffffffff 1 ≡ Missing)
 unfolding fieldAt isThere bitsAt bitAt
 widths = (refl, refl, refl, refl)
 
--- Bits are there up to the last of the file; no bits are there anywhere in it.
+-- The bits must end within the file; zero bits fit anywhere up to its end.
 pub bits-there : (hasBits handler 8 16 ≡ true) × (hasBits handler 9 16 ≡ false) × (hasBits handler 24 0 ≡ true) × (hasBits handler 25 0 ≡ false)
 unfolding hasBits
 bits-there = (refl, refl, refl, refl)

@@ -1,4 +1,4 @@
--- Laws of the packed reader's definitions, for the proofs here and for callers: bits, then fields, then the fill.
+-- Laws of the packed reader's definitions, for the proofs here and for callers: bits, then fields.
 use Prim.Native.Nat.{ℕ, zero, suc, _+_, _*_, _/_, _%_, _^_, _≤_, _<_}
 use mathlib.Core.Bool.{Bool, true, false, cond, and-eq-true-iff, not-eq-not}
 use mathlib.Core.List.{List}
@@ -14,7 +14,7 @@ use Rattle.bits.specs.Fields.{bitAt, bitsAt, isThere, fieldAt, numberAt}
 use Rattle.bits.specs.declared.Field.{Field}
 use Rattle.bits.specs.declared.Field.the-variants.{Value, Missing}
 
--- Two tests are one where the second passes after the first and not without it.
+-- Two tests are equal if the second passes exactly when the first does.
 pub same-test : (a b : Bool) → (a ≡ true → b ≡ true) → (a ≡ false → b ≡ true → ⊥) → a ≡ b
 same-test true b f g = sym (f refl)
 same-test false b f g = sym (not-eq-not {b = false} .0 (g refl))
@@ -41,7 +41,7 @@ bits-below s at (suc w) = omega (arith, pow-suc 2 w, bits-below s at w, bit-belo
 pub bits-fit : (s : List ℕ) (at w : ℕ) → w ≤ 64 → bitsAt s at w < 2 ^ 64
 bits-fit s at w most = omega (arith, bits-below s at w, pow-mono most)
 
--- The bits of two fields that touch.
+-- The value of two adjacent fields.
 pub bits-join : (s : List ℕ) (at w k : ℕ) → bitsAt s at (w + k) ≡ bitsAt s at w * 2 ^ k + bitsAt s (at + w) k
 unfolding bitsAt
 bits-join s at w zero = rw (add-zero w) (omega arith)
@@ -52,7 +52,7 @@ pub number-bits : (s : List ℕ) (at w : ℕ) → w ≤ 64 → numberAt s at w �
 unfolding numberAt
 number-bits s at w most = rw (le-leb w 64 most)
 
--- A number depends only on the bits that write it, wherever they are.
+-- The value of a field depends only on its bits, not on where they are.
 pub bits-agree : (s t : List ℕ) (a b w : ℕ) → ((k : ℕ) → k < w → bitAt s (a + k) ≡ bitAt t (b + k)) → bitsAt s a w ≡ bitsAt t b w
 unfolding bitsAt
 bits-agree s t a b zero same = refl
@@ -69,7 +69,7 @@ pub record There (s : List ℕ) (at w v next : ℕ) : Type 0 where
   pub most : w ≤ 64
   pub fits : next < 2 ^ 64
 
--- What the test shows.
+-- What `isThere` implies.
 pub in-full : (s : List ℕ) (at w : ℕ) → isThere s at w ≡ true → There s at w (bitsAt s at w) (at + w)
 unfolding isThere
 in-full s at w e =
@@ -86,7 +86,7 @@ module _ (s : List ℕ) (at w : ℕ) (least : 1 ≤ w) (most : w ≤ 64) (inside
   unfolding fieldAt
   found = rw is-there
 
--- What each answer of a read shows.
+-- What each answer of a read implies.
 abbrev OfField : List ℕ → ℕ → ℕ → Field → Type 0
 OfField s at w (Value v next) = There s at w v next
 OfField s at w Missing = isThere s at w ≡ false
@@ -102,7 +102,7 @@ of-field s at w = by (isThere s at w) refl
 pub there : (s : List ℕ) (at w v next : ℕ) → fieldAt s at w ≡ Value v next → There s at w v next
 there s at w v next e = rw e at (of-field s at w)
 
--- A field that is there is two that touch.
+-- A field that is there is two adjacent fields.
 pub parted : (s : List ℕ) (at w k v next : ℕ) → 1 ≤ w → 1 ≤ k → fieldAt s at (w + k) ≡ Value v next
     → (fieldAt s at w ≡ Value (v / 2 ^ k) (at + w)) × (fieldAt s (at + w) k ≡ Value (v % 2 ^ k) next)
 parted s at w k v next least more e =

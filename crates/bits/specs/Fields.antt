@@ -11,7 +11,7 @@ use Rattle.bits.specs.declared.Field.the-variants.{Value, Missing}
 use Rattle.bits.specs.declared.Fill.{Fill}
 use Rattle.bits.specs.declared.Fill.the-variants.{Ends, Wrong}
 
--- The length of a file in bits; a length that a usize cannot hold is the last number that it can.
+-- The length of a file in bits, at most the largest usize.
 unfoldable pub bitLength : List ℕ → ℕ
 bitLength bytes = min (8 * length bytes) (2 ^ 64 - 1)
 
@@ -23,20 +23,20 @@ hasBits bytes at count = leb (at + count) (8 * length bytes)
 unfoldable pub bitAt : List ℕ → ℕ → ℕ
 bitAt bytes i = getD bytes (i / 8) 0 / 2 ^ (7 - i % 8) % 2
 
--- The number that the `width` bits from `at` on write, the first of them the most significant.
+-- The value of the `width` bits from `at` on, most significant bit first.
 unfoldable pub bitsAt : List ℕ → ℕ → ℕ → ℕ
 bitsAt bytes at zero = 0
 bitsAt bytes at (suc width) = bitsAt bytes at width * 2 + bitAt bytes (at + width)
 
--- Whether a field is there in full: 1 to 64 bits, all within the file. A cursor that a usize cannot hold is past the end.
+-- Whether a field is there in full: 1 to 64 bits, all within the file. A cursor that a usize cannot hold counts as past the end.
 unfoldable pub isThere : List ℕ → ℕ → ℕ → Bool
 isThere bytes at width = leb 1 width && leb width 64 && leb (at + width) (8 * length bytes) && ltb (at + width) (2 ^ 64)
 
--- The field of `width` bits at a cursor, with the next cursor, or missing.
+-- The field of `width` bits at a cursor and the next cursor; or `Missing`.
 unfoldable pub fieldAt : List ℕ → ℕ → ℕ → Field
 fieldAt bytes at width = cond (isThere bytes at width) (Value (bitsAt bytes at width) (at + width)) Missing
 
--- The number that `width` bits from a cursor on write, where they are at most 64; else 0.
+-- The value of `width` bits from a cursor on; 0 if there are more than 64.
 unfoldable pub numberAt : List ℕ → ℕ → ℕ → ℕ
 numberAt bytes at width = cond (leb width 64) (bitsAt bytes at width) 0
 
@@ -45,11 +45,11 @@ unfoldable pub firstSet : List ℕ → ℕ → ℕ → Option ℕ
 firstSet bytes at zero = none
 firstSet bytes at (suc count) = cond (eqb (bitAt bytes at) 0) (firstSet bytes (suc at) count) (some at)
 
--- How many bits are left in the byte of a cursor; none where the cursor is at a byte's first bit.
+-- How many bits are left in the byte of a cursor; none if the cursor is at a byte's first bit.
 unfoldable pub fillBits : ℕ → ℕ
 fillBits at = (8 - at % 8) % 8
 
--- A byte past the last one that the fields touch is wrong at its first bit, if a usize can hold that bit's number.
+-- A byte after the last one that holds a field is wrong at its first bit, if a usize can hold that bit's number.
 unfoldable pub furtherByte : List ℕ → ℕ → Fill
 furtherByte bytes next = cond (ltb next (8 * length bytes) && ltb next (2 ^ 64)) (Wrong next) Ends
 
@@ -57,7 +57,7 @@ unfoldable pub fillFrom : List ℕ → ℕ → Option ℕ → Fill
 fillFrom bytes next none = furtherByte bytes next
 fillFrom bytes next (some i) = Wrong i
 
--- Whether the file ends as it must after its last field, or the first bit that is wrong: the first fill bit that is not
+-- Whether the file ends as it must after its last field; if not, the first wrong bit: the first fill bit that is not
 -- zero, else the first bit of a further byte.
 unfoldable pub fillAt : List ℕ → ℕ → Fill
 fillAt bytes at = fillFrom bytes (at + fillBits at) (firstSet bytes at (fillBits at))

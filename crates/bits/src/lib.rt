@@ -1,5 +1,5 @@
-// The packed reader: bits, fields of 1 to 64 bits and the fill of a file, most significant bit first. It takes any file,
-// cursor and width, and assumes nothing of its host.
+// The packed reader: bits, fields of 1 to 64 bits and the fill of a file, most significant bit first. It accepts any file, cursor and
+// width, and assumes nothing about its host.
 ghost use mathlib.Core.Path.{_≡_};
 ghost use Prim.Native.Nat.{_+_, _*_, _/_, _^_, _≤_, _<_};
 ghost use lib.ListN.{length};
@@ -8,19 +8,19 @@ ghost use Rattle.bits.specs.Fields.{bitLength, hasBits, bitAt, bitsAt, i
 // The largest cursor.
 const LAST: usize = 18446744073709551615;
 
-// What reading a field finds: its value with the next cursor, or that the file does not hold it.
+// The result of reading a field: its value and the next cursor, or that it is missing.
 pub enum Field {
     Value(u64, usize),
     Missing,
 }
 
-// What follows the last field: the end as it must be, or the first bit that is wrong.
+// What follows the last field: the end of the file as it must be, or the first wrong bit.
 pub enum Fill {
     Ends,
     Wrong(usize),
 }
 
-// The file's length in bits, where a field that runs past the end is placed; at most the last cursor.
+// The file's length in bits, which is the place of a field that runs past the end; at most the largest cursor.
 pub fn bit_length(src: &[u8]) -> usize
     ensures { λ r. ⌜ r ≡ bitLength (now (src .entry)) ⌝ }
 {
@@ -41,7 +41,7 @@ pub fn bit(src: &[u8], i: usize) -> u64
     }
 }
 
-// Whether `count` bits from a cursor on are there. Bytes are counted, because a number of bits may not fit.
+// Whether `count` bits from a cursor on are there. Bytes are counted, because a number of bits may not fit in a usize.
 pub fn has_bits(src: &[u8], at: usize, count: usize) -> bool
     ensures { λ r. ⌜ r ≡ hasBits (now (src .entry)) at count ⌝ }
 {
@@ -55,8 +55,7 @@ fn byte(src: &[u8], i: usize) -> u64
     if i < src.len() { src[i] as u64 } else { 0 }
 }
 
-// Whether a field of `width` bits at a cursor is there in full. The byte of its last bit is tested, because 8 * len may not
-// fit.
+// Whether a field of `width` bits at a cursor is there in full. The byte of its last bit is tested, because 8 * len may not fit.
 fn is_there(src: &[u8], at: usize, width: usize) -> bool
     ensures { λ r. ⌜ r ≡ isThere (now (src .entry)) at width ⌝ }
 {
@@ -66,7 +65,7 @@ fn is_there(src: &[u8], at: usize, width: usize) -> bool
     (at + width - 1) / 8 < src.len()
 }
 
-// The 8 bits from bit `skip` of byte i on, the first of them the most significant; those past the end are 0.
+// The 8 bits from bit `skip` of byte i on, most significant first; bits past the end are 0.
 fn byte_from(src: &[u8], i: usize, skip: usize) -> u64
     requires { ⌜ (i < 2 ^ 62) × (skip < 8) ⌝ }
     ensures { λ r. ⌜ r ≡ bitsAt (now (src .entry)) (8 * i + skip) 8 ⌝ }
@@ -76,7 +75,7 @@ fn byte_from(src: &[u8], i: usize, skip: usize) -> u64
     ((first * 256 + second) >> (8 - skip)) % 256
 }
 
-// The number that a field of `width` bits writes: whole bytes of it, then the bits that are left, at most 8.
+// The value of a field of `width` bits: whole bytes first, then the bits that are left, at most 8.
 fn gather(src: &[u8], at: usize, width: usize) -> u64
     requires { ⌜ width ≤ 64 ⌝ }
     ensures { λ r. ⌜ r ≡ bitsAt (now (src .entry)) at width ⌝ }
@@ -113,7 +112,7 @@ fn eight_bytes(src: &[u8], i: usize) -> u64
     ((first * 65536 + second) * 65536 + third) * 65536 + fourth
 }
 
-// The 64 bits from a cursor on, out of the nine bytes that hold them.
+// The 64 bits from a cursor on, read from the nine bytes that hold them.
 fn nine_bytes(src: &[u8], at: usize) -> u64
     requires { ⌜ at / 8 + 8 < length (now src) ⌝ }
     ensures { λ r. ⌜ r ≡ bitsAt (now (src .entry)) at 64 ⌝ }
@@ -123,8 +122,8 @@ fn nine_bytes(src: &[u8], at: usize) -> u64
     high + (src[i + 8] as u64 >> (8 - at % 8))
 }
 
-// The number that `width` bits from a cursor on write, those past the end 0; 0 where they are more than 64. 64 bits are taken from
-// whole bytes at once where the file has these.
+// The value of `width` bits from a cursor on, with bits past the end read as 0; 0 if there are more than 64. 64 bits are read from
+// nine bytes at once if the file has them.
 pub fn number_at(src: &[u8], at: usize, width: usize) -> u64
     ensures { λ r. ⌜ r ≡ numberAt (now (src .entry)) at width ⌝ }
 {
@@ -137,7 +136,7 @@ pub fn number_at(src: &[u8], at: usize, width: usize) -> u64
     gather(src, at, width)
 }
 
-// The field of `width` bits at a cursor, with the next cursor, or that it is missing.
+// The field of `width` bits at a cursor and the next cursor; or `Missing`.
 pub fn read(src: &[u8], at: usize, width: usize) -> Field
     ensures { λ r. ⌜ r ≡ fieldAt (now (src .entry)) at width ⌝ }
 {
@@ -148,7 +147,7 @@ pub fn read(src: &[u8], at: usize, width: usize) -> Field
     Field::Missing
 }
 
-// How the file ends where a byte from bit `at + skip` on is one too many. That bit may be past the largest cursor.
+// `Wrong` if the file has a further byte at bit `at + skip`, else `Ends`. That bit may be past the largest cursor.
 fn further_byte(src: &[u8], at: usize, skip: usize) -> Fill
     ensures { λ r. ⌜ r ≡ furtherByte (now (src .entry)) (at + skip) ⌝ }
 {
@@ -163,7 +162,7 @@ fn further_byte(src: &[u8], at: usize, skip: usize) -> Fill
     }
 }
 
-// Whether the file ends as it must after its last field, or the first bit that is wrong.
+// Whether the file ends as it must after its last field; if not, the first wrong bit.
 pub fn read_fill(src: &[u8], at: usize) -> Fill
     ensures { λ r. ⌜ r ≡ fillAt (now (src .entry)) at ⌝ }
 {

@@ -1,5 +1,5 @@
--- A node and a statement of the tables: their records, their children and parts, and what the node's own conditions say. What they
--- say of the words is what they say of the files; where 30 fails, nothing else matters.
+-- A node and a statement of the tables: their records, their children and parts, and the node's own conditions. The first condition that
+-- is broken over the words is the first over the files; if 30 fails, the others do not matter.
 use Prim.Native.Nat.{ℕ, suc, _+_, _≤_, _<_}
 use mathlib.Core.Path.{_≡_, refl, sym, _∙_, ap}
 use mathlib.Core.Bool.{true}
@@ -41,8 +41,8 @@ later table rest word i e =
 second : (table front back : List ℕ) (i k : ℕ) → length front ≡ k → drop i table ≡ front ++ back → drop (i + k) table ≡ back
 second table front back i k long e = sym (drop-drop k i table) ∙ ap (drop k) e ∙ drop-at front back k long
 
--- The tables of a derivation and of a statement as the code has them: the handler file's bytes and sizes, the work words, and the
--- two tables of words. The work words hold the sets and relations, and the head is the machine's.
+-- The tables of a derivation and of a statement as the code has them: the handler file's bytes and sizes, the work words, and the two
+-- tables of words. The work words hold the sets and relations, and the head gives the machine.
 pub record Decoded : Type 0 where
   pub bytes : List ℕ
   pub sizes : List ℕ
@@ -60,7 +60,7 @@ pub record Decoded : Type 0 where
   pub relation-is : (r : ℕ) → r < relations → wordRelation (tables .machine .states) work r ≡ relationOf tables r
 
 module _ (env : Decoded) where
-  -- A derivation whose words are in the table from node i on, and a statement from statement s on.
+  -- A derivation whose words are in the table from node i on, and a statement whose words are in the table from statement s on.
   pub record NodeAt (i bit : ℕ) (d : Derivation) : Type 0 where
     pub known : Known (env .sets) (env .relations) d
     pub room : i + nodes d ≤ 127
@@ -76,7 +76,7 @@ module _ (env : Decoded) where
   abbrev m : Machine
   m = machineIn (headOf (env .sizes))
 
-  -- What the words hold of a node's tables, and of K and W.
+  -- The words hold a node's tables, and K and W.
   set-is : (i : ℕ) → i < (env .sets) → wordSet (m .states) (env .work) i ≡ setOf (env .tables) i
   set-is i below = ap (λ x. wordSet (x .states) (env .work) i) (env .machine-is) ∙ env .set-is i below
 
@@ -157,12 +157,12 @@ module _ (env : Decoded) where
     pub of-while : (e : Expr) (b : Stmt) → StatementAt s place (while e b) → StatementAt (suc s) (place + 3 + width e) b
     of-while e b c = body e b (parts (env .bytes) (length (env .sizes)) place (while e b) (c .stands) .1) (c .targets) (c .room) (parts-held (env .statementTable) s place (while e b) (c .held))
 
-  -- What a node's own conditions say of the words is what they say of the files. Where 30 fails, nothing else matters.
+  -- The first condition of a node that is broken over the words is the first over the files. If 30 fails, the others do not matter.
   module _ (i s bit place : ℕ) where
     abbrev Means : Derivation → Stmt → Type 0
     Means d S = NodeAt i bit d → StatementAt s place S → own i s ≡ firstBroken (obligations (env .tables) d S)
 
-    -- The conditions of a node by its record, its statement's and its children's.
+    -- The conditions of a node, from the records of the node, its statement and its children.
     by-records : (d : Derivation) (S : Stmt) (x y : Node) → nodeIn (env .nodeTable) (suc i) ≡ x → nodeIn (env .nodeTable) (suc i + firstNodes d) ≡ y
         → NodeAt i bit d → StatementAt s place S
         → own i s ≡ firstBroken (obligationsIn (env .bytes) (headOf (env .sizes)) (env .work) (nodeRecord i bit d) (statementRecord s place S) x y)
@@ -190,7 +190,7 @@ module _ (env : Decoded) where
     own-assignment h (if e c) a b = by-records _ _ _ _ refl refl a b
     own-assignment h (while e c) a b = by-records _ _ _ _ refl refl a b
 
-    -- Of a node with two children, whose records are known.
+    -- For a node with two children, whose records are known.
     module _ (h : Names) (l r : Derivation) (S : Stmt) (bit₁ bit₂ : ℕ)
         (left : nodeIn (env .nodeTable) (suc i) ≡ nodeRecord (suc i) bit₁ l)
         (right : nodeIn (env .nodeTable) (suc i + nodes l) ≡ nodeRecord (suc i + nodes l) bit₂ r) where
@@ -208,7 +208,7 @@ module _ (env : Decoded) where
           ∙ (λ j. firstBroken (parallelObligations (env .machine-is j .states) (eqb (statementCode S) 3) (spec-is (parallel h l r) (a .known) j)
           (spec-is l (a .known .1) j) (spec-is r (a .known .2) j)))
 
-    -- Of a node with one child, whose record is known.
+    -- For a node with one child, whose record is known.
     module _ (h : Names) (d : Derivation) (bit₁ : ℕ) (child : nodeIn (env .nodeTable) (suc i) ≡ nodeRecord (suc i) bit₁ d) where
       pub own-if : (S : Stmt) → Means (conditional h d) S
       unfolding obligationsIn must

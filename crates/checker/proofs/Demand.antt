@@ -1,5 +1,5 @@
--- Demand 3 of the bytes: an accepted pair is acceptable, so that its derivation breaks no condition, and the theorem of semantics
--- applies to what the two files hold.
+-- Demand 3 for the bytes: an accepted pair is acceptable, so its derivation breaks no condition, and the theorem of
+-- semantics applies to what the two files hold.
 use Prim.Native.Nat.{ℕ}
 use mathlib.Core.Path.{_≡_, sym, _∙_, ap, subst}
 use mathlib.Core.Bool.{cond}
@@ -27,7 +27,7 @@ accepted-is-sound hb pb words = record {
       );
 }
 
--- A verdict and work words that are those of the answer meet the whole promise.
+-- If the verdict and the work words are those of the answer, the whole contract holds.
 pub promised : (hb pb work after : List ℕ) (v : Verdict) (a : CheckResult) → answer hb pb (length work) ≡ a → v ≡ a .verdict
     → after ≡ cond (a .writes) (written (a .words) work) work
     → (v ≡ answer hb pb (length work) .verdict) × ((after ≡ workAfter hb pb work) × AcceptedIsSound hb pb v)

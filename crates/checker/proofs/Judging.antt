@@ -1,4 +1,4 @@
--- The proof file over a handler file that was read, stage by stage, and the four ways out of the check.
+-- The check of the proof file over a handler file that was read, stage by stage, and the four cases of the whole check.
 use Prim.Native.Nat.{ℕ, _-_, _^_, _≤_, _<_}
 use mathlib.Core.Path.{_≡_, refl, sym, _∙_, ap}
 use mathlib.Core.Bool.{Bool, true, false}
@@ -41,7 +41,7 @@ use Rattle.checker.proofs.AtHand.{Decoded, NodeAt, StatementAt}
 use Rattle.checker.proofs.Stages.{decided-answer, words-kept, words-cleared}
 use Rattle.checker.proofs.Meaning.{found-in-tables}
 
--- A handler file that was read, by what the code found of it.
+-- What is known of a handler file, once the code has found a handler in it.
 pub handled : (hb : List ℕ) (file : HandlerFile) (w : HandlerSummary) → file ≡ handlerFile (readHandler hb) → file .found ≡ HandlerFound.Handler w
     → Handled hb (file .head) (file .statements) (w .steps)
 unfolding handlerFile
@@ -67,7 +67,7 @@ refused-proof (Proofs.refused j p) k place f =
     let p-is : p ≡ place = cc in
     rw (j-is, p-is)
 
--- A proof file that was read, by what the code found of it.
+-- What is known of a proof file, once the code has found a proof in it.
 pub record ProofIs (r : Proofs.ProofRead) (file : ProofFile) (x : ProofHead) : Type 0 where
   pub d : Derivation
   pub read : r ≡ Proofs.proof (x .sets) (x .relations) (x .root) d
@@ -90,7 +90,7 @@ module _ (hb pb : List ℕ) (head : Head) (statements : List ℕ) (k : ℕ) (h :
   unfolding headOf
   states-are = ap (λ x. x .states) (h .head-is)
 
-  -- A proof file at fault.
+  -- A proof file with a fault.
   pub on-refused : (j place : ℕ) → Proofs.readProof pb n ≡ Proofs.refused j place → onHandler pb (readHandler hb) ≡ cleared (refusedAt j (Bit place))
   on-refused j place e = rw (h .reads, e)
 
@@ -101,7 +101,7 @@ module _ (hb pb : List ℕ) (head : Head) (statements : List ℕ) (k : ℕ) (h :
     on-read : onHandler pb (readHandler hb) ≡ onFault fault (steps n (h .S)) (tableWord pb n sets relations)
     on-read = rw (h .reads, e)
 
-    -- What the loop finds decides.
+    -- What the loop finds decides the verdict.
     module _ (before work table : List ℕ) (count : ℕ) (enough : workWords ≤ length before)
         (words : work ≡ written (Proofs.loadedWord pb n (Proofs.readProof pb n)) before) (is : table ≡ nodeTable root d) (counts : count ≡ nodes d) where
       known : KnownHandler hb (h .sizes) (h .place) (h .S)
@@ -156,7 +156,7 @@ module _ (hb pb : List ℕ) (head : Head) (statements : List ℕ) (k : ℕ) (h :
         ap (λ a. a .words) on-read
         ∙ words-cleared fault (steps n (h .S)) f (tableWord pb n sets relations) (sym (ap (λ a. a .verdict) on-read) ∙ v)
 
--- The four ways out of the check.
+-- The four cases of the whole check.
 module _ (hb pb : List ℕ) (words : ℕ) where
   pub few-words : words < workWords → answer hb pb words ≡ untouched (refusedAt 1 (Bit 0))
   unfolding answer

@@ -1,4 +1,4 @@
--- What the loop finds, demand 2 and demand 3 of the bytes.
+-- What the loop finds, demand 2, and demand 3 for the bytes.
 pub mod Stages
 pub mod Turns
 pub mod Loaded

@@ -1,4 +1,4 @@
--- The words hold what the proof file holds, so that tables have the same members in both.
+-- The words hold what the proof file holds, so the tables have the same members in both.
 use Prim.Native.Nat.{ℕ, _+_, _*_, _≤_, _<_}
 use mathlib.Core.Path.{_≡_, refl, fun-ext}
 use mathlib.Core.Bool.{Bool, true, false, _&&_}
@@ -18,7 +18,7 @@ use Rattle.derivation.proofs.Membership.{set-member, pair-member}
 use Rattle.rules.specs.Words.{wordSet, wordRelation}
 use Rattle.checker.specs.Verdicts.{tablesOf}
 
--- A test that is asked twice.
+-- Repeating a test changes nothing.
 twice : (a b : Bool) → (a && (a && b)) ≡ (a && b)
 twice true b = refl
 twice false b = refl

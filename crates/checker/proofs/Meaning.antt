@@ -1,5 +1,5 @@
--- What the loop finds in the tables of a derivation and a statement is the derivation's first fault: by induction on the derivation.
--- A node whose conditions hold is of its statement (30), so that its children's statements come next in the table.
+-- The loop over the tables of a derivation and a statement finds the derivation's first fault: by induction on the derivation. A node
+-- whose conditions hold has the rule of its statement (30), so its children's statements come next in the table.
 use Prim.Native.Nat.{ℕ, suc, _+_}
 use mathlib.Core.Path.{_≡_, refl, sym, _∙_, ap, subst}
 use mathlib.Core.Option.{Option, none, some}
@@ -18,7 +18,7 @@ or-assoc : (a b c : Option Broken) → orBroken (orBroken a b) c ≡ orBroken a 
 or-assoc none b c = refl
 or-assoc (some x) b c = refl
 
--- A condition of a node that is broken ends the search; else it goes on with the nodes after it.
+-- A broken condition of a node ends the search; otherwise the search goes on with the nodes after it.
 pass : (i : ℕ) (o : Option ℕ) (below next rest : Option Broken) → (o ≡ none → next ≡ orBroken below rest)
     → orBroken (atNode i o) next ≡ orBroken (orBroken (atNode i o) below) rest
 pass i none below next rest on = on refl
@@ -29,7 +29,7 @@ or-none none = refl
 or-none (some x) = refl
 
 module _ (env : Decoded) where
-  -- The search from a node on: its own conditions, and where they hold, what is below it and after it.
+  -- The search from a node on: its own conditions and, if they hold, what is below it and after it.
   on-from : (i s bit place : ℕ) (d : Derivation) (S : Stmt) (a : NodeAt env i bit d) (k : ℕ) (below rest : Option Broken)
       → own env i s ≡ firstBroken (obligations (env .tables) d S) → firstFault (env .tables) d S i ≡ orBroken (atNode i (firstBroken (obligations (env .tables) d S))) below
       → (firstBroken (obligations (env .tables) d S) ≡ none → faults env k (suc i) (statementAfter (ruleOf d) s) ≡ orBroken below rest)
@@ -56,7 +56,7 @@ module _ (env : Decoded) where
       ∙ on-from i s bit place d S a count none (faults env count (i + nodes d) (s + statements S)) means (is ∙ sym (or-none (atNode i (firstBroken (obligations (env .tables) d S)))))
       (λ holds. let last : s + statements S ≡ suc s = omega (arith, alone holds) in rw (after, next, last))
 
-  -- What is found below a node with two children, and below one with one, where the node's own conditions hold.
+  -- What is found below a node with two children, and below one with one, if the node's own conditions hold.
   module _ (i s : ℕ) where
     Two : (l r : Derivation) (count : ℕ) → Stmt → Type 0
     Two l r count X =

@@ -1,4 +1,4 @@
--- The last stages of the check: what the verdict is after the loop, and what the work words are after two writes.
+-- The last stages of the check: the verdict after the loop, and the work words after two writes.
 use Prim.Native.Nat.{ℕ, _-_, _^_, min}
 use mathlib.Core.Path.{_≡_, refl, sym, _∙_, ap}
 use mathlib.Core.Bool.{Bool, true, false}
@@ -29,7 +29,7 @@ written-twice f g work =
     let behind : drop n (written g work) ≡ drop n work = rw (written-of g work (length work) refl) (drop-at (tabulate n g) (drop n work) n (length-tabulate g n)) in
     written-of f (written g work) (length work) (length-written g work) ∙ ap (λ l. tabulate n f ++ l) behind ∙ sym (written-of f work (length work) refl)
 
--- The verdict after the loop, with the step number as far as 2 ^ 32.
+-- The verdict after the loop, with the step number capped at 2 ^ 32.
 pub decided-answer : (o : Option Broken) (k : ℕ) (words : ℕ → ℕ) → decided (faultFound o) (min k (2 ^ 32)) ≡ onFault o k words .verdict
 decided-answer (some b) k words = refl
 decided-answer none k words = by (ltb (2 ^ 32 - 1) k) refl

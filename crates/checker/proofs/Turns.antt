@@ -1,4 +1,4 @@
--- One turn of the loop over the nodes, and its end.
+-- One round of the loop over the nodes, and its end.
 use Prim.Native.Nat.{ℕ, suc, _+_, _-_, _≤_, _<_}
 use native.Mathlib.Numerals.{add-one}
 use native.Mathlib.Omega.{arith}
@@ -37,7 +37,7 @@ module _ (bytes : List ℕ) (head : Head) (work nodes statements : List ℕ) (co
   unfolding faultsFrom
   no-more done = let left : count - i ≡ 0 = omega arith in rw left
 
--- The statement at hand is never ahead of the node.
+-- The number of the statement at hand grows by at most 1 at each node.
 pub after-least : (rule s : ℕ) → statementAfter rule s ≤ s + 1
 unfolding statementAfter
 after-least rule s = by (eqb rule 6)

@@ -12,7 +12,7 @@ use Rattle.rules.specs.Obligations.{obligationsIn}
 use Rattle.checker.specs.declared.nodes.FirstFault.{FirstFault}
 use Rattle.checker.specs.declared.nodes.FirstFault.the-variants as first
 
--- The statement at hand after a node: a weaken has the same as its child, every other node takes the next.
+-- The statement at hand after a node: the same after a weaken, whose child has the same statement; the next after any other node.
 unfoldable pub statementAfter : ℕ → ℕ → ℕ
 statementAfter rule s = cond (eqb rule 6) s (suc s)
 
@@ -22,13 +22,13 @@ module _ (bytes : List ℕ) (head : Head) (work nodes statements : List ℕ) whe
   obligationsAt i s =
       obligationsIn bytes head work (nodeIn nodes i) (statementIn statements s) (nodeIn nodes (suc i)) (nodeIn nodes (nodeIn nodes i .after))
 
-  -- The first fault of so many nodes from node i on, statement s being at hand.
+  -- The first fault of `count` nodes from node i on, with statement s at hand.
   unfoldable pub faultsFrom : ℕ → ℕ → ℕ → Option Broken
   faultsFrom zero i s = none
   faultsFrom (suc count) i s =
       orBroken (atNode i (firstBroken (obligationsAt i s))) (faultsFrom count (suc i) (statementAfter (nodeIn nodes i .rule) s))
 
--- What the code answers.
+-- The code's answer.
 abbrev pub faultFound : Option Broken → FirstFault
 faultFound none = first.Nothing
 faultFound (some b) = first.Broken (b .number) (b .node)

@@ -1,4 +1,4 @@
--- What the private functions of the check ask and promise. No public promise cites this.
+-- What the private functions of the check require and ensure. No public contract uses this.
 use Prim.Native.Nat.{ℕ, _-_, _^_, min}
 use mathlib.Core.Path.{_≡_}
 use mathlib.Core.Bool.{cond}
@@ -18,7 +18,7 @@ use Rattle.checker.specs.declared.nodes.FirstFault.{FirstFault}
 use Rattle.checker.specs.declared.nodes.FirstFault.the-variants as first
 use Rattle.checker.specs.Verdicts.{refusedAt}
 
--- A handler file that was read: its head, its table of statements, and its step number as far as 2 ^ 32.
+-- A handler file that was read: its head, its table of statements, and its step number, capped at 2 ^ 32.
 pub record Handled (hb : List ℕ) (head : Head) (statements : List ℕ) (steps : ℕ) : Type 0 where
   pub sizes : List ℕ
   pub place : ℕ
@@ -28,7 +28,7 @@ pub record Handled (hb : List ℕ) (head : Head) (statements : List ℕ) (steps 
   pub table-is : statements ≡ statementTable place S
   pub counted : steps ≡ min (StepNumber.steps (product sizes) S) (2 ^ 32)
 
--- The verdict by what the loop found and a step number; 80 last, at node 0.
+-- The verdict from what the loop found and the step number; 80 last, at node 0.
 abbrev pub decided : FirstFault → ℕ → Verdict
 decided (first.Broken k node) steps = refusedAt k (Node node)
 decided first.Nothing steps = cond (ltb (2 ^ 32 - 1) steps) (refusedAt 80 (Node 0)) (Accepted steps)

@@ -25,12 +25,12 @@ use Rattle.checker.specs.declared.Verdict.the-variants.{Accepted, Refuse
 abbrev pub refusedAt : ℕ → Place → Verdict
 refusedAt k place = Refused (record { number = k; place = place })
 
--- The tables as the proof file holds them where it has so many sets, over variables of these sizes.
+-- The tables of a proof file with `sets` sets, over variables of these sizes.
 abbrev pub tablesOf : List ℕ → List ℕ → ℕ → Tables
 tablesOf pb sizes sets =
     record { machine = machineOf sizes; sets = inSetOf pb (product sizes); relations = inRelationOf pb (product sizes) sets }
 
--- What the check answers and leaves in the work words: whether it writes to them, and what the first 1,040 then hold.
+-- The result of the check: the verdict, whether it writes to the work words, and what the first 1,040 then hold.
 pub record CheckResult : Type 0 where
   pub verdict : Verdict
   pub writes : Bool
@@ -65,7 +65,7 @@ module _ (pb : List ℕ) where
   onHandler (handler sizes at S) = onProof sizes S (Proofs.readProof pb (product sizes))
 
 module _ (hb pb : List ℕ) where
-  -- The answer to two files with so many work words.
+  -- The answer for two files and this number of work words.
   unfoldable pub answer : ℕ → CheckResult
   answer words =
       cond (ltb words workWords) (untouched (refusedAt 1 (Bit 0)))
@@ -75,8 +75,8 @@ module _ (hb pb : List ℕ) where
   unfoldable pub workAfter : List ℕ → List ℕ
   workAfter work = cond (answer (length work) .writes) (written (answer (length work) .words) work) work
 
--- What two files hold where both are read: the sizes of the variables, the statement's first bit and the statement; over that N,
--- the numbers of sets and relations, the root's first bit and the derivation.
+-- What two files hold if both are read: the sizes of the variables, the statement's first bit and the statement; over that N, the numbers
+-- of sets and relations, the root's first bit and the derivation.
 pub record PairRead (hb pb : List ℕ) : Type 0 where
   pub sizes : List ℕ
   pub statement-bit : ℕ
@@ -96,8 +96,8 @@ module _ {hb pb : List ℕ} where
   abbrev pub rootSpec : PairRead hb pb → Spec
   rootSpec pair = specOf (tablesIn pair) (namesOf (pair .derivation))
 
--- Demand 3 of the bytes themselves: where a pair of files is accepted, both are read, and the handler file's whole statement
--- keeps its promise with the root's tables and the stated number.
+-- Demand 3 for the bytes themselves: if a pair of files is accepted, both are read, and the handler file's whole statement keeps its
+-- promise with the root's tables and the stated number.
 pub record AcceptedIsSound (hb pb : List ℕ) (v : Verdict) : Type 0 where
   pub sound : (k : ℕ) → v ≡ Accepted k
       → (pair : PairRead hb pb) × Promise (machineOf (pair .sizes)) (pair .statement) (rootSpec pair) k

@@ -1,4 +1,4 @@
-// The check of two files: both are read once, and then the loop over the nodes asks the conditions of each.
+// The check of two files: both are read once, and then the loop over the nodes checks the conditions of each.
 use derivation::ProofFound;
 use derivation::reading::load;
 use derivation::words::clear;
@@ -18,7 +18,7 @@ ghost use Rattle.checker.specs.Refinement.{Handled, decided};
 
 pub mod nodes;
 
-// The host lends at least so many work words, and a file has at most so many bytes.
+// The least number of work words that the host lends, and the largest number of bytes of a file.
 pub const WORK_WORDS: usize = derivation::WORK_WORDS;
 
 pub const MOST_BYTES: usize = 16384;
@@ -45,7 +45,7 @@ pub struct Fault {
     pub place: Place,
 }
 
-// What the check of two files says: the step number, or the first fault.
+// The result of the check of two files: the step number, or the first fault.
 pub enum Verdict {
     Accepted(u32),
     Refused(Fault),
@@ -71,7 +71,7 @@ fn at_node(number: u32, node: u32) -> Verdict
     })
 }
 
-// The verdict by what the loop found and the step number.
+// The verdict from what the loop found and the step number.
 fn decide(found: FirstFault, steps: u64) -> Verdict
     ensures { λ r. ⌜ r ≡ decided found steps ⌝ }
 {
@@ -86,7 +86,7 @@ fn decide(found: FirstFault, steps: u64) -> Verdict
     }
 }
 
-// The proof file over a handler file that was read: its tables stay in the work words only if the pair is accepted.
+// Checks the proof file over a handler file that was read. Its tables stay in the work words only if the pair is accepted.
 fn check_proof(
     handler: &[u8],
     proof: &[u8],
@@ -119,8 +119,8 @@ fn check_proof(
     }
 }
 
-// The check of two files. It takes every pair of files and every work buffer; on acceptance the tables are in the first 1,040
-// work words, and what the pair promises of every list of events is `AcceptedIsSound`.
+// The check of two files, for every pair of files and every work buffer. On acceptance the tables are in the first 1,040 work words, and
+// `AcceptedIsSound` is what the pair promises for every list of events.
 pub fn check(handler: &[u8], proof: &[u8], work: &mut [u64]) -> Verdict
     ensures verdict { λ r. ⌜ r ≡ answer (now (handler .entry)) (now (proof .entry)) (length (now (work .entry))) .verdict ⌝ }
     ensures words { λ _. ⌜ now (work .exit) ≡ workAfter (now (handler .entry)) (now (proof .entry)) (now (work .entry)) ⌝ }

@@ -1,5 +1,5 @@
-// The loop over the nodes of the proof file, by number. Nodes and statements are both in file order, and every node but a weaken
-// is of the next statement, so that one counter says which statement is at hand.
+// The loop over the nodes of the proof file, by number. Nodes and statements are both in file order, and every node but a weaken has the
+// next statement, so one counter says which statement is at hand.
 use derivation::WEAKEN;
 use derivation::table::node_at;
 use handler::head::Head;
@@ -19,7 +19,7 @@ pub enum FirstFault {
     Broken(u32, u32),
 }
 
-// What the conditions of node i say over statement s.
+// The verdict of the conditions of node i over statement s.
 fn fault_at(
     handler: &[u8],
     head: Head,

@@ -1,4 +1,4 @@
--- What was read of a file.
+-- The result of reading a file.
 use Prim.Native.Nat.{ℕ}
 use Rattle.handover.specs.declared.Reading.{Reading}
 use Rattle.handover.specs.declared.Reading.the-variants.{Bytes, Failed}

@@ -10,13 +10,13 @@ use checker::Verdict;
 use checker::WORK_WORDS;
 use libc::STDOUT_FILENO;
 
-// What reading a file gives: how many bytes, or that it failed and was named on standard error.
+// The result of reading a file: the number of bytes, or that reading failed and the file was named on standard error.
 enum Reading {
     Bytes(usize),
     Failed,
 }
 
-// Reads on until the file ends or `buf` is full.
+// Reads until the file ends or `buf` is full.
 fn read_to_end(fd: i32, path: &[u8], buf: &mut [u8]) -> Reading
     ensures { λ r. ⌜ amount r ≤ length (now (buf .entry)) ⌝ }
 {
@@ -36,7 +36,7 @@ fn read_to_end(fd: i32, path: &[u8], buf: &mut [u8]) -> Reading
     Reading::Bytes(done)
 }
 
-// Reads the front of the file of that name, as much as `buf` holds.
+// Reads the front of the file at `path`, as much as `buf` holds.
 fn read_file(path: &[u8], buf: &mut [u8]) -> Reading
     ensures { λ r. ⌜ amount r ≤ length (now (buf .entry)) ⌝ }
 {
@@ -50,7 +50,7 @@ fn read_file(path: &[u8], buf: &mut [u8]) -> Reading
     read
 }
 
-// Reads the file that argument i names, if there are two arguments, and else the one of that name.
+// Reads the file that argument i names if there are two arguments, else the file `name`.
 fn read_argument(i: usize, name: &[u8], buf: &mut [u8]) -> Reading
     ensures { λ r. ⌜ amount r ≤ length (now (buf .entry)) ⌝ }
 {
@@ -75,7 +75,7 @@ fn print(v: Verdict) {
     }
 }
 
-// One byte more than a file may have. So many are enough to refuse it as too long, so none is read further.
+// One byte more than a file may have: enough to refuse it as too long, so no more is read.
 const BUFFER_BYTES: usize = MOST_BYTES + 1;
 
 fn main() {

@@ -17,7 +17,7 @@ unfoldable pub fieldOf : Field → Answer
 fieldOf (Value value next) = Found value
 fieldOf Missing = None
 
--- Where a read that began at `at` leaves the reader.
+-- The reader's position after a read that began at `at`.
 unfoldable pub movedTo : ℕ → Field → ℕ
 movedTo at (Value value next) = next
 movedTo at Missing = at
@@ -33,11 +33,11 @@ readerOf file = record { file = file; at = 0 }
 abbrev pub answerOf : Reader → ℕ → Answer
 answerOf r width = fieldOf (fieldAt (now (r .file)) (r .at) width)
 
--- The reader after it: the same file, at the bit where the read leaves it.
+-- The reader after that read: the same file, at the new position.
 abbrev pub movedOn : Reader → ℕ → Reader
 movedOn r width = record { file = r .file; at = movedTo (r .at) (fieldAt (now (r .file)) (r .at) width) }
 
--- The answers of two reads in a row, the second where the first leaves the reader.
+-- The answers of two reads in a row, the second from the position after the first.
 abbrev pub twoAnswers : List ℕ → ℕ → ℕ → ℕ → Pair
 twoAnswers bytes at first second = record {
   first = fieldOf (fieldAt bytes at first);

@@ -1,10 +1,10 @@
-// The hosts' reader: a struct that holds the file and its own bit position. The work is `read_on`'s, which takes a plain slice
-// and cursor and is covered; each function over the struct is thin, and proved by a walk of its MIR, by hand.
+// The reader for hosts: a struct that holds the file and its own bit position. `read_on` does the work, on a plain slice and cursor, and
+// is covered. Each function over the struct is thin, and proved by hand, by a walk of its MIR.
 ghost use mathlib.Core.Path.{_≡_};
 ghost use Rattle.bits.specs.Fields.{fieldAt};
 ghost use Rattle.reader.specs.Reading.{readerOf, outcomeOf, answerOf, movedOn, twoAnswers};
 
-// A file, and the number of the bit that is read next. It may be past the end, where every read is refused.
+// A file, and the number of the bit that is read next. That bit may be past the end, where every read is refused.
 pub struct Reader<'a> {
     pub file: &'a [u8],
     pub at: usize,
@@ -16,13 +16,13 @@ pub enum Answer {
     None,
 }
 
-// An answer, and the reader's position after it.
+// An answer, and the reader's position after the read.
 pub struct Outcome {
     pub answer: Answer,
     pub at: usize,
 }
 
-// The work: a read of `width` bits at a cursor. A walk by hand cannot branch, so the branch is here.
+// A read of `width` bits at a cursor. A walk by hand cannot branch, so the branch is here.
 pub fn read_on(file: &[u8], at: usize, width: usize) -> Outcome
     ensures { λ r. ⌜ r ≡ outcomeOf at (fieldAt (now (file .entry)) at width) ⌝ }
 {
@@ -45,14 +45,14 @@ pub fn new<'a>(file: &'a [u8]) -> Reader<'a>
     Reader { file, at: 0 }
 }
 
-// The bit that it reads next.
+// The bit that is read next.
 pub fn position<'a>(r: Reader<'a>) -> usize
     ensures { λ n. ⌜ n ≡ r .entry .at ⌝ }
 {
     r.at
 }
 
-// The file, handed back.
+// The reader's file.
 pub fn file<'a>(r: Reader<'a>) -> &'a [u8]
     ensures { λ s. ⌜ s ≡ r .entry .file ⌝ }
 {
@@ -74,7 +74,7 @@ pub struct Pair {
     pub second: Answer,
 }
 
-// Two fields in a row from a cursor on, through a reader. Its contract names none, so whoever calls it needs no walk.
+// Two fields in a row from a cursor on, through a local reader. Its contract names no reader, so its callers need no walk.
 pub fn read_pair(file: &[u8], at: usize, first: usize, second: usize) -> Pair
     ensures { λ r. ⌜ r ≡ twoAnswers (now (file .entry)) at first second ⌝ }
 {

@@ -21,7 +21,7 @@ pub decimal-one : (n : ℕ) → n < 10 → decimal n ≡ (48 + n % 10) ∷ []
 unfolding decimal digits
 decimal-one n h = rw (lt-ltb n 10 h)
 
--- Any other has those of n / 10 before it.
+-- Any other number has the digits of n / 10 before its last.
 pub decimal-more : (n : ℕ) → 10 ≤ n → decimal n ≡ decimal (n / 10) ++ ((48 + n % 10) ∷ [])
 unfolding decimal digits
 decimal-more zero h = absurd (omega arith)
@@ -42,7 +42,7 @@ short (suc k) (suc fuel) n h =
       short k fuel (n / 10) (div-lt-iff-lt-mul (omega arith) .1 (rw pow-suc at h)),
     )
 
--- What a usize holds has at most 20 digits.
+-- A number that a usize can hold has at most 20 digits.
 pub decimal-short : (n : ℕ) → n < 2 ^ 64 → length (decimal n) ≤ 20
 unfolding decimal
 decimal-short n h = short 19 (suc n) n (omega arith)

@@ -1,4 +1,4 @@
--- A verdict can be read off its code: quotients and remainders by powers of two give its parts back.
+-- A verdict can be recovered from its code: quotients and remainders by powers of two give its parts.
 use Prim.Native.Nat.{ℕ, _+_, _*_, _/_, _%_, _^_, _<_}
 use mathlib.Core.Path.{_≡_, refl}
 use mathlib.Core.Bool.{false}

@@ -1,4 +1,4 @@
--- Every line fits 64 bytes, and what is written fits its buffer.
+-- Every line fits in 64 bytes, and what is written fits in its buffer.
 use Prim.Native.Nat.{ℕ, _^_, _≤_, _<_}
 use mathlib.Core.Path.{_≡_, refl}
 use mathlib.Core.Bool.{Bool, true, false, cond}

@@ -59,7 +59,7 @@ abbrev both-ways : Tables
 both-ways =
     record { machine = machineOf (2 ∷ []); sets = λ i s. true; relations = λ i s u. cond (eqb i 0) (not (eqb s u)) (eqb i 1) }
 
--- Under that rely with no guarantee, and with relation q as postcondition.
+-- The tables of a node: all states, that rely, no guarantee, and relation q as postcondition.
 abbrev under : ℕ → Names
 under q = record { p = 0; r = 0; g = 2; q = q }
 
@@ -79,8 +79,8 @@ marked =
     ∷ line [] sample-proof
     ∷ line (0x22 ∷ []) sample-proof
     ∷ line (0x22 ∷ 0x20 ∷ 0x03 ∷ []) sample-proof
-    -- d ← c + c takes 4 steps; reads of c as 0 then 1 give the odd value 1: c is read, others make c 1, c is read, the sum is made and
-    -- stored in d
+    -- d ← c + c takes 4 steps; reads of c as 0 then 1 give the odd value 1: c is read, others make c 1, c is
+    -- read, the sum is computed and stored in d
     ∷ (steps 6 twice ∷ [])
     ∷ steps-and-value (own 0 ∷ other 3 ∷ own 0 ∷ own 0 ∷ own 0 ∷ [])
     -- while c > 0 do c ← c − 1 over 4 states; a sequence of nil and nil

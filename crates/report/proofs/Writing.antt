@@ -1,4 +1,4 @@
--- Texts that are put one after the other are put as one; a text put at the front is followed by what stood there.
+-- Two texts put one after the other are put as one; a text put at the front leaves the rest of the buffer as it was.
 use Prim.Native.Nat.{ℕ, _+_, _≤_}
 use mathlib.Core.Path.{_≡_, refl, sym, _∙_}
 use mathlib.Core.List.{List, _++_, append-assoc}
@@ -7,7 +7,7 @@ use lib.ListN.{length, take, drop, length-append, take-append-drop}
 use lib.Seq.{paste, take-paste, drop-paste, take-length, drop-drop}
 use Rattle.report.specs.Put.{Put}
 
--- What `paste` leaves, with the whole text in place.
+-- What `paste` does once the whole text is in place.
 pub pasted : (before : List ℕ) (at : ℕ) (text : List ℕ) → at + length text ≤ length before
     → Put before at text (paste before at text (length text)) (at + length text)
 pasted before at text room =

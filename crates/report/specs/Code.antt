@@ -16,13 +16,13 @@ unfoldable pub indexOf : Place → ℕ
 indexOf (Bit i) = i
 indexOf (Node k) = k
 
--- An accepted pair's number is its step number. A refusal's upper 32 bits are its number and the kind of its place, its
--- lower 32 bits the place; of a number or place that is longer, the lower bits.
+-- An accepted pair's number is its step number. A refusal's upper 32 bits are its number and the kind of its place, its lower 32 bits the
+-- place; of a longer number or place only the lower bits are kept.
 unfoldable pub codeOf : Verdict → ℕ
 codeOf (Accepted n) = n
 codeOf (Refused f) = (f .number % 2 ^ 31 * 2 + placeKind (f .place)) * 2 ^ 32 + indexOf (f .place) % 2 ^ 32
 
--- Where no bit is cut off; document 01's numbers are 1 to 80, and its places far below 2 ^ 32.
+-- No bit is cut off. Document 01's numbers are 1 to 80, and its places are far below 2 ^ 32.
 abbrev pub Lossless : Verdict → Type 0
 Lossless (Accepted n) = n < 2 ^ 32
 Lossless (Refused f) = (0 < f .number) × (f .number < 2 ^ 31) × (indexOf (f .place) < 2 ^ 32)

@@ -43,12 +43,12 @@ verdictText (Refused f) = (ascii "refused " ++ decimal (f .number)) ++ placeText
 unfoldable pub lineOf : Verdict → List ℕ
 lineOf v = verdictText v ++ ascii "\n"
 
--- What the code's types hold: every number is below 2 ^ 64.
+-- The range of the code's types: every number is below 2 ^ 64.
 abbrev pub WithinTypes : Verdict → Type 0
 WithinTypes (Accepted n) = n < 2 ^ 64
 WithinTypes (Refused f) = (f .number < 2 ^ 64) × (indexOf (f .place) < 2 ^ 64)
 
--- A buffer after the line was written at its front, and how many bytes that were. Where it has no room, nothing is written.
+-- A buffer after the line is written at its front, and the number of bytes written. If there is no room, nothing is written.
 unfoldable pub lineInto : Verdict → List ℕ → List ℕ
 lineInto v out = cond (leb (length (lineOf v)) (length out)) (lineOf v ++ drop (length (lineOf v)) out) out
 

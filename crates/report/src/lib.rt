@@ -17,7 +17,7 @@ const PLACES: u64 = 4294967296;
 // So many bytes hold every line.
 pub const LINE_BYTES: usize = 64;
 
-// The verdict as one number, by which a host learns it over the C interface.
+// The verdict as one number, for a host that calls over the C interface.
 pub fn code_of(v: Verdict) -> u64
     ensures { λ r. ⌜ r ≡ codeOf v ⌝ }
 {
@@ -34,7 +34,7 @@ pub fn code_of(v: Verdict) -> u64
     }
 }
 
-// Puts a text at a place that has room for it, and answers where it ends.
+// Puts a text at a place that has room for it, and returns where it ends.
 fn put(out: &mut [u8], at: usize, text: &[u8]) -> usize
     requires { ⌜ at + length (now text) ≤ length (now out) ⌝ }
     ensures { λ r. ⌜ Put (now (out .entry)) at (now (text .entry)) (now (out .exit)) r ⌝ }
@@ -58,7 +58,7 @@ fn put_number(out: &mut [u8], at: usize, n: u64) -> usize
     put(out, last, &digit)
 }
 
-// Puts a word and the number that it names, of at most 20 digits.
+// Puts a word and a number, of at most 20 digits.
 fn put_named(out: &mut [u8], at: usize, word: &[u8], n: u64) -> usize
     requires { ⌜ at + length (now word) + 20 ≤ length (now out) ⌝ }
     ensures { λ r. ⌜ Put (now (out .entry)) at (now (word .entry) ++ decimal n) (now (out .exit)) r ⌝ }
@@ -96,7 +96,7 @@ fn put_words(out: &mut [u8], v: Verdict) -> usize
     }
 }
 
-// Writes the line at the front of `out` and answers its length, or writes nothing and answers 0 where it has no room.
+// Writes the line at the front of `out` and returns its length; if there is no room, writes nothing and returns 0.
 pub fn write_line(v: Verdict, out: &mut [u8]) -> usize
     ensures { λ r. ⌜ (r ≡ lineLength v (now (out .entry))) × (now (out .exit) ≡ lineInto v (now (out .entry))) ⌝ }
 {

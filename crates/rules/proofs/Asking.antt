@@ -1,4 +1,4 @@
--- A node's answer, condition by condition, in the order in which they are asked.
+-- A node's answer, condition by condition, in the order in which they are checked.
 use Prim.Native.Nat.{ℕ}
 use mathlib.Core.Path.{_≡_, refl, _∙_, ap₂}
 use mathlib.Core.Bool.{Bool}
@@ -11,12 +11,12 @@ use Rattle.rules.specs.declared.NodeVerdict.{NodeVerdict}
 use Rattle.rules.specs.declared.NodeVerdict.the-variants.{Holds, Breaks}
 use Rattle.rules.specs.Asking.{asked, askedAll, verdictOf}
 
--- A condition that the code has asked, after those before it.
+-- One more condition that the code has checked, after those before it.
 pub asked-then : (number : ℕ) (s : Search) {held : Bool} {r found found′ : NodeVerdict} → found ≡ found′ → r ≡ asked found number held → held ≡ holds s
     → r ≡ asked found′ number (holds s)
 asked-then number s before e looked = e ∙ ap₂ (λ o b. asked o number b) before looked
 
--- The answer of a list is its first broken condition.
+-- The answer for a list is its first broken condition.
 kept : (k : ℕ) (cs : List Condition) → askedAll (Breaks k) cs ≡ Breaks k
 unfolding asked
 kept k [] = refl
@@ -32,7 +32,7 @@ first-asked (c ∷ cs) = by (c .breach) (first-asked cs)
     by none rest = rest
     by (some found) rest = kept (c .number) cs
 
--- What a verdict says of the first broken condition.
+-- What a verdict says about the first broken condition.
 pub none-broken : (o : Option ℕ) → verdictOf o ≡ Holds → o ≡ none
 none-broken none e = refl
 none-broken (some k) e = absurd (let z : _≡_ {A = ℕ} 0 1 = cc in omega arith)

@@ -1,4 +1,4 @@
--- What R moves: a variable is moved where a row of R, from a state of P, leaves the states that agree in it.
+-- What R moves: a variable is moved if some row of R, from a state of P, has a state that differs in it.
 use Prim.Native.Nat.{ℕ, _%_, _^_, _≤_, _<_}
 use native.Mathlib.Nat.{zero-div, le-refl}
 use native.Mathlib.Decide.{decLt}
@@ -40,7 +40,7 @@ unfoldable pub movedFrom : Machine → List ℕ → Names → ℕ → ℕ → Bo
 movedFrom m work own v s =
     wordSet (m .states) work (own .p) s && any (m .states) (λ t. wordRelation (m .states) work (own .r) s t && not (agree m v s t))
 
--- 41, 45 and 50 by any property of variables that says what R moves.
+-- 41, 45 and 50, with any test for the variables that R moves.
 module _ (m : Machine) (c : Spec) (p : ℕ → Bool) (same : (v : ℕ) → p v ≡ moves m c v) (e : Expr) where
   counted : occurrences p e ≡ occurrences (moves m c) e
   counted = ap (λ q. occurrences q e) (fun-ext same)
@@ -57,7 +57,7 @@ module _ (m : Machine) (c : Spec) (p : ℕ → Bool) (same : (v : ℕ) → p v �
   unfolding c50
   read-once-50 = ap (λ k. leb k 1) counted ∙ sym (holds-must _)
 
--- Some member of a set is not in another where not every one is.
+-- If not every member of a set is in another, some member is not.
 not-within : (n : ℕ) (a b : ℕ → Bool) → not (all n (λ t. implies (a t) (b t))) ≡ any n (λ t. a t && not (b t))
 unfolding implies
 not-within n a b = ap not (all-cong n _ _ (λ t l. turned (a t) (b t)) ∙ all-not n _) ∙ twice _
@@ -71,7 +71,7 @@ not-within n a b = ap not (all-cong n _ _ (λ t l. turned (a t) (b t)) ∙ all-n
     twice true = refl
     twice false = refl
 
--- The states that agree with s agree with the same states; so does s itself, where it is no state.
+-- A state that agrees with s agrees with the same states as s; so does s itself, even if it is no state.
 pub alike : (x : Variable) (s u : ℕ) → (agreeIn x s u || ltb u capacity && eqb s u) ≡ true → (t : ℕ) → agreeIn x u t ≡ agreeIn x s t
 unfolding agreeIn
 alike x s u e t = ⊎-elim agreed itself (or-cases (agreeIn x s u) _ e)
@@ -86,7 +86,7 @@ alike x s u e t = ⊎-elim agreed itself (or-cases (agreeIn x s u) _ e)
         let same : valueBy x s ≡ valueBy x u = eqb-true _ _ (and-right (isSmall x && ltb s (x .states) && ltb u (x .states)) _ h) in
         rw (and-right (isSmall x) (ltb s (x .states)) both, there, same)
 
--- Ends that lie in one set, from states that all have it for their own.
+-- If f s is the same set q for all states of g, the ends of the pairs from them can be compared with q.
 pub alike-within : (n : ℕ) (p g : ℕ → Bool) (r f : ℕ → ℕ → Bool) (q : ℕ → Bool) → ((s : ℕ) → g s ≡ true → (t : ℕ) → f s t ≡ q t)
     → holds (inSet n (λ s. p s && g s) (λ s. inSet n (r s) (λ t. must (q t))))
     ≡ all n (λ s. implies (p s && g s) (all n (λ t. implies (r s t) (f s t))))
@@ -99,12 +99,12 @@ alike-within n p g r f q own =
     implies-cong true y z h = h refl
     implies-cong false y z h = refl
 
--- A pair leads from one set's states to a state that differs, where not every row from them lies in the states that agree.
+-- If not every row from a set lies in the states that agree, some pair from the set leads to a state that differs.
 pub not-kept : (n : ℕ) (p : ℕ → Bool) (r f : ℕ → ℕ → Bool)
     → not (all n (λ s. implies (p s) (all n (λ t. implies (r s t) (f s t))))) ≡ any n (λ s. p s && any n (λ t. r s t && not (f s t)))
 not-kept n p r f = not-within n _ _ ∙ any-cong n _ _ (λ s l. ap (λ b. p s && b) (not-within n _ _))
 
--- What is asked of some of the states left in a set fails of them all where it fails of these.
+-- If f fails at some of the states left in a set, it fails for the whole set.
 pub passed-not : (n : ℕ) (f : ℕ → Bool) (from rest : StateSet) (g : ℕ → Bool) → Passed n f from rest true
     → all n (λ s. implies (has rest s && g s) (f s)) ≡ false → all n (λ s. implies (has from s) (f s)) ≡ false
 passed-not n f from rest g old fails =
@@ -114,7 +114,7 @@ passed-not n f from rest g old fails =
 pub none-start : (n : ℕ) (set : StateSet) (f : ℕ → Bool) → ((s : ℕ) → has set s ≡ false) → any n (λ s. has set s && f s) ≡ false
 none-start n set f none = any-none n _ (λ s l. rw (none s))
 
--- Of a set those members will do that start a pair.
+-- It is enough to look at the members that start a pair.
 pub starts-moved : (m : Machine) (work : List ℕ) (own : Names) (v : ℕ) (from starts : StateSet)
     → ((s : ℕ) → has starts s ≡ (ltb s capacity && any (m .states) (wordRelation (m .states) work (own .r) s)))
     → ((s : ℕ) → has from s ≡ (wordSet (m .states) work (own .p) s && has starts s))
@@ -147,14 +147,14 @@ module _ (head : Head) (work : List ℕ) (own : Names) where
   unfolding agree
   agreed v s t l k = rw (lt-ltb s (m .states) l, lt-ltb t (m .states) k)
 
-  -- What the words say of a variable is what the states say.
+  -- `movedFrom`, on the words, agrees with `moves`.
   moves-here : (v : ℕ) → any (m .states) (movedFrom m work own v) ≡ moves m (wordSpec (m .states) work own) v
   unfolding moves movedFrom
   moves-here v =
       any-cong (m .states) _ _ (λ s l. ap (λ b. wordSet (m .states) work (own .p) s && b)
       (any-cong (m .states) _ _ (λ t k. ap (λ b. wordRelation (m .states) work (own .r) s t && not b) (agreed v s t l k))))
 
-  -- What is no variable has one value, and nothing moves it.
+  -- A number that is no variable has one value, so nothing moves it.
   moves-past : (c : Spec) (v : ℕ) → head .count ≤ v → moves m c v ≡ false
   unfolding moves
   moves-past c v h =
@@ -171,7 +171,7 @@ module _ (head : Head) (work : List ℕ) (own : Names) where
       at (yes l) = rw (lt-ltb v (head .count) l) (moves-here v)
       at (no l) = rw (le-ltb v (head .count) (omega arith)) (sym (moves-past _ v (omega arith)))
 
--- Where there is no state, nothing moves.
+-- If there is no state, nothing moves.
 pub moves-none : (m : Machine) → m .states ≡ 0 → (c : Spec) (v : ℕ) → moves m c v ≡ false
 unfolding moves any
 moves-none m none c v = rw none

@@ -1,5 +1,5 @@
--- Whether a search over states finds nothing, as bounded quantifiers: a search through a set answers for each of its members, and
--- where every member is below two bounds either bound will do.
+-- Whether a search over states finds nothing, as bounded quantifiers: a search through a set is one at each member, and if every member
+-- is below two bounds, either bound can be used.
 use Prim.Native.Nat.{ℕ, _+_, _<_, _≤_}
 use native.Mathlib.Nat.{le-antisymm}
 use native.Mathlib.Numerals.{add-one}
@@ -23,7 +23,7 @@ holds-next s f = rw add-one (sym (holds-orElse (each s f) (named s (f s)) ∙ ap
 pub each-done : (s n : ℕ) (f : ℕ → Search) → s ≤ n → n ≤ s → holds (each s f) ≡ holds (each n f)
 each-done s n f up down = ap (λ k. holds (each k f)) (le-antisymm up down)
 
--- Where a breach is below both bounds, either bound will do.
+-- If every breach is below both bounds, either bound can be used.
 pub all-bounds : (j k : ℕ) (p : ℕ → Bool) → ((t : ℕ) → p t ≡ false → (t < j) × (t < k)) → all j p ≡ all k p
 all-bounds j k p low =
     bool-ext _ _ (λ h. all-intro k p (λ t l. at j (λ e. low t e .0) h (true-or-false (p t))))
@@ -49,13 +49,13 @@ pub inSet-same : (n : ℕ) (p q : ℕ → Bool) (f g : ℕ → Search) → ((s :
     → holds (inSet n p f) ≡ holds (inSet n q g)
 inSet-same n p q f g members each = holds-inSet n p f ∙ all-cong n _ _ (λ s l. ap₂ implies (members s) (each s)) ∙ sym (holds-inSet n q g)
 
--- The end of a loop over the members of a set: each was asked.
+-- The end of a loop over the members of a set: each was checked.
 pub passed-search : (n : ℕ) (f : ℕ → Search) (p : ℕ → Bool) (from rest : StateSet) (held : Bool) → ((s : ℕ) → has rest s ≡ false) → ((s : ℕ) → s < n → has from s ≡ p s)
     → Passed n (λ s. holds (f s)) from rest held → held ≡ holds (inSet n p f)
 passed-search n f p from rest held e members done =
     passed-all n _ from rest held e done ∙ all-cong n _ _ (λ s l. ap (λ b. implies b (holds (f s))) (members s l)) ∙ sym (holds-inSet n p f)
 
--- Every member is a state below n that a word can hold.
+-- Every member is a state below n that a set can hold.
 abbrev pub StatesOnly : ℕ → (ℕ → Bool) → Type 0
 StatesOnly n p = (t : ℕ) → p t ≡ true → (t < capacity) × (t < n)
 
@@ -71,7 +71,7 @@ pub same-as-itself : (n : ℕ) (r : ℕ → ℕ → Bool) → sameRelation n r r
 unfolding sameRelation sameSet
 same-as-itself n r = all-intro n _ (λ s l. all-intro n _ (λ t k. beq-refl (r s t)))
 
--- Ends of pairs that start in a set, each in another set.
+-- Whether the pairs that start in a set all end in another set.
 pub ends-within : (n : ℕ) (p : ℕ → Bool) (r : ℕ → ℕ → Bool) (q : ℕ → Bool)
     → all n (λ t. implies (any n (λ s. p s && r s t)) (q t)) ≡ holds (inSet n p (λ s. inSet n (r s) (λ t. must (q t))))
 ends-within n p r q =
@@ -87,7 +87,7 @@ ends-within n p r q =
         let st = and-right (p (w .0)) (r (w .0) t) (w .2) in
         sym (holds-must (q t)) ∙ inSet-at n _ _ (inSet-at n p _ h (w .0) (w .1) ps) t k st
 
--- Of a set those members will do at which a search may find something.
+-- It is enough to search at the members where the search may find something.
 pub inSet-part : (n : ℕ) (p d : ℕ → Bool) (f : ℕ → Search) → ((s : ℕ) → p s ≡ true → d s ≡ false → holds (f s) ≡ true)
     → holds (inSet n (λ s. p s && d s) f) ≡ holds (inSet n p f)
 inSet-part n p d f clear =
@@ -98,7 +98,7 @@ inSet-part n p d f clear =
     at h s l e (inl i) = inSet-at n _ f h s l (and-both _ _ e i)
     at h s l e (inr o) = clear s e o
 
--- Where a search goes on by pairs, those members will do that start a pair; and where none does, it finds nothing.
+-- If a search goes on by pairs, it is enough to look at the members that start a pair; if none does, it finds nothing.
 pub inSet-starting : (n : ℕ) (p d : ℕ → Bool) (r : ℕ → ℕ → Bool) (f : ℕ → ℕ → Search) → StatesOnly n p → ((s : ℕ) → d s ≡ (ltb s capacity && any n (r s)))
     → holds (inSet n (λ s. p s && d s) (λ s. inSet n (r s) (f s))) ≡ holds (inSet n p (λ s. inSet n (r s) (f s)))
 inSet-starting n p d r f small starts =
@@ -112,7 +112,7 @@ pub inSet-none : (n : ℕ) (p : ℕ → Bool) (d : StateSet) (r : ℕ → ℕ �
 inSet-none n p d r f small starts none =
     sym (inSet-starting n p (has d) r f small starts) ∙ inSet-intro n _ _ (λ s l h. absurd (true≢false (sym (and-right (p s) _ h) ∙ none s)))
 
--- Where a set holds all n states every pair ends in it.
+-- If a set holds all n states, every pair ends in it.
 pub full-within : (n : ℕ) (p : ℕ → Bool) (r : ℕ → ℕ → Bool) (q : ℕ → Bool) → ((s : ℕ) → StatesOnly n (r s))
     → all capacity (λ t. implies (ltb t capacity && ltb t n) (q t)) ≡ true
     → holds (inSet n p (λ s. inSet n (r s) (λ t. must (q t)))) ≡ true
@@ -120,7 +120,7 @@ full-within n p r q small full =
     inSet-intro n p _ (λ s l ps. inSet-intro n (r s) _ (λ t k st. holds-must (q t) ∙ implies-at _ _ (all-at capacity _ full t (small s t st .0))
     (and-both _ _ (lt-ltb t capacity (small s t st .0)) (lt-ltb t n k))))
 
--- So a comparison of words answers for the n states.
+-- So a comparison over all states that a set can hold is the same as over the n states.
 pub small-all : (n : ℕ) (p q : ℕ → Bool) → StatesOnly n p → all capacity (λ t. implies (p t) (q t)) ≡ all n (λ t. implies (p t) (q t))
 small-all n p q small = all-bounds capacity n _ (λ t e. small t (implies-false (p t) (q t) e .0))
 
@@ -128,11 +128,11 @@ pub small-within : (n : ℕ) (p q : ℕ → Bool) → StatesOnly n p
     → all capacity (λ t. implies (p t) (q t)) ≡ holds (inSet n p (λ t. must (q t)))
 small-within n p q small = small-all n p q small ∙ within-holds n p q
 
--- A part of a set is within what the whole set is within.
+-- If a set is within another, so is each part of it.
 pub part-within : (n : ℕ) (p x q : ℕ → Bool) → all n (λ t. implies (p t) (q t)) ≡ true → all n (λ t. implies (p t && x t) (q t)) ≡ true
 part-within n p x q h = all-intro n _ (λ t l. implies-intro _ _ (λ e. implies-at _ _ (all-at n _ h t l) (and-left (p t) _ e)))
 
--- A search at a state that may not be a member.
+-- A search at a state that may or may not be a member.
 pub at-member : (b : Bool) (x : Search) → b ≡ true → holds x ≡ holds (given b x)
 unfolding given
 at-member b x e = rw e

@@ -1,4 +1,4 @@
--- Conditions 40, 42 and 43 by the rows that say where a store leads: a state has at most one end, and that is a state.
+-- Conditions 40, 42 and 43, from the rows that say where a store leads: a row has at most one end, and that is a state.
 use Prim.Native.Nat.{ℕ, _<_}
 use mathlib.Core.Path.{_≡_, refl, sym, ap, _∙_, fun-ext, subst}
 use mathlib.Core.Bool.{Bool, true, false, _&&_, _||_, false≢true}
@@ -21,7 +21,7 @@ use Rattle.evaluation.proofs.Laws.{after-below}
 use Rattle.rules.proofs.Searches.{inSet-intro, inSet-at}
 use Rattle.rules.proofs.Rows.{absorbed, inSet-cong}
 
--- The end of a store, where it is one of the n states.
+-- The end of a store, if it is one of the n states.
 module _ (n : ℕ) where
   any-end : (o : Option ℕ) → ((t : ℕ) → leadsTo o t ≡ true → t < n) → any n (leadsTo o) ≡ inRange o
   unfolding inRange

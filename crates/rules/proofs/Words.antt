@@ -45,7 +45,7 @@ pub leads-cong : (n : ℕ) (r : ℕ → ℕ → Bool) (x y : StateSet) (p q : �
     → holds (inSet n (has x) (λ s. inSet n (r s) (λ t. must (has y t)))) ≡ holds (inSet n p (λ s. inSet n (r s) (λ t. must (q t))))
 leads-cong n r x y p q from into = ap₂ (λ p q. holds (inSet n p (λ s. inSet n (r s) (λ t. must (q t))))) (fun-ext from) (fun-ext into)
 
--- A search that goes through any of the n states goes by every pair.
+-- If `states` has all n states, requiring the ends to be in it leaves out no pair.
 pub all-through : (n : ℕ) (work : List ℕ) (a : ℕ) (f : ℕ → ℕ → Search) (x states : StateSet) (p : ℕ → Bool) → ((s : ℕ) → has x s ≡ p s)
     → ((t : ℕ) → has states t ≡ (ltb t capacity && ltb t n))
     → holds (inSet n (has x) (λ s. inSet n (λ t. wordRelation n work a s t && has states t) (f s)))
@@ -58,7 +58,7 @@ pub same-cong : (n : ℕ) (x y : StateSet) (p q : ℕ → Bool) → ((s : ℕ) �
     → sameSet n (has x) (has y) ≡ sameSet n p q
 same-cong n x y p q left right = ap₂ (sameSet n) (fun-ext left) (fun-ext right)
 
--- Two sets masked to the n states are the same where they have the same of these.
+-- Two sets masked to the n states are the same iff they have the same members below n.
 pub same-masked : (n : ℕ) (x y : StateSet)
     → all capacity (λ s. Bool·beq (has x s && (ltb s capacity && ltb s n)) (has y s && (ltb s capacity && ltb s n))) ≡ sameSet n (has x) (has y)
 unfolding sameSet
@@ -76,7 +76,7 @@ same-masked n x y =
     below : (s : ℕ) → (ltb s n ≡ true) × ((has x s ≡ true) ⊎ (has y s ≡ true)) → (s < capacity) × (s < n)
     below s w = (⊎-elim (has-below x s) (has-below y s) (w .1), ltb-true s n (w .0))
 
--- Condition 66's reach from s, as the set that the rounds make of s alone.
+-- Condition 66's reach from s, as the set reached from s alone.
 pub reached-set : (n : ℕ) (rows : List ℕ) (s : ℕ) (from reached : StateSet) → s < capacity → ((t : ℕ) → has from t ≡ (ltb t capacity && eqb s t))
     → ((t : ℕ) → (has reached t ≡ true) ↔ Reached (has from) (rel n rows) t) → (t : ℕ) → has reached t ≡ reach n (rel n rows) s t
 reached-set n rows s from reached low alone exact t = bool-ext _ _ (λ h. back .1 (way .0 h)) (λ h. way .1 (back .0 h))
@@ -101,7 +101,7 @@ relation-pairs n work r s t h = (rel-between n _ s t h .0, rel-small n _ s t h)
 pub join-pairs : (n : ℕ) (f g : ℕ → ℕ → Bool) → Pairs n f → Pairs n g → Pairs n (λ s t. f s t || g s t)
 join-pairs n f g left right s t h = ⊎-elim (left s t) (right s t) (or-cases (f s t) (g s t) h)
 
--- From a state that a set can hold, the pairs that start in such states reach all: no pair ends past them.
+-- From a state that a set can hold, the pairs that start in such states suffice for the reach: no pair ends at any other state.
 pub reach-rows : (n : ℕ) (rows : List ℕ) (g : ℕ → ℕ → Bool) → Pairs n g → ((s t : ℕ) → rel n rows s t ≡ (ltb s capacity && g s t))
     → (s t : ℕ) → s < capacity → reach n (rel n rows) s t ≡ reach n g s t
 reach-rows n rows g pairs same s t low =

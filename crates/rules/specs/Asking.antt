@@ -1,4 +1,4 @@
--- A node's conditions, asked from 30 upwards: the first that failed is kept.
+-- A node's conditions, checked from 30 upwards: the first that failed is kept.
 use Prim.Native.Nat.{ℕ}
 use mathlib.Core.Bool.{Bool, cond}
 use mathlib.Core.List.{List, [], _∷_}

@@ -1,4 +1,4 @@
--- What the contracts of the rules cite: the tables in the work words, conditions asked in order, and what a node must meet.
+-- What the contracts of the rules use: the tables in the work words, conditions checked in order, and the conditions on a node.
 pub mod Words
 pub mod Asking
 pub mod Obligations

@@ -1,4 +1,4 @@
--- What a node of the table must meet over a statement of the table, by its rule, with the tables in the work words.
+-- The conditions on a node of the table over a statement of the table, by the node's rule, with the tables in the work words.
 use Prim.Native.Nat.{ℕ}
 use mathlib.Core.Bool.{cond}
 use mathlib.Core.List.{List}
@@ -24,7 +24,7 @@ module _ (bytes : List ℕ) (head : Head) (work : List ℕ) where
   abbrev exprOfStatement : Statement → Expr
   exprOfStatement statement = exprIn bytes (head .count) (statement .expr)
 
-  -- The rules by their codes; the first child of a node and the second are those that its rule asks for.
+  -- The rules by their codes; `first` and `second` are the node's children, as far as its rule has them.
   unfoldable pub obligationsIn : Node → Statement → Node → Node → List Condition
   obligationsIn node statement first second =
       cond (eqb (node .rule) 0) (skipObligations states (eqb (statement .code) 0) (specIn node))

@@ -28,7 +28,7 @@ ghost use Rattle.handler.specs.Header.{machineIn};
 ghost use Rattle.evaluation.specs.Values.{exprIn};
 ghost use Rattle.semantics.specs.Checking.{assignmentObligations};
 
-// 40, by the rows that say where a store leads: every s in P has an end.
+// 40, from the rows that say where a store leads: every s in P has an end.
 pub fn in_range(n: u32, work: &[u64], own: Names, after: &[u64]) -> bool
     ensures { λ out.
         ⌜ out ≡ holds (inSet n (wordSet n (now (work .entry)) (own .p)) (λ s. must (any n (rel n (now (after .entry)) s)))) ⌝ }
@@ -36,7 +36,7 @@ pub fn in_range(n: u32, work: &[u64], own: Names, after: &[u64]) -> bool
     set_at(n, work, own.p).included(starting(n, after))
 }
 
-// 42, by the same rows: s in P, s′ its end: (s,s′) in Q.
+// 42, from the same rows: s in P, s′ its end: (s,s′) in Q.
 pub fn store_in_post(n: u32, work: &[u64], own: Names, after: &[u64]) -> bool
     ensures { λ out.
         ⌜ out ≡ holds (inSet n (wordSet n (now (work .entry)) (own .p)) (λ s. inSet n (rel n (now (after .entry)) s)
@@ -45,7 +45,7 @@ pub fn store_in_post(n: u32, work: &[u64], own: Names, after: &[u64]) -> bool
     included_from(n, set_at(n, work, own.p), after, rows_of(work, own.q))
 }
 
-// Whether the end of a store at s is s or makes a pair of G.
+// Whether the end t of a store at s is s, or (s,t) is in G.
 fn guaranteed_at(n: u32, work: &[u64], own: Names, after: &[u64], s: u32) -> bool
     ensures { λ out.
         ⌜ out ≡ holds (inSet n (rel n (now (after .entry)) s) (λ t. must (eqb t s || wordRelation n (now (work .entry)) (own .g) s t))) ⌝ }
@@ -54,7 +54,7 @@ fn guaranteed_at(n: u32, work: &[u64], own: Names, after: &[u64], s: u32) -> boo
     row(n, after, s).included(allowed)
 }
 
-// 43, by the same rows: s in P, s′ its end: s′ = s or (s,s′) in G.
+// 43, from the same rows: s in P, s′ its end: s′ = s or (s,s′) in G.
 pub fn store_in_guarantee(n: u32, work: &[u64], own: Names, after: &[u64]) -> bool
     ensures { λ out.
         ⌜ out ≡ holds (inSet n (wordSet n (now (work .entry)) (own .p)) (λ s. inSet n (rel n (now (after .entry)) s)

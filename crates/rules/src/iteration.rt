@@ -125,7 +125,7 @@ pub fn rely_descends(n: u32, work: &[u64], own: Names, w: u32) -> bool
     held
 }
 
-// Whether each t of p with the test false, that is s or that w leads to from s, makes a pair (s,t) of Q.
+// Whether (s,t) is in Q for each t in p, with the test false, that is s or an end of w from s.
 fn exit_satisfies_post_at(
     n: u32,
     work: &[u64],

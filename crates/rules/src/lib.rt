@@ -1,5 +1,5 @@
-// The conditions of each rule, on the tables in the work words: each an equation with its definition. A rule asks its conditions from
-// 30 upwards and keeps the first that failed; all are looked at, because an accepted pair needs them all.
+// The conditions of each rule, on the tables in the work words, each equal to its definition. A rule checks its conditions from 30
+// upwards and keeps the first that failed; all are checked, because an accepted pair needs them all.
 use assignment::assignment_fault;
 use conditional::if_fault;
 use derivation::ASSIGNMENT;
@@ -37,7 +37,7 @@ pub mod stability;
 pub mod tables;
 pub mod weaken;
 
-// What the conditions asked so far say: all hold, or the number of the first that failed.
+// The result of the conditions checked so far: all hold, or the number of the first that failed.
 pub enum NodeVerdict {
     Holds,
     Breaks(u32),
@@ -59,7 +59,7 @@ pub fn ask(found: NodeVerdict, number: u32, held: bool) -> NodeVerdict
     }
 }
 
-// 30 to 33, which are asked at every node.
+// 30 to 33, which are checked at every node.
 pub fn common(n: u32, work: &[u64], own: Names, fits: bool) -> NodeVerdict
     ensures { λ r. ⌜ r ≡ askedAll Holds (commonObligations n fits (wordSpec n (now (work .entry)) own)) ⌝ }
 {
@@ -70,8 +70,8 @@ pub fn common(n: u32, work: &[u64], own: Names, fits: bool) -> NodeVerdict
     ask(found, 33, held.after)
 }
 
-// What the conditions of a node say over a statement, by the node's rule. The children are those that the rule asks for; a weaken
-// fits every statement.
+// The verdict of a node's conditions over a statement, by the node's rule. `first` and `second` are its children, as far as the rule
+// has them; a weaken fits every statement.
 pub fn node_fault(
     handler: &[u8],
     head: Head,

@@ -22,8 +22,8 @@ ghost use Rattle.handler.specs.Shapes.{inMask};
 ghost use Rattle.evaluation.specs.Values.{agree, exprIn};
 ghost use Rattle.rules.specs.Words.{wordRelation, wordSpec};
 
-// Whether relation r leads from any state of the set to one that differs in variable v. The states that agree with the least are
-// taken out together: r must lead from all of these to states that agree.
+// Whether relation r leads from some state of the set to one that differs in variable v. The states that agree with the least are taken
+// out together: r must lead from all of these to states that agree.
 fn moves_variable(head: Head, n: u32, work: &[u64], from: StateSet, r: u32, v: u32) -> bool
     ensures { λ out.
         ⌜ out ≡ any n (λ s. has from s && any n (λ t. wordRelation n (now (work .entry)) r s t && not (agree (machineIn head) v s t))) ⌝ }
@@ -43,7 +43,7 @@ fn moves_variable(head: Head, n: u32, work: &[u64], from: StateSet, r: u32, v: u
     false
 }
 
-// The mask with variable v too, where it is one of those looked for.
+// The mask, with variable v added if `one` is true.
 fn with_variable(mask: u32, v: u32, one: bool) -> u32
     requires { ⌜ v < 32 ⌝ }
     ensures { λ out. ⌜ ((u : ℕ) → inMask out u ≡ (inMask mask u || one && eqb v u)) ⌝ }
@@ -51,8 +51,8 @@ fn with_variable(mask: u32, v: u32, one: bool) -> u32
     if one { mask | (1 << v) } else { mask }
 }
 
-// The mask of the variables that R moves. Only the states of P that start a pair matter: where there are none, as with an idle R, no
-// variable is looked at.
+// The mask of the variables that R moves. Only the states of P that start a pair matter: if there are none, as
+// with an empty R, no variable is looked at.
 pub fn moved(head: Head, work: &[u64], own: Names) -> u32
     ensures { λ out.
         ⌜ ((v : ℕ) → inMask out v ≡ moves (machineIn head) (wordSpec (machineIn head .states) (now (work .entry)) own) v) ⌝ }
@@ -74,14 +74,14 @@ pub fn moved(head: Head, work: &[u64], own: Names) -> u32
     mask
 }
 
-// 41 and 45, by the mask of the variables that R moves: the expression has none of them.
+// 41 and 45, from the mask of the variables that R moves: the expression has none of them.
 pub fn unmoved(src: &[u8], head: Head, mask: u32, at: usize) -> bool
     ensures { λ out. ⌜ out ≡ eqb (occurrences (inMask mask) (exprIn (now (src .entry)) (head .count) at)) 0 ⌝ }
 {
     occurrences_at(src, head, mask, at) == 0
 }
 
-// 50, by the same mask: at most one variable occurrence in the test is of one of them.
+// 50, from the same mask: at most one variable occurrence in the test is of one of them.
 pub fn read_once(src: &[u8], head: Head, mask: u32, at: usize) -> bool
     ensures { λ out. ⌜ out ≡ leb (occurrences (inMask mask) (exprIn (now (src .entry)) (head .count) at)) 1 ⌝ }
 {

@@ -58,7 +58,7 @@ fn changes(n: u32, work: &[u64], r: u32, left: u32, right: u32) -> [u64; RELATIO
     union_of(n, &outer, rows_of(work, right))
 }
 
-// Condition 66 at s. What is reached from s is asked only where both children's Q lead outside Q.
+// Condition 66 at s. The reach from s is computed only if some end of both children's Q is outside Q.
 fn joint_post_at(
     n: u32,
     work: &[u64],

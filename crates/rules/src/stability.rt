@@ -1,4 +1,4 @@
-// 31 to 33: what others do keeps P, and Q takes it in before and after.
+// 31 to 33: changes by others keep P, and Q absorbs them before and after.
 use crate::tables::chains_into;
 use crate::tables::leads_into;
 use crate::tables::rows_of;
@@ -11,7 +11,7 @@ ghost use Rattle.states.specs.Search.{holds};
 ghost use Rattle.semantics.specs.Conditions.{c31, c32, c33};
 ghost use Rattle.rules.specs.Words.{wordSpec};
 
-// What others do, by condition: P is stable under it (31), and Q takes it in before (32) and after (33).
+// Which of the three hold: P is stable under R (31), and Q absorbs R before (32) and after (33).
 pub struct Stability {
     pub pre: bool,
     pub before: bool,
@@ -19,7 +19,7 @@ pub struct Stability {
 }
 
 // 31: s in P, (s,t) in R: t in P. 32: s in P, (s,t) in R, (t,u) in Q: (s,u) in Q. 33: s in P, (s,t) in Q, (t,u) in R: (s,u) in Q.
-// Every rule asks the three, so the states that start a pair of R are found once; where none does, others do nothing.
+// Every rule checks the three, so the states that start a pair of R are found once; if there are none, others do nothing.
 pub fn stable_under_rely(n: u32, work: &[u64], own: Names) -> Stability
     ensures pre { λ out. ⌜ out .pre ≡ holds (c31 n (wordSpec n (now (work .entry)) own)) ⌝ }
     ensures before { λ out. ⌜ out .before ≡ holds (c32 n (wordSpec n (now (work .entry)) own)) ⌝ }

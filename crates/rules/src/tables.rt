@@ -1,5 +1,5 @@
-// The tables in the work words, by number, and what the conditions compare: entry i is set i, and the rows of relation r start at
-// entry 16 + CAPACITY r. Any n and any words will do: only the states below n are looked at, and an entry past the end is empty.
+// The tables in the work words, by number, and what the conditions compare: entry i is set i, and the rows of relation r start at entry
+// 16 + CAPACITY r. Any n and any words are accepted: only the states below n are looked at, and an entry past the end is empty.
 use derivation::MOST_TABLES;
 use states::CAPACITY;
 use states::StateSet;
@@ -38,7 +38,7 @@ pub fn row_at(n: u32, work: &[u64], r: u32, s: u32) -> StateSet
     row(n, rows_of(work, r), s)
 }
 
-// Whether every pair of relation r that starts in the one set ends in the other.
+// Whether every pair of relation r that starts in `from` ends in `into`.
 pub fn leads_into(n: u32, work: &[u64], from: StateSet, r: u32, into: StateSet) -> bool
     ensures { λ out.
         ⌜ out ≡ holds (inSet n (has from) (λ s. inSet n (wordRelation n (now (work .entry)) r s) (λ t. must (has into t)))) ⌝ }
@@ -46,8 +46,8 @@ pub fn leads_into(n: u32, work: &[u64], from: StateSet, r: u32, into: StateSet) 
     image(n, from, rows_of(work, r)).included(into)
 }
 
-// Whether every pair of relation a from s to a state of the set through, with a pair of b that goes on from it, makes a pair of
-// whole. If whole relates s to every state, there is nothing to ask.
+// Whether `whole` has (s,u) for all pairs (s,t) of `a` and (t,u) of `b` with t in `through`. If `whole`
+// relates s to every state, the condition holds.
 fn row_chains_into(
     n: u32,
     work: &[u64],
@@ -69,8 +69,7 @@ fn row_chains_into(
     }
 }
 
-// Whether every pair of relation a that starts in the one set and ends in the other, with a pair of b that goes on from it, makes a
-// pair of whole.
+// Whether `whole` has (s,u) for all pairs (s,t) of `a` and (t,u) of `b` with s in `from` and t in `through`.
 pub fn chains_into(
     n: u32,
     work: &[u64],
@@ -104,7 +103,7 @@ fn stays_at(n: u32, work: &[u64], from: StateSet, r: u32, s: u32) -> bool
     }
 }
 
-// Whether relation r has the pair (s,s) of every state s of a set.
+// Whether relation r has the pair (s,s) for every state s of a set.
 pub fn stays(n: u32, work: &[u64], from: StateSet, r: u32) -> bool
     ensures { λ out. ⌜ out ≡ holds (inSet n (has from) (λ s. must (wordRelation n (now (work .entry)) r s s))) ⌝ }
 {
@@ -122,7 +121,7 @@ fn row_lies_in(n: u32, work: &[u64], a: u32, b: u32, s: u32) -> bool
     row_at(n, work, a, s).included(row_at(n, work, b, s))
 }
 
-// Whether every pair of relation a is one of b. A table lies in itself: children often have their parent's by number.
+// Whether every pair of relation a is one of b. A table lies in itself: children often name the same table as their parent.
 pub fn lies_in(n: u32, work: &[u64], a: u32, b: u32) -> bool
     ensures { λ out.
         ⌜ out ≡ relationLiesIn n (wordRelation n (now (work .entry)) a) (wordRelation n (now (work .entry)) b) ⌝ }
@@ -145,7 +144,7 @@ pub fn same_set(n: u32, a: StateSet, b: StateSet) -> bool
     a.meet(states).same(b.meet(states))
 }
 
-// A table is the same as itself and needs no look.
+// Whether a and b have the same pairs. A table is the same as itself and need not be compared.
 pub fn same_relation(n: u32, work: &[u64], a: u32, b: u32) -> bool
     ensures { λ out.
         ⌜ out ≡ sameRelation n (wordRelation n (now (work .entry)) a) (wordRelation n (now (work .entry)) b) ⌝ }
@@ -190,7 +189,7 @@ fn row_ends_in(n: u32, work: &[u64], part: u32, a: u32, p: u32, s: u32) -> bool
     )
 }
 
-// Whether relation part is the pairs of a that end in set p.
+// Whether relation part has exactly the pairs of a that end in set p.
 pub fn is_ending_in(n: u32, work: &[u64], part: u32, a: u32, p: u32) -> bool
     ensures { λ out.
         ⌜ out ≡ sameRelation n (wordRelation n (now (work .entry)) part)

@@ -1,4 +1,4 @@
--- What a list of conditions says where none of them is broken, and which statement condition 30 says is at hand.
+-- What follows if no condition of a list is broken, and which statement is at hand by condition 30.
 use Prim.Native.Nat.{ℕ}
 use mathlib.Core.Path.{_≡_, refl, sym, _∙_, ap}
 use mathlib.Core.Bool.{Bool, true, _&&_}
@@ -34,7 +34,7 @@ pub neither : (a b : Option Broken) → orBroken a b ≡ none → (a ≡ none) �
 neither none b e = (refl, e)
 neither (some x) b e = absurd (Option·none-ne-some _ (sym e))
 
--- A statement is made of its code and its parts: condition 30 tells which it is.
+-- The statement with code k and the parts of S. By condition 30 it is S.
 abbrev pub made : ℕ → Stmt → Stmt
 made k S =
     getD (nil ∷ assign (targetOf S) (exprOf S) ∷ seq (firstOf S) (secondOf S) ∷ par (firstOf S) (secondOf S)

@@ -38,7 +38,7 @@ isLit (lit c) = true
 isLit (var v) = false
 isLit (op o l r) = false
 
--- An expression is not both a literal and what no literal is.
+-- If no literal passes a test, no expression both is a literal and passes it.
 if-lit : (e : Expr) (p : Expr → Bool) → ((c : Val) → p (lit c) ≡ false) → (isLit e && p e) ≡ false
 if-lit (lit c) p h = h c
 if-lit (var v) p h = refl
@@ -98,7 +98,7 @@ each-only : {F : Config → Type 0} (b : Bool) (c : Config) → (b ≡ true → 
 each-only true c f = and (f refl) end
 each-only false c f = end
 
--- The left part's n steps, the right part's j, and the one between them.
+-- A sequence takes the left part's n steps, the right part's j, and one between them.
 pub safe-seq : {m : Machine} {R G : ℕ → ℕ → Type 0} {Y Z : ℕ → Type 0} (k n j : ℕ) {L T : Stmt} {s : ℕ} → n + j < k
     → Safe m R G Y n L s → ((t : ℕ) → Y t → Safe m R G Z j T t) → Safe m R G Z k (seq L T) s
 safe-seq zero n j lt x y = absurd (omega arith)
@@ -114,8 +114,8 @@ safe-seq (suc k) n j {L} {T} lt x y =
           (each-only (isNil L) (at T t) (λ h. (inl refl, later (safe-more (omega arith) (y t (now .ended h))))));
     })
 
--- What the two sides of a parallel owe each other: each one's rely allows the others' changes and the other side's steps, and
--- the steps of both keep the guarantee.
+-- What holds between the two sides of a parallel: each side's rely allows the changes of others and the other side's steps, and
+-- the steps of both sides keep the guarantee.
 pub record Joint (R G RL GL RR GR : ℕ → ℕ → Type 0) : Type 0 where
   pub others-left : (a b : ℕ) → R a b → RL a b
   pub right-left : (a b : ℕ) → GR a b → RL a b
@@ -124,7 +124,7 @@ pub record Joint (R G RL GL RR GR : ℕ → ℕ → Type 0) : Type 0 where
   pub left-kept : (a b : ℕ) → GL a b → G a b
   pub right-kept : (a b : ℕ) → GR a b → G a b
 
--- A step of one side, as interference for another.
+-- A step of one side, as interference for the other.
 kept-star : {G R : ℕ → ℕ → Type 0} → ((a b : ℕ) → G a b → R a b) → {t u : ℕ} → (u ≡ t) ⊎ G t u → Star R t u
 kept-star f (inl e) = rw e stay
 kept-star f (inr g) = star-one (f _ _ g)
@@ -133,7 +133,7 @@ kept-star f (inr g) = star-one (f _ _ g)
 abbrev pub Change : (R GL GR : ℕ → ℕ → Type 0) → ℕ → ℕ → Type 0
 Change R GL GR a b = R a b ⊎ (GL a b ⊎ GR a b)
 
--- Both sides' steps and the last one. The postcondition may use that the present state was reached from s₀ by changes of all three.
+-- A parallel takes both sides' steps and a last one. The postcondition may use that the present state is reached from s₀ by `Change`.
 pub safe-par : {m : Machine} {R G RL GL RR GR : ℕ → ℕ → Type 0} {ZL ZR Z : ℕ → Type 0} → Joint R G RL GL RR GR
     → (k n j : ℕ) {L T : Stmt} (s₀ : ℕ) {s : ℕ} → n + j < k → Star (Change R GL GR) s₀ s
     → ((t : ℕ) → Star (Change R GL GR) s₀ t → ZL t → ZR t → Z t)

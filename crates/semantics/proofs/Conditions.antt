@@ -1,4 +1,4 @@
--- What the executable conditions say: a search that finds no breach is the condition in its logical form.
+-- What the executable conditions mean: if the search finds no breach, the condition holds in its logical form.
 use Prim.Native.Nat.{ℕ, _≤_, _<_}
 use mathlib.Core.Path.{_≡_, refl, sym, _∙_, ap}
 use mathlib.Core.Bool.{Bool, true, false, _&&_, _||_, false≢true}
@@ -22,7 +22,7 @@ use Rattle.semantics.proofs.Composition.{Change}
 use Rattle.semantics.proofs.Descent.{Descending}
 use Rattle.semantics.proofs.Reading.{Stable}
 
--- The tables of a node speak of the N states only.
+-- The tables of a node have states below N only.
 pub record TablesWithin (N : ℕ) (c : Spec) : Type 0 where
   pub P-in : (s : ℕ) → c .P s ≡ true → s < N
   pub R-in : Between N (c .R)
@@ -40,7 +40,7 @@ relation-in t i s u h =
 pub tables-within : (t : Tables) (h : Names) → TablesWithin (t .machine .states) (specOf t h)
 tables-within t h = record { P-in = set-in t (h .p); R-in = relation-in t (h .r); G-in = relation-in t (h .g); Q-in = relation-in t (h .q) }
 
--- A value that a test finds.
+-- `isTruth b` passes for the value `truth b` only.
 pub is-truth : (b : Bool) (o : Option Val) → isTruth b o ≡ true → o ≡ some (truth b)
 is-truth b none h = absurd (false≢true h)
 is-truth b (some (int z)) h = absurd (false≢true h)
@@ -64,7 +64,7 @@ unnamed s none h = refl
 unnamed s (some found) h = absurd (Option·none-ne-some _ (sym h))
 
 module _ (m : Machine) where
-  -- A search over a set of states that finds no breach finds none at any member.
+  -- If a search over a set of states finds no breach, there is none at any member.
   pub at-member : (p : ℕ → Bool) (f : ℕ → Search) → ((s : ℕ) → p s ≡ true → s < m .states) → inSet (m .states) p f ≡ none
       → (s : ℕ) → p s ≡ true → f s ≡ none
   unfolding inSet
@@ -89,7 +89,7 @@ module _ (m : Machine) where
   lies-in r q inside h s t x =
       set-lies-in (r s) (q s) (λ u y. inside s u y .1) (all-at (m .states) _ h s (inside s t x .0)) t x
 
-  -- The state that a store leaves, from the searches of 40, 42 and 43 at one start.
+  -- The state after a store, from the searches of 40, 42 and 43 at one state.
   stored-at : (c : Spec) (s : ℕ) (o : Option ℕ) → inRange o ≡ true → toAfter o (λ s′. must (c .Q s s′)) ≡ none
       → toAfter o (λ s′. must (eqb s′ s || c .G s s′)) ≡ none
       → (s′ : ℕ) × (o ≡ some s′) × (c .Q s s′ ≡ true) × ((s′ ≡ s) ⊎ (c .G s s′ ≡ true))
@@ -119,7 +119,7 @@ module _ (m : Machine) where
     unfolding c35
     says35 e s p = must-none _ (at-member (c .P) _ (w .P-in) e s p)
 
-    -- 31, and what "moves" leaves alone.
+    -- 31, and that a variable keeps its value if R does not move it.
     pub stable : c31 (m .states) c ≡ none → Stable m (λ s. c .P s ≡ true) (λ s t. c .R s t ≡ true) (moves m c)
     unfolding moves
     stable e = record {
@@ -147,7 +147,7 @@ module _ (m : Machine) where
     unfolding c41 unmoved
     says41 e h = eqb-true _ 0 (must-none _ h)
 
-    -- A test's value at a state of P, as membership of the states where it is true or false.
+    -- The value of a test at a state of P, as membership in the states at which it is true or false.
     pub true-at : (e : Expr) (s : ℕ) → c .P s ≡ true → value m e s ≡ some (truth true) → isTrue m e s ≡ true
     unfolding isTrue
     true-at e s p is = and-both _ _ (lt-ltb s _ (w .P-in s p)) (truth-is true _ is)
@@ -222,7 +222,7 @@ module _ (m : Machine) where
           must-none _ (at-member (r .Q t) _ (λ x i. wr .Q-in t x i .1)
           (at-member (l .Q s) _ (λ x i. wl .Q-in s x i .1) (at-member (c .P) _ (w .P-in) h s p) t q) u q′)
 
-      -- What others or either side may do, as the pairs of 66.
+      -- The changes that others or either side may make: the pairs of 66.
       anyone : ℕ → ℕ → Bool
       anyone a b = c .R a b || l .G a b || r .G a b
 

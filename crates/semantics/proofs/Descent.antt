@@ -1,5 +1,5 @@
--- How many rounds a while can have: a chain of W never comes back to a state, so that leaving a state strikes it off the list
--- of those still ahead.
+-- How many rounds a while can have: a chain of W never returns to a state, so each state that it leaves is removed from
+-- the list of those that may still follow.
 use Prim.Native.Nat.{ℕ, zero, suc, _-_, _<_}
 use native.Mathlib.Omega.{arith}
 use native.Mathlib.Decide.{ℕ-discrete}
@@ -21,7 +21,7 @@ Short W (suc k) s = (t : ℕ) → W s t → Short W k t
 abbrev Listed : ℕ → (ℕ → ℕ) → ℕ → Type 0
 Listed k list t = (i : ℕ) × (i < k) × (list i ≡ t)
 
--- The list with its last state in the place of the i-th, which is struck off: every other state is still listed.
+-- The list without its i-th state, whose place the last one takes. Every other state is still listed.
 abbrev strike : ℕ → ℕ → (ℕ → ℕ) → ℕ → ℕ
 strike k i list j = ite (ℕ-discrete j i) (list k) (list j)
 
@@ -37,7 +37,7 @@ module _ {N : ℕ} {W : ℕ → ℕ → Type 0} (w : Descending N W) where
   never-back : {s t : ℕ} → W s t → t ≢ s
   never-back {s} r e = w .irreflexive s (subst (W s) e r)
 
-  -- From a listed state whose successors are listed, each pair strikes one off.
+  -- From a listed state whose successors are listed, each pair of a chain removes one state.
   short-within : (k : ℕ) (list : ℕ → ℕ) (s : ℕ) → Listed (suc k) list s → ((t : ℕ) → W s t → Listed (suc k) list t) → Short W k s
   short-within zero list s i next = λ t r.
       let (j, below, at) = still-listed zero list s t i (never-back r) (next t r) in omega arith
@@ -50,7 +50,7 @@ module _ {N : ℕ} {W : ℕ → ℕ → Type 0} (w : Descending N W) where
       let all : suc (N - 1) ≡ N = omega arith in
       short-within (N - 1) (λ t. t) s (s, omega arith, refl) (λ t r. (t, omega (arith, w .bounded s t r), refl))
 
-  -- Along W a chain grows no longer.
+  -- A bound on the chains from s also holds for the chains from its successors.
   pub short-later : (k : ℕ) {s t : ℕ} → Short W k s → W s t → Short W k t
   short-later zero h r = λ u q. h u (w .transitive _ _ u r q)
   short-later (suc k) h r = λ u q. h u (w .transitive _ _ u r q)

@@ -1,6 +1,6 @@
--- Reading under interference: whatever state others leave, the remainder of an expression has there the value that the whole
--- had at some state since the start. A step that reads the one moved occurrence leaves none, so that the value is settled;
--- any other step changes no value.
+-- Reading under interference: in any state that others leave, the rest of an expression has the value that the whole
+-- had at some state since the start. A step that reads the one moved occurrence leaves none, so the value no longer
+-- changes; any other step changes no value.
 use Prim.Native.Nat.{ℕ, zero, suc, _+_, _≤_, _<_}
 use native.Mathlib.Omega.{arith}
 use mathlib.Core.Path.{_≡_, refl, sym, _∙_, ap, ap₂}
@@ -16,21 +16,21 @@ use Rattle.semantics.specs.StepNumber.{E}
 use Rattle.semantics.specs.Conditions.{occurrences}
 use Rattle.semantics.proofs.Safe.{Star, stay, then, star-trans, star-keeps, Each, end, and, each-append, each-map, each-imp, Kept, Safe, Now, Later, later, safe-intro, safe-more}
 
--- The rely keeps P, and from a state of P it keeps every variable that it is not said to move.
+-- The rely keeps P, and from a state of P it keeps every variable that is not in `moved`.
 pub record Stable (m : Machine) (P : ℕ → Type 0) (R : ℕ → ℕ → Type 0) (moved : ℕ → Bool) : Type 0 where
   pub closed : (s t : ℕ) → P s → R s t → P t
   pub fixed : (v : ℕ) → moved v ≡ false → (s t : ℕ) → P s → R s t → m .get s v ≡ m .get t v
 
--- A step from expression e to d at state t: one step cheaper, and of the same value, there and at every later state unless it
--- read a moved variable.
+-- A step from expression e to d at state t: d takes one step fewer, and has the same value, at t and, unless the step
+-- read a moved variable, at every later state.
 record ExprStep (m : Machine) (R : ℕ → ℕ → Type 0) (moved : ℕ → Bool) (t : ℕ) (e d : Expr) : Type 0 where
   cheaper : E e ≡ suc (E d)
   no-more : occurrences moved d ≤ occurrences moved e
   here : value m e t ≡ value m d t
   beyond : (occurrences moved d < occurrences moved e) ⊎ ((u : ℕ) → Star R t u → value m e u ≡ value m d u)
 
--- Of e, read from state s on, d is left at t: whatever state u others leave, d has there the value that e had at some state
--- between s and u.
+-- Reading e began at state s, and d is left at t: in any state u that others leave, d has the value
+-- that e had at some state between s and u.
 record Reading (m : Machine) (R : ℕ → ℕ → Type 0) (moved : ℕ → Bool) (s : ℕ) (e d : Expr) (t : ℕ) : Type 0 where
   since : Star R s t
   few : occurrences moved d ≤ 1
@@ -58,7 +58,7 @@ module _ {m : Machine} {P : ℕ → Type 0} {R : ℕ → ℕ → Type 0} {moved 
   pub still-in : {s t : ℕ} → P s → Star R s t → P t
   still-in p r = star-keeps (σ .closed) r p
 
-  -- What each pair of the rely keeps from a state of P, zero or more keep.
+  -- What each pair of the rely keeps from a state of P, zero or more pairs keep.
   pub still : (F : ℕ → Type 0) → ((s t : ℕ) → P s → F s → R s t → F t) → {s t : ℕ} → P s → Star R s t → F s → F t
   still F keeps p stay f = f
   still F keeps p (then r q) f = still F keeps (σ .closed _ _ p r) q (keeps _ _ p f r)
@@ -114,11 +114,11 @@ module _ {m : Machine} {P : ℕ → Type 0} {R : ℕ → ℕ → Type 0} {moved 
       (each-append _ _ (each-map (λ d. op o d r) (step-left o r t l) _ (expr-steps l t p at-l))
       (each-map (λ d. op o l d) (step-right o l t r) _ (expr-steps r t p at-r))) (step-result o l r t h)
 
-  -- Others act: the remainder stays, and it has no more possible values than before.
+  -- Interference keeps `Reading`: the rest of the expression does not change.
   reading-later : {s t u : ℕ} {e d : Expr} → Star R t u → Reading m R moved s e d t → Reading m R moved s e d u
   reading-later r now = record { since = star-trans (now .since) r; few = now .few; was = λ x q. now .was x (star-trans r q) }
 
-  -- The handler makes a step.
+  -- A step of the handler keeps `Reading`.
   reading-on : {s t : ℕ} {e d d′ : Expr} → P t → ExprStep m R moved t d d′ → Reading m R moved s e d t → Reading m R moved s e d′ t
   reading-on {t} {d′} p step now = record {
     since = now .since;
@@ -129,8 +129,8 @@ module _ {m : Machine} {P : ℕ → Type 0} {R : ℕ → ℕ → Type 0} {moved 
         (λ same. let (τ, a, b, was) = now .was u r in (τ, a, b, was ∙ same u r)) (step .beyond);
   }
 
-  -- A statement that evaluates e from a state of P, e having a value at each of them, is safe for more than E e + j steps, if its
-  -- last step, made anywhere with a value that e had since the start, leaves what is safe for j.
+  -- Let e have a value at every state of P. A statement that evaluates e from a state of P is safe for more than E e + j steps if its
+  -- last step, at any state and with a value that e had since the start, leaves a statement that is safe for j.
   module _ {G : ℕ → ℕ → Type 0} {Z : ℕ → Type 0} {C : Expr → Stmt} {last : Expr → ℕ → List (Option Config)} (context : Context m C last)
       (e : Expr) {s j : ℕ} (p : P s) (defined : (u : ℕ) → P u → (w : Val) × (value m e u ≡ some w))
       (finish : (τ u : ℕ) (w : Val) → Star R s τ → Star R τ u → value m e τ ≡ some w

@@ -1,5 +1,4 @@
--- The rules for assignment, if and while: from a node's conditions, in their logical form, to a statement that is safe for
--- its step number.
+-- The rules for assignment, if and while: a node's conditions, in their logical form, make its statement safe for its step number.
 use Prim.Native.Nat.{ℕ, zero, suc, _+_, _-_, _*_, _≤_, _<_}
 use native.Mathlib.Omega.{arith}
 use mathlib.Core.Path.{_≡_, refl, sym, _∙_, ap, subst}
@@ -16,7 +15,7 @@ use Rattle.semantics.proofs.Composition.{can-end, safe-nil, safe-seq}
 use Rattle.semantics.proofs.Reading.{Stable, Context, still-in, still, unmoved-value, evaluate}
 use Rattle.semantics.proofs.Descent.{Descending, Short, short-below, short-later}
 
--- What assignment and if share: nothing that they read moves, and the rely may act before and after.
+-- What assignment and if share: R moves nothing that they read, and the rely may act before and after.
 pub record Undisturbed (m : Machine) (P : ℕ → Type 0) (R Q : ℕ → ℕ → Type 0) (moved : ℕ → Bool) (e : Expr) : Type 0 where
   pub stable : Stable m P R moved  -- 31
   pub before : (s t u : ℕ) → P s → R s t → Q t u → Q s u  -- 32
@@ -52,12 +51,12 @@ assigning m v = record { unended = λ e. refl; turn = λ e s. refl; waits-var = 
 testing : (m : Machine) (b : Stmt) → Context m (λ e. if e b) (λ e s. branch e b s)
 testing m b = record { unended = λ e. refl; turn = λ e s. refl; waits-var = λ w s. refl; waits-op = λ o l r s. refl }
 
--- What is stored is a value.
+-- A store that has a result stores a value.
 has-value : (m : Machine) (s v : ℕ) (o : Option Val) {s′ : ℕ} → storeOf m s v o ≡ some s′ → (w : Val) × (o ≡ some w)
 has-value m s v none h = absurd (Option·none-ne-some _ h)
 has-value m s v (some w) h = (w, refl)
 
--- A test that is a truth value makes one of two last steps.
+-- A test that is a truth value has one of two last steps.
 either-branch : {F : Config → Type 0} {o : Option Val} (w : Val) (b : Stmt) (u : ℕ) → o ≡ some w → (c : Bool) × (o ≡ some (truth c))
     → (o ≡ some (truth true) → F (at b u)) → (o ≡ some (truth false) → F (at nil u)) → Each F (branch (lit w) b u)
 either-branch (int z) b u is (c, has) taken passed = absurd (let clash : _≡_ {A = ℕ} 0 1 = cc in omega arith)
@@ -65,7 +64,7 @@ either-branch (truth true) b u is decided taken passed = and (taken is) end
 either-branch (truth false) b u is decided taken passed = and (passed is) end
 
 module _ {m : Machine} {P : ℕ → Type 0} {R Q : ℕ → ℕ → Type 0} {moved : ℕ → Bool} {e : Expr} (c : Undisturbed m P R Q moved e) where
-  -- 32 over all that others do before, and 33 over all that they do after.
+  -- 32 for any number of changes by others before, and 33 for any number after.
   begun-before : {s t u : ℕ} → P s → Star R s t → Q t u → Q s u
   begun-before p stay q = q
   begun-before p (then r rs) q = c .before _ _ _ p r (begun-before (c .stable .closed _ _ p r) rs q)
@@ -73,7 +72,7 @@ module _ {m : Machine} {P : ℕ → Type 0} {R Q : ℕ → ℕ → Type 0} {move
   ended-after : {s t u : ℕ} → P s → Q s t → Star R t u → Q s u
   ended-after p q r = star-keeps (λ a b h x. c .after _ a b p h x) r q
 
-  -- The value read is that of the present state.
+  -- The value read is the value at the present state.
   present : {s τ u : ℕ} {w : Val} → P s → Star R s τ → Star R τ u → value m e τ ≡ some w → value m e u ≡ some w
   present p a b has = sym (unmoved-value (c .stable) e (c .unmoved) (still-in (c .stable) p a) b) ∙ has
 
@@ -110,14 +109,14 @@ module _ {m : Machine} {P : ℕ → Type 0} {R G Q : ℕ → ℕ → Type 0} {mo
       let d = c .undisturbed in
       evaluate (d .stable) (testing m b) e p (λ u p. (_, c .decided u p .1)) branch-step (E e + 1 + n) (omega (arith, d .unmoved)) (omega arith)
 
--- Where a while that began at s may begin a round, with at most k more rounds to follow.
+-- A while that began at s may begin a round at t, with at most k more rounds to follow.
 record Round (P : ℕ → Type 0) (W : ℕ → ℕ → Type 0) (s k t : ℕ) : Type 0 where
   began : P s
   in-P : P t
   reached : (t ≡ s) ⊎ W s t
   short : Short W k t
 
--- What k bodies cost, each with the step to the while after it, and that while's own step, its test and its branch.
+-- The steps of k more rounds: each has a body, the step to the while after it, and that while's own step, its test and its branch.
 abbrev ahead : ℕ → ℕ → ℕ → ℕ
 ahead test body k = k * (test + 2) + k * (body + 1)
 
@@ -142,15 +141,15 @@ module _ {m : Machine} {P K : ℕ → Type 0} {R G Q W : ℕ → ℕ → Type 0}
     short = still-short k (h .short) (c .advances a b (h .in-P) r);
   })
 
-  -- False once, the test is false from then on (54), so that the while may end (56).
+  -- Once the test is false it stays false (54), so the while may end (56).
   may-end : {s k t : ℕ} → Round P W s k t → value m e t ≡ some (truth false) → (u : ℕ) → Star R t u → Q s u
   may-end {s} round is u r =
       let at-u = round-later r round in
       c .exits s u (at-u .began) (at-u .reached) (at-u .in-P)
       (still (c .stable) (λ x. value m e x ≡ some (truth false)) (c .stays-false) (round .in-P) r is)
 
-  -- The test of a round that began at t was read at τ. Where it was true, τ is in K (52) and so is the present state (53), at
-  -- which the body may begin.
+  -- The test of a round that began at t was read at τ. If it was true, τ is in K (52) and so is the present
+  -- state (53), at which the body may begin.
   test-step : {s k j t : ℕ} → Round P W s k t → ((u : ℕ) → Round P W s k u → K u → Safe m R G (Q s) j (seq b (while e b)) u)
       → (τ u : ℕ) (w : Val) → Star R t τ → Star R τ u → value m e τ ≡ some w
       → Each (Kept G (λ c. Safe m R G (Q s) j (c .rest) (c .state)) u) (branch (lit w) (seq b (while e b)) u)
@@ -160,7 +159,7 @@ module _ {m : Machine} {P K : ℕ → Type 0} {R G Q W : ℕ → ℕ → Type 0}
       (λ is. (inl refl, body u (round-later y at-τ) (still (c .stable) K (c .enabled) (at-τ .in-P) y (c .enters τ (at-τ .in-P) is))))
       (λ is. (inl refl, safe-more (omega arith) (safe-nil (λ v r. may-end at-τ is v (star-trans y r)))))
 
-  -- A round is the while's own step, the test's, and the branch.
+  -- A round is the while's own step, the steps of its test, and the branch.
   round-safe : (j : ℕ) {s k : ℕ} → ((u : ℕ) → Round P W s k u → K u → Safe m R G (Q s) j (seq b (while e b)) u)
       → (t : ℕ) → Round P W s k t → Safe m R G (Q s) (suc (suc (E e + j))) (while e b) t
   round-safe j body t round = safe-intro (λ u r.
@@ -174,7 +173,7 @@ module _ {m : Machine} {P K : ℕ → Type 0} {R G Q W : ℕ → ℕ → Type 0}
         ) end;
       })
 
-  -- A body that may begin can end, and W leads to where it ends: so with no round to follow none begins.
+  -- A body that may begin can end, and W leads to its end. So if no round may follow, none begins.
   body-safe : (k : ℕ) {s : ℕ} (u : ℕ) → Round P W s k u → K u → Safe m R G (Q s) (ahead (E e) n k) (seq b (while e b)) u
   body-safe zero u round in-K =
       let (x, ends) = can-end n (c .body u (round .in-P) in-K) in absurd (round .short x (ends .0))

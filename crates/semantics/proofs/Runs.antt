@@ -1,5 +1,5 @@
--- From Safe to the promise: along a list of events each step keeps the guarantee and uses up one of n, so what is left is safe
--- for the rest of n; and a safe statement stands still nowhere and, unless it is nil, has an open step.
+-- From `Safe` to the promise. Along a list of events each step keeps the guarantee and uses one of n steps, so what remains is safe for
+-- the rest. A safe statement never stands still and, unless it is nil, has an open step.
 use Prim.Native.Nat.{ℕ, zero, suc, _+_, _≤_}
 use native.Mathlib.Omega.{arith}
 use mathlib.Core.Path.{_≡_, refl, subst}
@@ -35,7 +35,7 @@ module _ {F : Config → Type 0} where
   each-at (and f p) zero e = subst F (Option·some-injective _ _ e) f
   each-at (and f p) (suc k) e = each-at p k e
 
--- A run that goes on has made its step, or come to a state.
+-- If a run goes on after an event, the step of that event is open, or its state exists.
 step-made : (o : Option Config) (f : Config → Option Config) {now : Config} → onStep o none f ≡ some now → (c : Config) × (o ≡ some c)
 step-made none f e = absurd (Option·none-ne-some _ e)
 step-made (some c) f e = (c, refl)
@@ -52,7 +52,7 @@ module _ (m : Machine) (R G : ℕ → ℕ → Bool) (Z : ℕ → Type 0) where
   abbrev SafeHere : ℕ → Stmt → ℕ → Type 0
   SafeHere = Safe m (λ a b. R a b ≡ true) (λ a b. G a b ≡ true) Z
 
-  -- After a list of events the guarantee was kept, and what is left is safe for the steps that are left.
+  -- After a list of events the guarantee was kept, and what remains is safe for the steps that are left.
   along : (events : List Event) (n : ℕ) {S : Stmt} {s : ℕ} → SafeHere n S s → (now : Config) → run m events (at S s) ≡ some now
       → relyKept m R events (at S s) ≡ true
       → (left : ℕ) × (stepsMade events + left ≤ n) × SafeHere left (now .rest) (now .state)

@@ -1,6 +1,6 @@
--- What the proof of demand 3 carries along a run: a statement is safe for n more steps if, whatever the rely lets others do
--- first, it is at its end with the postcondition, or each of its turns is a step that keeps the guarantee and leaves a
--- statement that is safe for fewer. Interference keeps a statement safe, and so does weakening.
+-- The invariant of the proof of demand 3. A statement is safe for n more steps if, after any interference that keeps the rely, it is at
+-- its end with the postcondition, or each of its turns is a step that keeps the guarantee and leaves a statement that is safe for fewer.
+-- Interference keeps a statement safe, and so does weakening.
 use Prim.Native.Nat.{ℕ, zero, suc, _≤_}
 use native.Mathlib.Omega.{arith}
 use mathlib.Core.Path.{_≡_, refl}
@@ -48,7 +48,7 @@ module _ {R : ℕ → ℕ → Type 0} where
   star-map f stay = stay
   star-map f (then r p) = then (f _ _ r) (star-map f p)
 
-  -- What each pair keeps, zero or more keep.
+  -- What each pair keeps, zero or more pairs keep.
   pub star-keeps : {P : ℕ → Type 0} → ((s t : ℕ) → P s → R s t → P t) → {s t : ℕ} → Star R s t → P s → P t
   star-keeps f stay h = h
   star-keeps f (then r p) h = star-keeps f p (f _ _ h r)
@@ -67,7 +67,7 @@ module _ {A : Type 0} {F : A → Type 0} where
   each-imp g end = end
   each-imp g (and h p) = and (g _ h) (each-imp g p)
 
--- What a step leaves is safe for fewer steps than n.
+-- The statement that a step leaves is safe for fewer steps than n.
 pub data Later (m : Machine) (R G : ℕ → ℕ → Type 0) (Z : ℕ → Type 0) : ℕ → Config → Type 0 where
   later : {n : ℕ} {c : Config} → Safe m R G Z n (c .rest) (c .state) → Later m R G Z (suc n) c
 
@@ -75,7 +75,7 @@ pub later-left : {m : Machine} {R G : ℕ → ℕ → Type 0} {Z : ℕ → Type 
     → (k : ℕ) × (n ≡ suc k) × Safe m R G Z k (c .rest) (c .state)
 later-left (later {n} x) = (n, refl, x)
 
--- What Safe asks of each state that the rely reaches, for every n at once.
+-- What `Safe` requires at each state that the rely reaches, for every n at once.
 pub record Now (m : Machine) (R G : ℕ → ℕ → Type 0) (Z : ℕ → Type 0) (n : ℕ) (S : Stmt) (t : ℕ) : Type 0 where
   pub ended : isNil S ≡ true → Z t
   pub stepped : Each (Kept G (Later m R G Z n) t) (turns m S t)
@@ -103,7 +103,7 @@ module _ {m : Machine} {R G : ℕ → ℕ → Type 0} {Z : ℕ → Type 0} where
 -- Weakening: a smaller rely, a larger guarantee, a larger postcondition, more steps.
 module _ {m : Machine} {R R′ G G′ : ℕ → ℕ → Type 0} {Z Z′ : ℕ → Type 0}
     (rely : (a b : ℕ) → R′ a b → R a b) (guarantee : (a b : ℕ) → G a b → G′ a b) (post : (a : ℕ) → Z a → Z′ a) where
-  -- The same, where it holds of what the steps leave.
+  -- If this holds for what the steps leave, it holds for the statement.
   weaken-safe : {n k : ℕ} → ((c : Config) → Later m R G Z n c → Later m R′ G′ Z′ k c)
       → {S : Stmt} {s : ℕ} → Safe m R G Z n S s → Safe m R′ G′ Z′ k S s
   weaken-safe fewer x =

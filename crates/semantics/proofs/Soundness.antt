@@ -31,7 +31,7 @@ module _ (m : Machine) where
   abbrev SafeAt : Spec → ℕ → Stmt → ℕ → Type 0
   SafeAt c n S s = Safe m (λ a b. c .R a b ≡ true) (λ a b. c .G a b ≡ true) (λ u. c .Q s u ≡ true) n S s
 
-  -- Tables with the same members, from the one to the other.
+  -- If two tables are the same, a member of one is a member of the other.
   into : (r q : ℕ → ℕ → Bool) → Between (m .states) q → sameRelation (m .states) r q ≡ true → (s t : ℕ) → q s t ≡ true → r s t ≡ true
   into r q bounds same s t h = same-relation m r q same s t (bounds s t h .0) (bounds s t h .1) ∙ h
 
@@ -41,13 +41,13 @@ module _ (m : Machine) where
   into-set : (p q : ℕ → Bool) → ((s : ℕ) → q s ≡ true → s < m .states) → sameSet (m .states) p q ≡ true → (s : ℕ) → q s ≡ true → p s ≡ true
   into-set p q below same s h = same-set m p q same s (below s h) ∙ h
 
-  -- What every node of an assignment or an if owes before anything else.
+  -- What assignment and if share, from 31 to 33 and from 41 or 45.
   undisturbed : (c : Spec) → TablesWithin (m .states) c → (e : Expr) → c31 (m .states) c ≡ none → c32 (m .states) c ≡ none → c33 (m .states) c ≡ none → occurrences (moves m c) e ≡ 0
       → Undisturbed m (λ s. c .P s ≡ true) (λ a b. c .R a b ≡ true) (λ a b. c .Q a b ≡ true) (moves m c) e
   undisturbed c w e e31 e32 e33 still =
       record { stable = stable m c w e31; before = says32 m c w e32; after = says33 m c w e33; unmoved = still }
 
-  -- 34 of an if and of a while: the body's tables are the node's own R and G, with another P and Q.
+  -- 34 for an if and a while: the body has the node's own R and G, and another P and Q.
   record Body (c d : Spec) (P′ : ℕ → Bool) (Q′ : ℕ → ℕ → Bool) : Type 0 where
     enters : (s : ℕ) → P′ s ≡ true → d .P s ≡ true
     rely : (s t : ℕ) → c .R s t ≡ true → d .R s t ≡ true
@@ -159,7 +159,7 @@ module _ (t : Tables) where
   Sound d S =
       (s : ℕ) → specOf t (namesOf d) .P s ≡ true → SafeAt (t .machine) (specOf t (namesOf d)) (steps (t .machine .states) S) S s
 
-  -- What is safe for the statement that condition 30 says is at a node is safe for the statement at hand.
+  -- By condition 30 the statement at hand is `made k S`, so it is enough to prove `Sound` for that.
   as-made : (d : Derivation) (S : Stmt) (k : ℕ) → must (eqb (statementCode S) k) ≡ none → kindsFit S ≡ true
       → (kindsFit (made k S) ≡ true → Sound d (made k S)) → Sound d S
   as-made d S k e30 kinds safe =

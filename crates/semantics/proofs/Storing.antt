@@ -1,6 +1,6 @@
--- Storing and reading agree, so that a reader need not trust `weight`: after a store its variable holds the stored value and every
--- other variable what it held; and a state's number is made of its values, variable 0 most significant. By recursion on the sizes:
--- with `row` for the number of states of the later variables, the first value of s is s / row, and s % row is a state of the later.
+-- Storing and reading agree, so `weight` need not be trusted: after a store its variable holds the stored value and every other variable
+-- is unchanged; and a state's number is that of its values, variable 0 most significant. By recursion on the sizes: if the later
+-- variables have `row` states, the first value of s is s / row, and s % row is a state of the later variables.
 use Prim.Native.Nat.{ℕ, zero, suc, _+_, _-_, _*_, _/_, _%_, _≤_, _<_}
 use native.Mathlib.Nat.{add-zero, mul-zero, mul-assoc, mod-one, mod-lt, mod-eq-of-lt, mod-le, div-eq-of-lt, div-add-mod', div-lt-iff-lt-mul, div-mul-le-self, mul-add-div-right, mul-add-mod-self-right, mul-le-mul-right}
 use native.Mathlib.Omega.{arith}
@@ -20,11 +20,10 @@ pub record StoreRead (sizes : List ℕ) (s v : ℕ) (z : ℤ) (s′ : ℕ) : Typ
   pub state : s′ < product sizes
   -- the variable holds z
   pub holds : machineOf sizes .get s′ v ≡ z
-  -- every other variable holds what it held
+  -- every other variable is unchanged
   pub others : (w : ℕ) → (w ≡ v → ⊥) → machineOf sizes .get s′ w ≡ machineOf sizes .get s w
 
--- The number of the state in which each variable has its value of these: one more of a value counts the states of the later
--- variables.
+-- The number of the state with these values: each value is multiplied by the number of states of the later variables.
 abbrev pub numberOf : List ℕ → (ℕ → ℕ) → ℕ
 numberOf [] values = 0
 numberOf (size ∷ sizes) values = values 0 * product sizes + numberOf sizes (λ v. values (suc v))
@@ -68,7 +67,7 @@ value-within : (sizes : List ℕ) (s v : ℕ) → valueOf sizes s v * weight siz
 value-within sizes s v =
     omega (arith, mul-le-mul-right (weight sizes v) (mod-le (s / weight sizes v) (getD sizes v 1)), div-mul-le-self s (weight sizes v))
 
--- The state that a store of a value in range leads to.
+-- The state after a store of a value in range.
 abbrev put : List ℕ → ℕ → ℕ → ℕ → ℕ
 put sizes s v n = s - valueOf sizes s v * weight sizes v + n * weight sizes v
 
@@ -118,7 +117,7 @@ put-reads (size ∷ sizes) s (suc v) n h low =
     let rest = split size (product sizes) s h in
     put-later size sizes s rest v n (put-reads sizes (s % product sizes) v n (rest .left) low)
 
--- Every store that has a result, of any integer in any variable, at any state.
+-- This holds for every store that has a result, of any integer in any variable, at any state.
 pub store-read : (sizes : List ℕ) (s v : ℕ) (z : ℤ) (s′ : ℕ) → s < product sizes → machineOf sizes .store s v z ≡ some s′ → StoreRead sizes s v z s′
 store-read sizes s v (negsuc n) s′ h made = absurd (Option·none-ne-some _ made)
 store-read sizes s v (pos n) s′ h made = by (ltb n (getD sizes v 1)) refl made

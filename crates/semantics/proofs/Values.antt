@@ -1,5 +1,5 @@
--- Where the kinds fit, an expression has a value of its kind at every state: the kind of an operation's result depends on the
--- kinds of its operands alone, and by the table of rows it is the row's.
+-- If the kinds fit, an expression has a value of its kind at every state: the kind of an operation's result depends only on the kinds of
+-- its operands, and it is the one in the row.
 use Prim.Native.Nat.{ℕ}
 use mathlib.Core.Path.{_≡_, refl, sym, _∙_, ap, subst₂}
 use mathlib.Core.Bool.{Bool, true, false, false≢true, _&&_}
@@ -18,7 +18,7 @@ use Rattle.semantics.specs.declared.Row.the-variants.{Kinds, Unused}
 use Rattle.semantics.specs.Language.{Val, int, truth, Expr, lit, var, op, rowOf, rowFits, sameKind, kindOf, fits, ofIntegers, ofTruths, apply}
 use Rattle.semantics.specs.States.{Machine, value, both}
 
--- The kind that an operation makes of two kinds.
+-- The kind of an operation's result, from the kinds of its operands.
 abbrev kindApply : ℕ → Kind → Kind → Option Kind
 kindApply o Integer Integer = getD (some Integer ∷ some Integer ∷ some Truth ∷ some Truth ∷ some Truth ∷ []) o none
 kindApply o Truth Truth = getD (none ∷ none ∷ none ∷ none ∷ none ∷ some Truth ∷ some Truth ∷ []) o none
@@ -35,7 +35,7 @@ abbrev isKind : Kind → Option Kind → Bool
 isKind k none = false
 isKind k (some c) = sameKind c k
 
--- The table's rule, computed over the seven rows: an operation that fits gives the kind of its row.
+-- Computed over the seven rows: an operation that fits gives the wanted kind.
 table : (a b k : Kind) → all 7 (λ o. implies (rowFits (rowOf o) k (sameKind a) (sameKind b)) (isKind k (kindApply o a b))) ≡ true
 unfolding all implies
 table Integer Integer Integer = refl
@@ -52,7 +52,7 @@ row-gives o a b k h =
     ⊎-elim (λ below. implies-at _ _ (all-at 7 _ (table a b k) o (ltb-true o 7 below)) h)
     (λ past. absurd (false≢true (rw past at h))) (true-or-false (ltb o 7))
 
--- A value of a kind.
+-- There is a value, and it is of kind k.
 pub record Worth (o : Option Val) (k : Kind) : Type 0 where
   pub val : Val
   pub is : o ≡ some val
@@ -62,7 +62,7 @@ worth : (o : Option Val) (k : Kind) → isKind k (Option·map kindOf o) ≡ true
 worth none k h = absurd (false≢true h)
 worth (some v) k h = record { val = v; is = refl; kind = h }
 
--- What a row asks of its operands, at operands that meet it: both have a value of the kind that they are asked for.
+-- If both operands fit the row, both have values of the kinds that the row takes.
 row-met : (r : Row) (k : Kind) (p q : Kind → Bool) {a b : Option Val} → ((x : Kind) → p x ≡ true → Worth a x) → ((y : Kind) → q y ≡ true → Worth b y)
     → rowFits r k p q ≡ true → (v : Val) × (w : Val) × (a ≡ some v) × (b ≡ some w) × (rowFits r k (sameKind (kindOf v)) (sameKind (kindOf w)) ≡ true)
 row-met Unused k p q f g h = absurd (false≢true h)

@@ -11,7 +11,7 @@ use Rattle.semantics.specs.States.{Machine}
 use Rattle.semantics.specs.Derivations.{Derivation, skip, assignment, sequence, parallel, conditional, iteration, weaken, namesOf, nodes, Tables, Spec, setOf, relationOf, specOf}
 use Rattle.semantics.specs.Conditions.{statementCode, targetOf, exprOf, firstOf, secondOf, isTrue, isFalse, c31, c32, c33, c35, c40, c41, c42, c43, c34if, c45, c46, c34while, c50, c51, c52, c53, c54, c55, c56, c34sequence, c60, c61, c34parallel, c65, c66, c70, c71, c72, c73}
 
--- A condition by its number, and what looking for a breach of it finds.
+-- A condition: its number, and the result of the search for a breach.
 pub record Condition : Type 0 where
   pub number : ℕ
   pub breach : Search
@@ -41,7 +41,7 @@ abbrev pub atNode : ℕ → Option ℕ → Option Broken
 atNode node none = none
 atNode node (some k) = some (record { number = k; node = node })
 
--- What a node of each rule must meet, in the order of the numbers, of its own tables c and its children's.
+-- The conditions on a node of each rule, in the order of their numbers, over its own tables c and those of its children.
 -- 30: the rule is that of the statement at hand. 30 to 33 are asked at every node.
 abbrev pub common : ℕ → Bool → Spec → List Condition
 common n fits c =
@@ -126,7 +126,7 @@ module _ (t : Tables) where
   obligations (iteration h k w d) S = whileObligations (t .machine) (eqb (statementCode S) 5) (specOf t h) (exprOf S) (setOf t k) (relationOf t w) (specOn d)
   obligations (weaken h d) S = weakenObligations (t .machine .states) (specOf t h) (specOn d)
 
-  -- The first fault of a derivation of a statement whose root has a number: the node's own, then its children's.
+  -- The first fault of a derivation of a statement, whose root is node n: the root's own, then those of its children.
   abbrev pub firstFault : Derivation → Stmt → ℕ → Option Broken
   firstFault (skip h) S n = atNode n (firstBroken (obligations (skip h) S))
   firstFault (assignment h) S n = atNode n (firstBroken (obligations (assignment h) S))

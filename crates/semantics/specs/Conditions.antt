@@ -10,7 +10,7 @@ use Rattle.semantics.specs.States.{Machine, value, isTruth, storeOf}
 use Rattle.semantics.specs.Derivations.{Spec}
 use lib.IntN.{pos}
 
--- A statement by its code and its parts, so that a rule can be held to any statement.
+-- The code and the parts of a statement, so that a rule can be checked against any statement.
 abbrev pub statementCode : Stmt → ℕ
 statementCode nil = 0
 statementCode (assign v e) = 1
@@ -59,7 +59,7 @@ occurrences p (lit c) = 0
 occurrences p (var v) = cond (p v) 1 0
 occurrences p (op o l r) = occurrences p l + occurrences p r
 
--- The states of a set, or those at which a row of a relation ends, in ascending order.
+-- A search over the states of a set, or over the ends in a row of a relation, in ascending order.
 unfoldable pub inSet : ℕ → (ℕ → Bool) → (ℕ → Search) → Search
 inSet n p f = each n (λ s. given (p s) (f s))
 

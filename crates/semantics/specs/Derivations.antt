@@ -5,7 +5,7 @@ use lib.Dec.{ltb}
 use Rattle.semantics.specs.declared.Names.{Names}
 use Rattle.semantics.specs.States.{Machine}
 
--- A node for each rule application; a while names a set K and a relation W besides.
+-- A node for each rule application; a while also names a set K and a relation W.
 pub data Derivation : Type 0 where
   skip assignment : Names → Derivation
   sequence parallel : Names → Derivation → Derivation → Derivation
@@ -22,7 +22,7 @@ namesOf (conditional h d) = h
 namesOf (iteration h k w d) = h
 namesOf (weaken h d) = h
 
--- Nodes are numbered from 0 in file order: how many a derivation has.
+-- How many nodes a derivation has. They are numbered from 0 in file order.
 abbrev pub nodes : Derivation → ℕ
 nodes (skip h) = 1
 nodes (assignment h) = 1
@@ -38,14 +38,14 @@ pub record Tables : Type 0 where
   pub sets : ℕ → ℕ → Bool
   pub relations : ℕ → ℕ → ℕ → Bool
 
--- The four tables of a node by their members.
+-- The four tables of a node, given by their members.
 pub record Spec : Type 0 where
   pub P : ℕ → Bool
   pub R : ℕ → ℕ → Bool
   pub G : ℕ → ℕ → Bool
   pub Q : ℕ → ℕ → Bool
 
--- Membership of a set and of a relation; what is no state is in none.
+-- Membership in a set and in a relation. A number that is no state is in none.
 abbrev pub setOf : Tables → ℕ → ℕ → Bool
 setOf t i s = ltb s (t .machine .states) && t .sets i s
 

@@ -74,7 +74,7 @@ kindsFit (while e b) = fits Truth e && kindsFit b
 abbrev pub eqZ : ℤ → ℤ → Bool
 eqZ a b = leZ a b && leZ b a
 
--- What each operation makes of two integers, and of two truth values; none where its row takes other kinds.
+-- The result of each operation on two integers, and on two truth values; none if its row takes other kinds.
 abbrev pub ofIntegers : ℤ → ℤ → List (Option Val)
 ofIntegers a b =
     some (int (a +ℤ b)) ∷ some (int (a -ℤ b)) ∷ some (truth (ltZ a b)) ∷ some (truth (eqZ a b)) ∷ some (truth (ltZ b a)) ∷ []

@@ -11,7 +11,7 @@ use Rattle.semantics.specs.Steps.{Config, at, turns, isNil}
 use Rattle.semantics.specs.Runs.{Event, still, isOpen, openSteps, run, relyKept, guaranteeKept, stepsMade}
 use Rattle.semantics.specs.Derivations.{Spec}
 
--- What holds after a list of events that led from a start to where the handler is now.
+-- What holds after a list of events that led from a start to the remaining handler and present state `now`.
 pub record Outcome (m : Machine) (S : Stmt) (spec : Spec) (bound : ℕ) (events : List Event) (start : ℕ) (now : Config) : Type 0 where
   -- each handler step that changed the state kept the guarantee
   pub guarantee : guaranteeKept m (spec .G) events (at S start) ≡ true

@@ -34,7 +34,7 @@ abbrev pub onStep : {A : Type 0} → Option Config → A → (Config → A) → 
 onStep none a f = a
 onStep (some c) a f = f c
 
--- As many as the handler events of the list.
+-- The steps made are as many as the handler events of the list.
 abbrev pub stepsMade : List Event → ℕ
 stepsMade [] = 0
 stepsMade (own k ∷ events) = suc (stepsMade events)
@@ -44,8 +44,8 @@ module _ (m : Machine) where
   abbrev pub openSteps : Config → List Config
   openSteps c = opens (turns m (c .rest) (c .state))
 
-  -- Each event acts on the remaining handler and state that the last one left. There is no run with a handler event where no
-  -- such step is open, nor with a change to what is no state.
+  -- Each event acts on the remaining handler and state that the last one left. There is no run with a handler event that is not an open
+  -- step, nor with a change to a number that is no state.
   abbrev pub run : List Event → Config → Option Config
   run [] c = some c
   run (own k ∷ events) c = onStep (getElem? (openSteps c) k) none (run events)

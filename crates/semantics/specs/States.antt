@@ -9,19 +9,19 @@ use lib.Dec.{ltb}
 use lib.IntN.{ℤ, pos, negsuc}
 use Rattle.semantics.specs.Language.{Val, int, truth, Expr, lit, var, op, apply}
 
--- How many states there are for variables of these sizes: N.
+-- N, the number of states for variables of these sizes.
 abbrev pub product : List ℕ → ℕ
 product [] = 1
 product (size ∷ sizes) = size * product sizes
 
--- How many states one more of variable v's value counts: with sizes 2 and 3, values 1 and 2 are state 1 × 3 + 2.
+-- How much a state's number grows when the value of variable v grows by 1: with sizes 2 and 3, values 1 and 2 are state 1 × 3 + 2.
 abbrev pub weight : List ℕ → ℕ → ℕ
 weight sizes v = product (drop (suc v) sizes)
 
 abbrev pub valueOf : List ℕ → ℕ → ℕ → ℕ
 valueOf sizes s v = s / weight sizes v % getD sizes v 1
 
--- The state after storing a value in variable v; none where the value is outside 0 to size − 1.
+-- The state after storing a value in variable v; none if the value is outside 0 to size − 1.
 abbrev pub stored : List ℕ → ℕ → ℕ → ℤ → Option ℕ
 stored sizes s v (pos n) = cond (ltb n (getD sizes v 1)) (some (s - valueOf sizes s v * weight sizes v + n * weight sizes v)) none
 stored sizes s v (negsuc n) = none
@@ -53,7 +53,7 @@ isTruth b (some (int z)) = false
 isTruth true (some (truth c)) = c
 isTruth false (some (truth c)) = cond c false true
 
--- What a store of a value gives: none where it is no integer or out of range.
+-- The state after a store of a value; none if the value is no integer or is out of range.
 abbrev pub storeOf : Machine → ℕ → ℕ → Option Val → Option ℕ
 storeOf m s v none = none
 storeOf m s v (some (int z)) = m .store s v z

@@ -1,5 +1,5 @@
--- Document 01, "States and steps": turns and open steps. One list, left to right, has every part that has its turn and is
--- ready: the step that it makes, or none where it stands still.
+-- Document 01, "States and steps": turns and open steps. One list, left to right, has an entry for every part that has its turn and is
+-- ready: its step, or none if it stands still.
 use Prim.Native.Nat.{ℕ}
 use mathlib.Core.Bool.{Bool, true, false, cond, _&&_}
 use mathlib.Core.List.{List, [], _∷_, _++_, map}
@@ -15,7 +15,7 @@ pub record Config : Type 0 where
 abbrev pub at : Stmt → ℕ → Config
 at S s = record { rest = S; state = s }
 
--- The same step with what it leaves put back into its place in the whole.
+-- The same step within the whole: what it leaves is put in its place.
 abbrev pub inContext : (Stmt → Stmt) → Config → Config
 inContext f c = at (f (c .rest)) (c .state)
 

@@ -1,5 +1,5 @@
-// What handlers mean. The definitions are in specs/, the theorem about them in proofs/Soundness.antt; the code that shares
-// them has the kinds of values and the row of each operation.
+// What handlers mean. The definitions are in specs/, and the theorem about them is in proofs/Soundness.antt. The code here has the kinds
+// of values and the row of each operation.
 ghost use mathlib.Core.Path.{_≡_};
 ghost use Rattle.semantics.specs.Language.{rowOf};
 

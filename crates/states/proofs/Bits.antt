@@ -1,4 +1,4 @@
--- One word: its bits, operations that act bit by bit, and what a word's bits say of the word.
+-- One word: its bits, bitwise operations, and what the bits of a word say about the word.
 use Prim.Native.Nat.{ℕ, zero, suc, _+_, _-_, _*_, _/_, _%_, _^_, _<_, zero-le}
 use native.Mathlib.Nat.{zero-div, mod-lt, pow-suc, div-one, div-div-eq-div-mul, mul-comm, one-mul}
 use native.Mathlib.Omega.{arith}
@@ -28,7 +28,7 @@ by-digits op β shr low digit a b k =
     ap (λ x. eqb (x % 2) 1) (shr a b k) ∙ ap (λ x. eqb x 1) (low (a / 2 ^ k) (b / 2 ^ k) 1)
     ∙ digit _ _ (mod-lt _ (omega arith)) (mod-lt _ (omega arith))
 
--- What holds of the digits 0 and 1 holds of every two below 2.
+-- What holds for the digits 0 and 1 holds for any two numbers below 2.
 on-digits : (P : ℕ → ℕ → Type 0) → P 0 0 → P 0 1 → P 1 0 → P 1 1 → (x y : ℕ) → x < 2 → y < 2 → P x y
 on-digits P p q r s zero zero h l = p
 on-digits P p q r s zero (suc zero) h l = q
@@ -80,8 +80,7 @@ bits-ext (suc k) x y hx hy same =
     half : (x : ℕ) → x < 2 ^ suc k → x / 2 < 2 ^ k
     half x h = let h : x < 2 ^ k * 2 = rw pow-suc at h in omega arith
 
--- Two words are equal where their bits are; one lies in another where the and of the two is the word itself; and a word is 0 where
--- no bit is set.
+-- Two words are equal iff their bits are; one word lies in another iff the and of the two is that word; a word is 0 iff no bit is set.
 pub word-same : (x y : ℕ) → x < 2 ^ 64 → y < 2 ^ 64 → eqb x y ≡ all 64 (λ k. Bool·beq (bit x k) (bit y k))
 word-same x y hx hy =
     bool-ext _ _ (λ e. all-intro 64 (λ k. Bool·beq (bit x k) (bit y k)) (λ k l. rw (eqb-true x y e) (beq-refl (bit y k))))
@@ -100,7 +99,7 @@ word-included x y hx hy =
 pub word-empty : (x : ℕ) → x < 2 ^ 64 → eqb x 0 ≡ all 64 (λ k. not (bit x k))
 word-empty x hx = word-same x 0 hx (omega arith) ∙ all-cong 64 _ _ (λ k l. rw (bit-nought k) (beq-false (bit x k)))
 
--- The lowest of d digits that is 1, counted by halves.
+-- `trailingZeros` is the number of the lowest of d bits that is 1.
 pub trailing-least : (d x : ℕ) → trailingZeros d x ≡ leastWhere d (bit x)
 unfolding trailingZeros leastWhere
 trailing-least zero x = refl
@@ -113,11 +112,11 @@ trailing-least (suc d) x =
     at (suc zero) l z = refl
     at (suc (suc r)) l z = absurd (omega arith)
 
--- `1 << n` is a power of 2, since it is below 2 ^ 64.
+-- `1 << n` is 2 ^ n, since that is below 2 ^ 64.
 pub shifted : (n : ℕ) → n < 64 → 1 * 2 ^ n % 2 ^ 64 ≡ 2 ^ n
 shifted n h = shl-exact 1 n 64 (omega arith) (omega arith) ∙ one-mul (2 ^ n)
 
--- A word by its halves: the last digit is bit 0, and the rest move up.
+-- The bits of m * 2 + d: bit 0 is d, and the others are those of m, one place higher.
 low-bit : (x m d : ℕ) → x ≡ m * 2 + d → d < 2 → bit x 0 ≡ eqb d 1
 low-bit x m d e h = let r : x % 2 ≡ d = omega arith in bit-zero x ∙ ap (λ z. eqb z 1) r
 
@@ -138,7 +137,7 @@ bit-power zero (suc s) = high-bit 1 0 1 s refl (omega arith) ∙ bit-nought s �
 bit-power (suc n) zero = low-bit (2 ^ suc n) (2 ^ n) 0 (omega (arith, pow-suc 2 n)) (omega arith) ∙ sym (eqb·suc-zero n)
 bit-power (suc n) (suc s) = high-bit (2 ^ suc n) (2 ^ n) 0 s (omega (arith, pow-suc 2 n)) (omega arith) ∙ bit-power n s ∙ sym (eqb·suc-suc n s)
 
--- x & (x - 1) keeps the bits of x that are above another: up to the lowest the two have none in common, and above it the same.
+-- x & (x - 1) keeps the bits of x above its lowest: up to that bit x and x - 1 have none in common, and above it they have the same.
 abbrev pub Lower : ℕ → ℕ → Type 0
 Lower x s = (bit x s && bit (x - 1) s) ≡ (bit x s && any s (bit x))
 

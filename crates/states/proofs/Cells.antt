@@ -1,5 +1,5 @@
--- An array with a cell for each state that a set can hold, which a loop fills from the first on: the cells below k are as wanted, the
--- others as they were made.
+-- An array with a cell for each state that a set can hold, filled by a loop: the cells below k satisfy P, and the
+-- others still have their initial value d.
 use Prim.Native.Nat.{ℕ, _+_, _<_, _≤_, zero-le}
 use native.Mathlib.Nat.{not-suc-le-zero}
 use native.Mathlib.Numerals.{add-one}
@@ -37,6 +37,6 @@ module _ {A : Type 0} (d : A) (P : ℕ → A → Type 0) where
           (rw (getD-set-same row k x d (omega (arith, old .long))) new)
           (λ low. rw (getD-set-other row k s x d (omega arith)) (old .hold s low))
 
--- An array as it is made has the same in each cell, and past its end too.
+-- A new array has the same value in each cell, and past its end too.
 pub cell-none : {A : Type 0} (d : A) (s : ℕ) → getD (replicate capacity d) s d ≡ d
 cell-none d s = cells-none d (λ s x. Unit {0}) .rest s zero-le

@@ -1,5 +1,5 @@
--- Sets that words hold one after the other. An entry that is stored is read back, and the other entries stay: shown for entries of any
--- width w, and used at that of a set.
+-- Sets stored one after the other in words. An entry that is stored is read back, and the other entries are unchanged: proved for entries
+-- of any width w, and used at the width of a set.
 use Prim.Native.Nat.{ℕ, zero, suc, _+_, _*_, _<_, _≤_}
 use native.Mathlib.Decide.{decLt}
 use native.Mathlib.Numerals.{add-one}
@@ -26,7 +26,7 @@ module _ (w : ℕ) where
       ∙ ap (take w) (drop-at (take (w * i) words) _ (w * i) (length-take-le (w * i) words (omega arith)))
       ∙ take-at xs _ w long
 
-  -- A word that is not one of an entry's.
+  -- A store to a word outside an entry does not change the entry.
   apart : (words : List ℕ) (a k x : ℕ) → (k < a) ⊎ (a + w ≤ k) → take w (drop a (set words k x)) ≡ take w (drop a words)
   apart words a k x out = ext-getD 0 _ _ long at
     where
@@ -62,7 +62,7 @@ pub length-stored : (words : List ℕ) (i : ℕ) (set : StateSet) → length (wi
 unfolding withEntry
 length-stored words i set = length-sets words (setWords * i) (wordsIn set)
 
--- An entry has no more states than a set can hold, and past the end it has none.
+-- An entry has only states that a set can hold, and past the end it has none.
 pub entry-below : (words : List ℕ) (i s : ℕ) → mem (entryAt words i) s ≡ true → s < capacity
 unfolding entryAt
 entry-below words i s h = omega (arith, mem-below _ s h, length-take setWords (drop (setWords * i) words))
@@ -71,7 +71,7 @@ pub entry-past : (words : List ℕ) (i s : ℕ) → length words ≤ setWords * 
 unfolding entryAt
 entry-past words i s past = rw (drop-of-length-le words past) (mem-zeros _ (λ k. refl) s)
 
--- An entry of words that are all 0 has none either.
+-- If all words are 0, an entry has no state.
 pub entry-zeros : (words : List ℕ) → ((k : ℕ) → getD words k 0 ≡ 0) → (i s : ℕ) → mem (entryAt words i) s ≡ false
 unfolding entryAt
 entry-zeros words none i s = mem-zeros _ (λ k. at k (decLt k setWords)) s
@@ -89,7 +89,7 @@ entry-from words a i =
     same : setWords * a + setWords * i ≡ setWords * (a + i)
     same = omega arith
 
--- At one word an entry is a word of the list.
+-- As a set is one word, an entry is a word of the list.
 pub entry-word : (words : List ℕ) (i s : ℕ) → mem (entryAt words i) s ≡ mem (getD words i 0 ∷ []) s
 unfolding entryAt
 entry-word words i s = at (drop (setWords * i) words) ∙ ap (λ x. mem (x ∷ []) s) (getD-drop (setWords * i) words 0 0 ∙ ap (λ k. getD words k 0) same)
@@ -105,7 +105,7 @@ entry-word words i s = at (drop (setWords * i) words) ∙ ap (λ x. mem (x ∷ [
     at [] = mem-zeros [] (λ k. refl) s ∙ sym (mem-zeros (0 ∷ []) zeros s)
     at (x ∷ xs) = refl
 
--- Rows that a loop fills from the first on: those below k have the pairs of f, and the others have none.
+-- Rows filled by a loop: those below k have the pairs of f, and the others have none.
 pub record RowsFilled (f : ℕ → ℕ → Bool) (k : ℕ) (rows : List ℕ) : Type 0 where
   pub most : k ≤ capacity
   pub long : length rows ≡ setWords * capacity
@@ -142,7 +142,7 @@ module _ (f : ℕ → ℕ → Bool) where
           (λ t. rw (stored-same rows k set (omega (arith, old .long))) (new t))
           (λ low t. rw (stored-other rows k s set (inr low)) (old .hold s low t))
 
--- Each pair of the rows, once those of all states that start one are filled.
+-- The pairs of the rows, once the rows of all states that start a pair are filled.
 pub rows-filled : (n : ℕ) (f : ℕ → ℕ → Bool) (k : ℕ) (rows : List ℕ) → Between n f → ((s : ℕ) → s < capacity → s < n → s < k) → RowsFilled f k rows
     → (s t : ℕ) → mem (entryAt rows s) t ≡ (ltb s capacity && f s t)
 rows-filled n f k rows between all filled s t = at (decLt s k)

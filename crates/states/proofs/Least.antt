@@ -1,4 +1,4 @@
--- A search that found a breach names the least states that have one.
+-- A search that finds a breach names the least states that have one.
 use Prim.Native.Nat.{ℕ, zero, suc, _<_}
 use native.Mathlib.Omega.{arith}
 use mathlib.Core.Path.{_≡_, refl}
@@ -7,7 +7,7 @@ use mathlib.Core.Option.{none, some}
 use Rattle.states.specs.Search.{Search, named, orElse, each}
 use Rattle.states.proofs.Search.{each-none}
 
--- What a search that found a breach names: the least state that has one, then the states that its own search names.
+-- The states that such a search names: the least state with a breach, then those that the search at that state names.
 pub record Least (n : ℕ) (f : ℕ → Search) (found : List ℕ) : Type 0 where
   pub state : ℕ
   pub rest : List ℕ

@@ -1,4 +1,4 @@
--- The states of a set one by one, the least first: with it taken out the members are one fewer.
+-- The states of a set one by one, the least first. Without its least state a set has fewer members.
 use Prim.Native.Nat.{ℕ, _*_, _<_, _≤_}
 use native.Mathlib.Decide.{decLt}
 use native.Mathlib.Omega.{arith}
@@ -18,7 +18,7 @@ use Rattle.states.proofs.Words.{mem-below}
 use Rattle.states.proofs.Rows.{rel-row, row-long}
 use Rattle.states.proofs.Reach.{count, count-more}
 
--- A set holds no state past those that it can hold.
+-- Every member of a set is below its capacity.
 pub has-below : (set : StateSet) (s : ℕ) → has set s ≡ true → s < capacity
 unfolding has
 has-below set s h = mem-below _ s h
@@ -28,7 +28,7 @@ pub record Taken (p q : ℕ → Bool) (k : ℕ) : Type 0 where
   pub there : p k ≡ true
   pub rest : (s : ℕ) → q s ≡ (p s && not (eqb k s))
 
--- The least member alone has no member below it.
+-- The least member is the only one with no member below it.
 first-taken : (n : ℕ) (p q : ℕ → Bool) (first : ℕ) → IsLeast n p first → ((s : ℕ) → q s ≡ (p s && any s p)) → Taken p q first
 first-taken n p q first least above-one = record { there = least .there; rest = λ s. above-one s ∙ by s (true-or-false (p s)) }
   where
@@ -59,7 +59,7 @@ module _ (p q : ℕ → Bool) (k : ℕ) (one : Taken p q k) where
   fewer : (n : ℕ) → k < n → count n q < count n p
   fewer n l = count-more n q p kept k l gone (one .there)
 
-  -- What a loop that joins what it finds at each keeps.
+  -- The invariant of a loop that joins what it finds at each state.
   pub any-taken : (n : ℕ) → k < n → (f : ℕ → Bool) → (f k || any n (λ s. q s && f s)) ≡ any n (λ s. p s && f s)
   any-taken n l f =
       bool-ext _ _ (λ h. ⊎-elim (λ e. any-intro n _ k l (and-both _ _ (one .there) e)) (λ e. there (any-true n _ e)) (or-cases (f k) _ h))
@@ -74,7 +74,7 @@ module _ (p q : ℕ → Bool) (k : ℕ) (one : Taken p q k) where
           ⊎-elim (λ e. or-left (f k) _ (rw e at)) (λ e. or-right (f k) _ (any-intro n _ (w .0) (w .1) (and-both _ _ e at)))
           (other (w .0) (and-left (p (w .0)) _ (w .2)))
 
-  -- And one that asks at each whether f holds.
+  -- The invariant of a loop that tests f at each state.
   pub all-taken : (n : ℕ) → k < n → (f : ℕ → Bool) → (f k && all n (λ s. implies (q s) (f s))) ≡ all n (λ s. implies (p s) (f s))
   all-taken n l f = bool-ext _ _ (λ h. all-intro n _ (λ s m. implies-intro _ _ (λ e. at h s m (other s e)))) back
     where
@@ -87,13 +87,13 @@ module _ (p q : ℕ → Bool) (k : ℕ) (one : Taken p q k) where
           and-both _ _ (implies-at _ _ (all-at n _ h k l) (one .there))
           (all-intro n _ (λ s m. implies-intro _ _ (λ e. implies-at _ _ (all-at n _ h s m) (kept s e))))
 
--- One turn of a loop that takes out the least: it is gone, and the members are fewer.
+-- One round of a loop that takes out the least state: that state is removed, and the set has fewer members.
 pub record Turn (set left : StateSet) (first : ℕ) : Type 0 where
   pub low : first < capacity
   pub taken : Taken (has set) (has left) first
   pub less : count capacity (has left) < count capacity (has set)
 
--- What `is_empty` and `least` answer in such a loop: while the set is not empty, its least state, and at the end that it has none.
+-- What follows from the answers of `is_empty` and `least`: while the set is not empty it has a least state, and at the end it has none.
 module _ (set : StateSet) (empty : Bool) (asked : empty ≡ not (any capacity (has set))) where
   pub least-of : not empty ≡ true → (first : ℕ) → first ≡ leastWhere capacity (has set) → IsLeast capacity (has set) first
   least-of more first is = rw is (least-is capacity (has set) (turned _ _ asked ∙ more))
@@ -112,7 +112,7 @@ module _ (set : StateSet) (empty : Bool) (asked : empty ≡ not (any capacity (h
   pub none-left : not empty ≡ false → (s : ℕ) → has set s ≡ false
   none-left done = none-in (not-false empty done)
 
--- The states of a set that are below n: those that a loop over them starts from.
+-- The states of a set that are below n, with which a loop over them starts.
 module _ (n : ℕ) (set from : StateSet) (start : (s : ℕ) → has from s ≡ (has set s && (ltb s capacity && ltb s n))) where
   pub start-below : (s : ℕ) → has from s ≡ true → s < n
   start-below s e = ltb-true s n (and-right (ltb s capacity) _ (and-right (has set s) _ (sym (start s) ∙ e)))
@@ -121,7 +121,7 @@ module _ (n : ℕ) (set from : StateSet) (start : (s : ℕ) → has from s ≡ (
   start-same s l =
       start s ∙ bool-ext _ _ (and-left (has set s) _) (λ h. and-both _ _ h (and-both _ _ (lt-ltb s capacity (has-below set s h)) (lt-ltb s n l)))
 
--- f holds of the states taken out of a set, and is still to be asked of those left in it: what a loop over the members keeps.
+-- The invariant of a loop over the members: f was tested at the states taken out, and is still to be tested at those left.
 pub record Passed (n : ℕ) (f : ℕ → Bool) (from rest : StateSet) (held : Bool) : Type 0 where
   pub low : (s : ℕ) → has rest s ≡ true → s < n
   pub same : (held && all n (λ s. implies (has rest s) (f s))) ≡ all n (λ s. implies (has from s) (f s))
@@ -138,7 +138,7 @@ module _ (n : ℕ) (f : ℕ → Bool) (from : StateSet) where
         ∙ ap (λ b. held && b) (all-taken (has rest) (has left) k one n (old .low k (one .there)) f) ∙ old .same;
   }
 
-  -- Where more than one is taken out and f is asked of all of these.
+  -- The same if several states are taken out and f is tested at all of them.
   pub passed-part : (rest left : StateSet) (held now : Bool) (g : ℕ → Bool) → ((s : ℕ) → has left s ≡ (has rest s && not (g s)))
       → now ≡ all n (λ s. implies (has rest s && g s) (f s)) → Passed n f from rest held → Passed n f from left (held && now)
   unfolding implies
@@ -160,7 +160,7 @@ module _ (n : ℕ) (f : ℕ → Bool) (from : StateSet) where
   passed-all rest held none done =
       sym (and-true held) ∙ ap (λ b. held && b) (sym (all-intro n (λ s. implies (has rest s) (f s)) (λ s l. rw (none s)))) ∙ done .same
 
--- The rows of the states taken out of a set, with those of the states left in it, are the rows of all: what `image` keeps.
+-- The invariant of `image`: `ends`, joined with the rows of the states left in the set, has the ends of the rows of all its states.
 pub record Gathered (n : ℕ) (rows : List ℕ) (from rest ends : StateSet) : Type 0 where
   pub low : (s : ℕ) → has rest s ≡ true → s < n
   pub same : (t : ℕ) → (has ends t || any n (λ s. has rest s && mem (entryAt rows s) t)) ≡ any n (λ s. has from s && mem (entryAt rows s) t)
@@ -179,7 +179,7 @@ module _ (n : ℕ) (rows : List ℕ) (from : StateSet) where
         ∙ old .same t;
   }
 
--- Where the states of a set that have one of the k rows were all taken out, the rows are those of the set.
+-- Once all states that have one of the k rows are taken out, the states found are the ends of the pairs that start in the set.
 module _ (n k : ℕ) (rows : List ℕ) (set from : StateSet) (most : k ≤ n) (enough : (s : ℕ) → s < capacity → s < n → setWords * s < length rows → s < k)
     (start : (s : ℕ) → has from s ≡ (has set s && (ltb s capacity && ltb s k))) where
   pub gathered-all : (rest ends found : StateSet) → ((s : ℕ) → has rest s ≡ false) → Gathered k rows from rest ends

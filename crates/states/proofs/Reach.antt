@@ -1,4 +1,4 @@
--- N rounds reach the whole closure and nothing else: a round that adds nothing is final, and each other round adds one of the N states.
+-- N rounds reach the whole closure and nothing else: a round that adds nothing is final, and any other round adds one of the N states.
 use Prim.Native.Nat.{ℕ, zero, suc, _+_, _<_, _≤_, zero-le}
 use native.Mathlib.Numerals.{add-one}
 use native.Mathlib.Omega.{arith}
@@ -14,11 +14,11 @@ use Rattle.states.proofs.Search.{and-left, and-right, and-both, or-left
 abbrev pub Between : ℕ → (ℕ → ℕ → Bool) → Type 0
 Between n r = (s t : ℕ) → r s t ≡ true → (s < n) × (t < n)
 
--- So are two relations joined.
+-- So is the join of two such relations.
 pub joined-between : {n : ℕ} (r q : ℕ → ℕ → Bool) → Between n r → Between n q → Between n (λ s t. r s t || q s t)
 joined-between r q r-in q-in s t h = ⊎-elim (r-in s t) (q-in s t) (or-cases (r s t) (q s t) h)
 
--- What one round makes of the states reached so far.
+-- The states reached after one more round.
 unfoldable pub round : ℕ → (ℕ → ℕ → Bool) → (ℕ → Bool) → ℕ → Bool
 round n r p t = p t || any n (λ u. p u && r u t)
 
@@ -26,7 +26,7 @@ unfoldable pub rounds : ℕ → (ℕ → ℕ → Bool) → (ℕ → Bool) → �
 rounds n r from zero t = from t
 rounds n r from (suc k) t = round n r (rounds n r from k) t
 
--- A round of what k rounds reach is the next: the step of a loop that counts the rounds.
+-- One more round after k rounds is round k + 1: the step of a loop that counts the rounds.
 pub rounds-next : (n : ℕ) (r : ℕ → ℕ → Bool) (from : ℕ → Bool) (k : ℕ) (p : ℕ → Bool) → ((t : ℕ) → p t ≡ rounds n r from k t)
     → (t : ℕ) → (p t || any n (λ u. p u && r u t)) ≡ rounds n r from (k + 1) t
 unfolding rounds round
@@ -81,7 +81,7 @@ module _ (n : ℕ) (r : ℕ → ℕ → Bool) (between : Between n r) where
       pair : (s : ℕ) × (s < n) × ((p s && r s t) ≡ true) → (s : ℕ) × (p s ≡ true) × (r s t ≡ true)
       pair w = (w .0, and-left _ (r (w .0) t) (w .2), and-right (p (w .0)) _ (w .2))
 
-  -- What has the starts and is final has all that is reached.
+  -- A final set that has the starts has every state that is reached.
   pub final-all : (from p : ℕ → Bool) → ((s : ℕ) → from s ≡ true → p s ≡ true) → Final n r p → (t : ℕ) → Reached from r t → p t ≡ true
   final-all from p starts final t (here h) = starts t h
   final-all from p starts final t (more {s} way st) = final t (round-pair p s t (final-all from p starts final s way) st)
@@ -91,7 +91,7 @@ module _ (n : ℕ) (r : ℕ → ℕ → Bool) (between : Between n r) where
   rounds-start from zero s h = h
   rounds-start from (suc k) s h = or-left _ _ (rounds-start from k s h)
 
-  -- However many rounds: nothing else is reached.
+  -- However many rounds are run, nothing else is reached.
   pub rounds-sound : (from : ℕ → Bool) (k t : ℕ) → rounds n r from k t ≡ true → Reached from r t
   unfolding rounds
   rounds-sound from zero t h = here h
@@ -123,7 +123,7 @@ module _ (n : ℕ) (r : ℕ → ℕ → Bool) (between : Between n r) where
       one : k ≤ count n (rounds n r from k) → Added n r (rounds n r from k) → k < count n (rounds n r from (suc k))
       one h w = omega (arith, count-more n (rounds n r from k) (rounds n r from (suc k)) (λ s. or-left _ _) (w .0) (w .1) (w .2) (w .3))
 
-  -- N rounds and more.
+  -- After N or more rounds the set is final.
   rounds-final : (from : ℕ → Bool) (k : ℕ) → n ≤ k → Final n r (rounds n r from k)
   rounds-final from k enough = ⊎-elim (λ f. f) (λ h. ⊎-elim (λ f. f) (λ w. absurd (full h w)) (final-or-adds (rounds n r from k))) (final-or-many from k)
     where

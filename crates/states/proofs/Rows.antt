@@ -1,4 +1,4 @@
--- Relations as rows: a pair lies between states below n, and a row has no more states than a set can hold.
+-- Relations as rows: a pair lies between states below n, and a row has only states that a set can hold.
 use Prim.Native.Nat.{ℕ, _*_, _<_, _≤_}
 use native.Mathlib.Decide.{decLt}
 use native.Mathlib.Omega.{arith}
@@ -36,7 +36,7 @@ rel-row n rows s t l =
     (λ h. rel-intro n rows s t l (ltb-true t n (and-right (ltb t capacity) _ (and-right (mem (entryAt rows s) t) _ h))) (and-left _ (ltb t capacity && ltb t n) h))
     (λ h. let m = rel-mem n rows s t h in and-both _ _ m (and-both _ _ (lt-ltb t capacity (entry-below rows s t m)) (lt-ltb t n (rel-between n rows s t h .1))))
 
--- A comparison of two rows that holds where neither has the state holds of the n states where it holds of all that a set can hold.
+-- If a comparison holds of a state in neither row, comparing two rows at all states that a set can hold is the same as at the n states.
 pub row-all : (β : Bool → Bool → Bool) → β false false ≡ true → (n : ℕ) (a b : List ℕ) (s : ℕ)
     → all capacity (λ t. β (rel n a s t) (rel n b s t)) ≡ all n (λ t. β (rel n a s t) (rel n b s t))
 row-all β none n a b s =
@@ -49,7 +49,7 @@ row-all β none n a b s =
     at m h t (yes l) out = all-at m _ h t l
     at m h t (no l) out = rw (not-true-false _ (out a (omega arith)), not-true-false _ (out b (omega arith))) none
 
--- A row has a state where it has one of the n.
+-- A row has a state iff it has one below n.
 pub row-any : (n : ℕ) (rows : List ℕ) (s : ℕ) → any capacity (rel n rows s) ≡ any n (rel n rows s)
 row-any n rows s =
     bool-ext _ _ (λ h. at n (λ t e. rel-between n rows s t e .1) (any-true capacity _ h)) (λ h. at capacity (λ t e. entry-below rows s t (rel-mem n rows s t e)) (any-true n _ h))
@@ -57,7 +57,7 @@ row-any n rows s =
     at : (k : ℕ) {j : ℕ} → ((t : ℕ) → rel n rows s t ≡ true → t < k) → (t : ℕ) × (t < j) × (rel n rows s t ≡ true) → any k (rel n rows s) ≡ true
     at k below w = any-intro k _ (w .0) (below (w .0) (w .2)) (w .2)
 
--- A state that starts a pair has its row there.
+-- The row of a state that starts a pair is within the words.
 pub row-long : (n : ℕ) (rows : List ℕ) (t u : ℕ) → rel n rows t u ≡ true → setWords * t < length rows
 row-long n rows t u h = by (decLt (setWords * t) (length rows))
   where
@@ -65,7 +65,7 @@ row-long n rows t u h = by (decLt (setWords * t) (length rows))
     by (yes l) = l
     by (no l) = absurd (true≢false (sym (rel-mem n rows t u h) ∙ entry-past rows t u (omega arith)))
 
--- Of the states whose rows are there, t alone: it starts a pair where some pair starts in it.
+-- If the first k states include all that have a row, looking for t among them tells whether t starts a pair.
 pub row-starts : (n : ℕ) (rows : List ℕ) (k : ℕ) → ((s : ℕ) → s < capacity → s < n → setWords * s < length rows → s < k) → (t : ℕ)
     → any k (λ s. ltb t capacity && any n (rel n rows s) && eqb s t) ≡ (ltb t capacity && any n (rel n rows t))
 row-starts n rows k enough t = bool-ext _ _ (λ h. there (any-true k _ h)) back

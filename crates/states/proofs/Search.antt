@@ -51,7 +51,7 @@ unfolding implies
 implies-false true b e = (refl, e)
 implies-false false b e = absurd (true≢false e)
 
--- Two truth values are the same where each holds if the other does.
+-- Two truth values are equal if each implies the other.
 pub bool-ext : (a b : Bool) → (a ≡ true → b ≡ true) → (b ≡ true → a ≡ true) → a ≡ b
 bool-ext true b to back = sym (to refl)
 bool-ext false true to back = back refl
@@ -137,7 +137,7 @@ unfolding any
 any-cong zero p q h = refl
 any-cong (suc n) p q h = ap₂ _||_ (any-cong n p q (λ s l. h s (omega arith))) (h n (omega arith))
 
--- The first state apart from the others.
+-- The first state, separated from the others.
 pub any-first : (n : ℕ) (p : ℕ → Bool) → any (suc n) p ≡ (p 0 || any n (λ s. p (suc s)))
 unfolding any
 any-first zero p = sym (or-false (p 0))
@@ -232,7 +232,7 @@ least-split (suc m) n p =
     at false true x y = refl
     at false false x y = sym (suc-add m y)
 
--- A search, and whether the condition holds.
+-- A condition holds iff its search finds none.
 pub holds-none : (x : Search) → holds x ≡ true → x ≡ none
 unfolding holds
 holds-none none e = refl

@@ -1,5 +1,5 @@
--- Sets as lists of words, of any number of them: what is done to each word is done to each state, by one law for all words. The
--- first word has the first 64 states, and the others have the rest.
+-- Sets as lists of any number of words: an operation on each word is one on each state, by one law for all words. The first word has the
+-- first 64 states, and the others have the rest.
 use Prim.Native.Nat.{ℕ, zero, suc, _+_, _-_, _*_, _/_, _%_, _^_, _<_}
 use native.Mathlib.Decide.{decLt}
 use native.Mathlib.Omega.{arith}
@@ -67,7 +67,7 @@ mem-wise op β wise nought xs ys e s = ap (λ x. bit x (s % 64)) (at xs ys e (s 
     at (x ∷ xs) (y ∷ ys) e zero = refl
     at (x ∷ xs) (y ∷ ys) e (suc i) = at xs ys (omega arith) i
 
--- A test of the words of two lists, one after the other, is one of all states where the test of two words is one of all bits.
+-- If a test of two words is a test of all their bits, testing two lists word by word is a test of all states.
 module _ (test : ℕ → ℕ → Bool) (β : Bool → Bool → Bool)
     (bits : (x y : ℕ) → x < 2 ^ 64 → y < 2 ^ 64 → test x y ≡ all 64 (λ k. β (bit x k) (bit y k))) where
   abbrev pub eachWord : List ℕ → List ℕ → Bool
@@ -88,7 +88,7 @@ module _ (test : ℕ → ℕ → Bool) (β : Bool → Bool → Bool)
       (words-all xs ys (omega arith) (λ i. hx (suc i)) (λ i. hy (suc i)) ∙ all-cong (64 * length xs) _ _ (λ s l. sym (ap₂ β (mem-later x xs s) (mem-later y ys s))))
       ∙ sym (all-split 64 (64 * length xs) _))
 
-  -- At one word.
+  -- For one word.
   pub word-all : (x y : ℕ) → x < 2 ^ 64 → y < 2 ^ 64 → test x y ≡ all 64 (λ s. β (mem (x ∷ []) s) (mem (y ∷ []) s))
   word-all x y hx hy = sym (and-true (test x y)) ∙ words-all (x ∷ []) (y ∷ []) refl (one-word hx) (one-word hy)
 
@@ -99,7 +99,7 @@ some-bit x h = word-empty x h ∙ all-not 64 (bit x)
 any-bit : (x : ℕ) → x < 2 ^ 64 → any 64 (bit x) ≡ not (eqb x 0)
 any-bit x h = turned _ _ (some-bit x h)
 
--- The least member: that of the first word which is not 0.
+-- The least member: that of the first word that is not 0.
 abbrev pub leastIn : List ℕ → ℕ
 leastIn [] = 0
 leastIn (x ∷ xs) = cond (eqb x 0) (64 + leastIn xs) (trailingZeros 64 x)
@@ -120,7 +120,7 @@ least-words (x ∷ xs) h =
     at true e = ap (λ k. 64 + k) (e ∙ least-cong (64 * length xs) (mem xs) (λ s. mem (x ∷ xs) (64 + s)) (λ s l. sym (mem-later x xs s)))
     at false e = trailing-least 64 x ∙ least-cong 64 (bit x) (mem (x ∷ xs)) (λ k l. sym (mem-first x xs k l))
 
--- At one word.
+-- For one word.
 pub least-word : (x : ℕ) → x < 2 ^ 64 → trailingZeros 64 x ≡ leastWhere 64 (mem (x ∷ []))
 least-word x h = at (eqb x 0) refl ∙ least-words (x ∷ []) (one-word h)
   where
@@ -165,7 +165,7 @@ mem-lowered (x ∷ xs) h s = at (decLt s 64) (eqb x 0) refl (mem-lowered xs (λ 
         let up : s ≡ 64 + (s - 64) = omega arith in
         rw up (high (s - 64) b e rest ∙ sym (ap₂ _&&_ (mem-later x xs (s - 64)) (later (s - 64) ∙ ap (λ a. not a || any (s - 64) (mem xs)) e)))
 
--- One word.
+-- For one word.
 pub mem-word : (op : ℕ → ℕ → ℕ) (β : Bool → Bool → Bool) → Bitwise op β → op 0 0 ≡ 0
     → (x y s : ℕ) → mem (op x y ∷ []) s ≡ β (mem (x ∷ []) s) (mem (y ∷ []) s)
 unfolding zipWith

@@ -1,4 +1,4 @@
--- Relations between states, as rows: row s is a set that holds the ends t of the pairs (s,t), entry s of the words.
+-- Relations between states, as rows: row s is entry s of the words, the set of the ends t of the pairs (s,t).
 use Prim.Native.Nat.{ℕ, zero, suc}
 use mathlib.Core.Path.{_≡_}
 use mathlib.Core.Bool.{Bool, true, _&&_, _||_}
@@ -16,8 +16,8 @@ pub data Reached (from : ℕ → Bool) (r : ℕ → ℕ → Bool) : ℕ → Type
   here : {s : ℕ} → from s ≡ true → Reached from r s
   more : {s t : ℕ} → Reached from r s → r s t ≡ true → Reached from r t
 
--- Condition 66's reach: whether t is reached from s within so many rounds, each of which adds the ends of all pairs that
--- start in what is reached already. N rounds are run.
+-- Condition 66's reach: whether t is reached from s within so many rounds, each of which adds the ends of all pairs that start in a
+-- state already reached. N rounds are run.
 unfoldable pub within : ℕ → ℕ → (ℕ → ℕ → Bool) → ℕ → ℕ → Bool
 within n zero r s t = eqb s t
 within n (suc k) r s t = within n k r s t || any n (λ u. within n k r s u && r u t)

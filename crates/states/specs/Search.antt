@@ -17,12 +17,12 @@ unfoldable pub any : ℕ → (ℕ → Bool) → Bool
 any zero p = false
 any (suc n) p = any n p || p n
 
--- The least state below n at which p holds; n where there is none.
+-- The least state below n at which p holds; n if there is none.
 unfoldable pub leastWhere : ℕ → (ℕ → Bool) → ℕ
 leastWhere zero p = zero
 leastWhere (suc n) p = cond (p zero) zero (suc (leastWhere n (λ s. p (suc s))))
 
--- What looking for a breach of a condition finds: none where the condition holds, else the states that break it, in the
+-- The result of the search for a breach of a condition: none if the condition holds, else the states that break it, in the
 -- order in which the condition names them.
 abbrev pub Search : Type 0
 Search = Option (List ℕ)
@@ -41,7 +41,7 @@ unfoldable pub orElse : Search → Search → Search
 orElse none next = next
 orElse (some found) next = some found
 
--- The breach at the least state below n that has one, that state named first.
+-- The breach at the least state below n that has one, with that state named first.
 unfoldable pub each : ℕ → (ℕ → Search) → Search
 each zero f = none
 each (suc n) f = orElse (each n f) (named n (f n))

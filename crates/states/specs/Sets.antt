@@ -14,7 +14,7 @@ setWords = 1
 abbrev pub capacity : ℕ
 capacity = 64 * setWords
 
--- Whether state s is a member of the set that the words hold; no state past the words is.
+-- Whether state s is a member of the set that the words hold. A state past the words is not.
 unfoldable pub mem : List ℕ → ℕ → Bool
 mem words s = eqb (getD words (s / 64) 0 / 2 ^ (s % 64) % 2) 1
 

@@ -1,4 +1,4 @@
-// Sets that words hold one after the other, as entries: work words and the rows of a relation.
+// Sets stored one after the other in words, as entries: work words and the rows of a relation.
 use crate::StateSet;
 ghost use mathlib.Core.Path.{_≡_};
 ghost use Prim.Native.Nat.{ℕ, _*_};

@@ -1,4 +1,4 @@
-// Sets of states by value. No function asks anything of its caller, and each promise of a set is of its members.
+// Sets of states by value. No function has a precondition, and each contract describes a set by its members.
 // No other crate knows how many words a set has.
 ghost use mathlib.Core.Path.{_≡_};
 ghost use mathlib.Core.Bool.{false, not, _&&_, _||_, Bool·beq};
@@ -15,7 +15,7 @@ pub const SET_WORDS: usize = 1;
 
 pub const CAPACITY: u32 = 64;
 
-// The words of a relation that has a row for each of these states.
+// The number of words of a relation with a row for each of these states.
 pub const RELATION_WORDS: usize = SET_WORDS * CAPACITY as usize;
 
 // A set of states: state s is at bit s, the lowest bit first.
@@ -30,7 +30,7 @@ impl StateSet {
         StateSet { bits: 0 }
     }
 
-    // The states below n; all capacity where n is 64 or more.
+    // The states below n; all that a set can hold if n is 64 or more.
     pub fn below(n: u32) -> StateSet
         ensures { λ r. ⌜ ((s : ℕ) → has r s ≡ (ltb s capacity && ltb s n)) ⌝ }
     {
@@ -43,7 +43,7 @@ impl StateSet {
         }
     }
 
-    // The state s alone; nothing where a set cannot hold it.
+    // The set of s alone; empty if a set cannot hold s.
     pub fn single(s: u32) -> StateSet
         ensures { λ r. ⌜ ((t : ℕ) → has r t ≡ (ltb t capacity && eqb s t)) ⌝ }
     {
@@ -79,14 +79,14 @@ impl StateSet {
         }
     }
 
-    // The least state of the set; CAPACITY where it is empty.
+    // The least state of the set; CAPACITY if it is empty.
     pub fn least(self) -> u32
         ensures { λ r. ⌜ r ≡ leastWhere capacity (has self) ⌝ }
     {
         u64::trailing_zeros(self.bits)
     }
 
-    // The set without its least state; nothing where it is empty.
+    // The set without its least state; empty if the set is.
     pub fn without_least(self) -> StateSet
         ensures { λ r. ⌜ ((s : ℕ) → has r s ≡ (has self s && any s (λ t. has self t))) ⌝ }
     {

@@ -1,5 +1,5 @@
 // Relations between n states as rows: row s is entry s of the words and holds the ends of the pairs that start in s; a row past the end
-// of the slice is empty. Every function takes any n and any rows, and sees only the pairs between states below n.
+// of the slice is empty. Every function accepts any n and any rows, and considers only the pairs between states below n.
 use crate::CAPACITY;
 use crate::RELATION_WORDS;
 use crate::StateSet;
@@ -33,7 +33,7 @@ fn rows_held(n: u32) -> u32
     if n < CAPACITY { n } else { CAPACITY }
 }
 
-// How many of these rows the slice has, so that a loop over them need not ask at each where the slice or a set ends.
+// How many of these rows the slice has, so that a loop over them need not test at each row whether the slice or a set ends.
 fn rows_there(n: u32, rows: &[u64]) -> u32
     ensures { λ r.
         ⌜ (r ≤ n) × (r ≤ length (now (rows .entry))) × ((s : ℕ) → s < capacity → s < n → setWords * s < length (now (rows .entry)) → s < r) ⌝ }
@@ -46,8 +46,8 @@ fn rows_there(n: u32, rows: &[u64]) -> u32
     }
 }
 
-// The ends of the pairs that start in the set. Its states that have a row are taken out one by one, the least first; the rows are
-// joined as they are, and what is not below n goes once at the end.
+// The ends of the pairs that start in the set. Its states that have a row are taken out one by one, the least first. The rows are joined
+// unmasked, and states that are not below n are removed once at the end.
 pub fn image(n: u32, set: StateSet, rows: &[u64]) -> StateSet
     ensures { λ r. ⌜ ((t : ℕ) → has r t ≡ any n (λ s. has set s && rel n (now (rows .entry)) s t)) ⌝ }
 {
@@ -63,7 +63,7 @@ pub fn image(n: u32, set: StateSet, rows: &[u64]) -> StateSet
     ends.meet(StateSet::below(n))
 }
 
-// The states found so far, with s where its row is not empty.
+// The states found so far, and s if its row is not empty.
 fn with_start(row: StateSet, s: u32, found: StateSet) -> StateSet
     ensures { λ r. ⌜ ((t : ℕ) → has r t ≡ (has found t || ltb t capacity && any capacity (λ u. has row u) && eqb s t)) ⌝ }
 {
@@ -87,7 +87,7 @@ pub fn starting(n: u32, rows: &[u64]) -> StateSet
     found
 }
 
-// The pairs of a and the pairs of b that start in a state that a set can hold, in a row for each of these.
+// The pairs of a or b that start in a state that a set can hold, with a row for each such state.
 pub fn union_of(n: u32, a: &[u64], b: &[u64]) -> [u64; RELATION_WORDS]
     ensures { λ r.
         ⌜ ((s t : ℕ) → mem (entryAt r s) t ≡ (ltb s capacity && (rel n (now (a .entry)) s t || rel n (now (b .entry)) s t))) ⌝ }
@@ -138,8 +138,8 @@ pub fn same_members(n: u32, a: &[u64], b: &[u64]) -> bool
     held
 }
 
-// The states reached from the set by zero or more pairs. Each of n rounds adds the ends of the pairs that start in what is
-// reached already.
+// The states reached from the set by zero or more pairs. Each of n rounds adds the ends of the
+// pairs that start in a state already reached.
 pub fn reach(n: u32, rows: &[u64], from: StateSet) -> StateSet
     ensures { λ r. ⌜ ((t : ℕ) → (has r t ≡ true) ↔ Reached (has from) (rel n (now (rows .entry))) t) ⌝ }
 {

@@ -1,4 +1,4 @@
--- The byte of the bit is read where there is one; past the end every bit is 0.
+-- The byte of the bit is read if there is one; past the end every bit is 0.
 use Prim.Native.Nat.{_/_}
 use mathlib.Core.Path.{refl, sym}
 use native.Mathlib.Omega.{arith}

@@ -1,4 +1,4 @@
--- The byte is read where there is one and holds its 8 bits; past the end it reads as 0.
+-- A byte of the file is the value of its 8 bits; past the end these bits are 0.
 use mathlib.Core.Path.{sym, _∙_}
 use native.Mathlib.Omega.{arith}
 use borrow.Author.Needs.{needs}

@@ -7,7 +7,7 @@ use Rattle.bits.proofs.Bytes.{window}
 use Rattle.bits.proofs.byte_from.Statement.{statement}
 use Rattle.bits.proofs.byte_from.Tie as tie
 
--- Two bytes fit.
+-- Two bytes fit in 16 bits.
 room : (c : tie.After-byte2) → c .before .byte .result * 256 + c .byte2 .result < 2 ^ 16
 room c =
     let a = c .before .before .before .args in

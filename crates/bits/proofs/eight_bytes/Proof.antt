@@ -1,4 +1,4 @@
--- The four pairs of bytes touch, and no number of at most 64 bits is too large.
+-- The four pairs of bytes are adjacent, and their value fits in 64 bits.
 use Prim.Native.Nat.{_+_, _*_, _^_, _<_}
 use native.Mathlib.Omega.{arith}
 use borrow.Author.Needs.{needs}

@@ -1,4 +1,4 @@
--- The further byte is there, and a cursor can number its first bit, or the file ends.
+-- Either there is a further byte whose first bit a cursor can number, or the file ends.
 use Prim.Native.Nat.{_+_, _*_, _^_}
 use mathlib.Core.Bool.{and-false}
 use native.Mathlib.Omega.{arith}

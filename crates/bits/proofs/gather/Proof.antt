@@ -1,4 +1,4 @@
--- After each turn the value is that of the first `done` bits; what is left is at most 8 of the 8 bits that are read last.
+-- After each round the value is that of the first `done` bits. At most 8 bits are left, all among the 8 bits that are read last.
 use Prim.Native.Nat.{ℕ, _+_, _-_, _*_, _/_, _%_, _^_, _≤_, _<_}
 use mathlib.Core.List.{List}
 use mathlib.Core.Path.{_≡_, refl, _∙_}
@@ -20,7 +20,7 @@ loop-holds : tie.Need-loop-holds Inv-loop μ-loop
 unfolding bitsAt
 loop-holds c = (search needs, refl, refl)
 
--- After whole bytes the cursor is at the same bit of a byte.
+-- After whole bytes the cursor is at the same bit within its byte.
 after-bytes : (s : List ℕ) (at done : ℕ) → done % 8 ≡ 0 → bitsAt s (8 * (at / 8 + done / 8) + at % 8) 8 ≡ bitsAt s (at + done) 8
 after-bytes s at done whole = let here : 8 * (at / 8 + done / 8) + at % 8 ≡ at + done = omega arith in rw here
 
@@ -36,13 +36,13 @@ more c =
     in
     omega (arith, bits-join (a .src .now) (a .at) (l .done) 8)
 
--- One byte more of at most 64 bits fits.
+-- With one more byte there are at most 64 bits, so the value fits.
 room : (c : tie.After-byte-from Inv-loop μ-loop) → c .before .before .loop .value * 256 + c .byte-from .result < 2 ^ 64
 room c =
     let a = c .before .before .before .before .args in
     omega (arith, more c, bits-fit (a .src .now) (a .at) (c .before .before .loop .done + 8) (omega arith))
 
--- The whole field, with the bits that are left.
+-- The whole field, from the value so far and the bits that are left.
 whole : (c : tie.After-byte-from2 Inv-loop μ-loop) →
     let a = c .before .before .before .before .args in
     let l = c .before .before .loop in

@@ -1,4 +1,4 @@
--- The bits are there where the bytes that they reach into are: whole bytes of each number, and at most two of what is left.
+-- The bits are there if the bytes that hold them are: the whole bytes of `at` and of `count`, and at most two for the remainders.
 use Prim.Native.Nat.{_+_, _*_}
 use native.Mathlib.Omega.{arith}
 use borrow.Author.Needs.{needs}

@@ -1,4 +1,4 @@
--- Each test that fails is one that a field in full would pass; the last bit is in a byte of the file iff it is inside.
+-- A field that is there in full passes every test; its last bit is in a byte of the file iff it lies within the file.
 use mathlib.Core.Bool.{not-eq-not, false}
 use mathlib.Core.Logic.{⊎-elim}
 use mathlib.Core.Path.{sym}

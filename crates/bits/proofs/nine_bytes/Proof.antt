@@ -1,4 +1,4 @@
--- The bits before the cursor are shifted out, and those of the ninth byte in.
+-- The bits before the cursor are shifted out, and those of the ninth byte are shifted in.
 use Prim.Native.Nat.{_+_, _/_}
 use native.Mathlib.Omega.{arith}
 use borrow.Author.Needs.{needs}

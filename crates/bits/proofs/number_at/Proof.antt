@@ -1,4 +1,4 @@
--- The first test is that of the definition; 64 bits are those of nine bytes where there are nine.
+-- The first test is that of the definition; 64 bits are read from nine bytes if the file has them.
 use mathlib.Core.Path.{_≡_, sym}
 use native.Mathlib.Omega.{arith}
 use borrow.Author.Needs.{needs}
@@ -15,7 +15,7 @@ returns c =
     let none : numberAt (a .src .now) (a .at) (a .width) ≡ 0 = rw (lt-leb (a .width) 64 (omega arith)) in
     sym none
 
--- The number is that of the bits.
+-- At most 64 bits: the number is their value.
 number : (c : tie.Else1) → let a = c .before .before .args in numberAt (a .src .now) (a .at) (a .width) ≡ bitsAt (a .src .now) (a .at) (a .width)
 number c = number-bits _ _ _ (omega arith)
 

@@ -1,4 +1,4 @@
--- A field that is there has at most 64 bits, as gathering asks, and a cursor after it.
+-- A field that is there has at most 64 bits, as `gather` requires, and a cursor after it.
 use Prim.Native.Nat.{_+_}
 use mathlib.Core.Path.{sym}
 use native.Mathlib.Omega.{arith}
@@ -8,7 +8,7 @@ use Rattle.bits.proofs.Laws.{There, in-full, found}
 use Rattle.bits.proofs.read.Statement.{statement}
 use Rattle.bits.proofs.read.Tie as tie
 
--- What the test has shown.
+-- What the test implies.
 full : (c : tie.Then1) →
     let a = c .before .before .before .args in
     There (a .src .now) (a .at) (a .width) (bitsAt (a .src .now) (a .at) (a .width)) (a .at + a .width)

@@ -1,4 +1,4 @@
--- While the bits passed are zero, the first set bit of all is that of those left.
+-- As long as the bits passed are zero, the first set bit of all is the first of those left.
 use Prim.Native.Nat.{ℕ, suc, _+_, _-_, _%_, _≤_, _<_}
 use mathlib.Core.Bool.{cond}
 use mathlib.Core.List.{List}
@@ -19,7 +19,7 @@ Inv-loop src at count k₀ k = (k ≤ count) × (fillFrom src (at + count) (firs
 abbrev μ-loop : tie.MeasureT-loop
 μ-loop src at count k₀ k = count - k
 
--- The search from bit k of n on, in the code's numbers.
+-- One step of the search, with `k + 1` as in the code.
 search-from : (s : List ℕ) (at k n : ℕ) → k < n
     → firstSet s (at + k) (n - k) ≡ cond (eqb (bitAt s (at + k)) 0) (firstSet s (at + (k + 1)) (n - (k + 1))) (some (at + k))
 unfolding firstSet

@@ -1,4 +1,4 @@
--- Each byte holds its 8 bits, and the two fields touch.
+-- Each byte is the value of its 8 bits, and the two bytes are adjacent.
 use Prim.Native.Nat.{_+_}
 use native.Mathlib.Omega.{arith}
 use borrow.Author.Needs.{needs}

@@ -1,4 +1,4 @@
--- Each way out of the check is one of the answer's, so that verdict, words and promise follow together (`promised`).
+-- Each return of the check is a case of the answer, so verdict, words and promise follow together (`promised`).
 use mathlib.Core.Path.{refl, sym, _∙_, ap}
 use borrow.Author.Needs.{needs}
 use Rattle.handler.specs.Reading.{readHandler}

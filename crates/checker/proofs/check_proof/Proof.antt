@@ -1,4 +1,4 @@
--- By what reading the proof file found, and then by the verdict of the loop.
+-- By cases: what reading the proof file found, and then the verdict of the loop.
 use mathlib.Core.Path.{_≡_, sym, _∙_, ap}
 use borrow.Author.Needs.{needs}
 use Rattle.semantics.specs.States.{product}
@@ -12,7 +12,7 @@ use Rattle.checker.proofs.Judging.{states-are, refused-proof, on-refuse
 use Rattle.checker.proofs.check_proof.Statement.{statement}
 use Rattle.checker.proofs.check_proof.Tie as tie
 
--- What reading the proof file gave.
+-- The result of reading the proof file.
 file-is : (c : tie.After-load) → let s = c .before .before .before .before .before .before in let a = s .args in
     c .load .result ≡ proofFile (readProof (a .proof .now) (product (s .pre .0 .sizes)))
 file-is c = let s = c .before .before .before .before .before .before in rw (states-are _ (s .args .proof .now) _ _ _ (s .pre .0)) at (c .load .ensures .0)

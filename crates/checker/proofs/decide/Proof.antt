@@ -1,4 +1,4 @@
--- Each way out of the loop is a case of `decided`, and the limit says which of the last two holds.
+-- Each result of the loop is a case of `decided`, and the limit says which of the last two holds.
 use borrow.Author.Needs.{needs}
 use borrow.Author.Tests.{lt-ltb, le-ltb}
 use Rattle.checker.proofs.decide.Statement.{statement}

@@ -1,4 +1,4 @@
--- What was read of a file is within its array, by the contract of `read_argument`.
+-- The bytes read from a file are within its array, by the contract of `read_argument`.
 use mathlib.Core.Path.{sym, ap}
 use native.Mathlib.Omega.{arith}
 use lib.Seq.{length-take-le}

@@ -1,4 +1,4 @@
--- What was read is within the buffer, which keeps its length; each turn reads at least one byte more.
+-- The bytes read are within the buffer, whose length does not change; each round reads at least one more byte.
 use Prim.Native.Nat.{_-_, _≤_}
 use mathlib.Core.Path.{_≡_}
 use borrow.Author.Needs.{needs}

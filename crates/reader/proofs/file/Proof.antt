@@ -1,5 +1,6 @@
--- `reader::file` meets its contract: a walk of its MIR, by hand. The slice that the struct holds is handed back.
--- The struct is Copy: what it owns is had twice, one copy is kept whole for the exit, and of the other what the slice owns is taken, for the result.
+-- `reader::file` meets its contract: a walk of its MIR, by hand. The result is the slice that the struct holds.
+-- The struct is Copy, so its ownership is duplicated: one copy is kept whole for the exit, and the
+-- slice's part of the other is for the result.
 -- Assumes nothing.
 use mathlib.Core.Path.{_≡_, refl}
 use mathlib.Core.List.{[], _∷_}

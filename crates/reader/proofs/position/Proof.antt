@@ -1,5 +1,5 @@
--- `reader::position` meets its contract: a walk of its MIR, by hand. A number is read from a field of the struct, and the struct is seen at exit as it was passed.
--- That the number fits its type is in the struct's relation, at the field's place.
+-- `reader::position` meets its contract: a walk of its MIR, by hand. A number is read from a field of the struct, and the struct is
+-- unchanged at exit. The struct's relation says, at that field, that the number fits its type.
 -- Assumes nothing.
 use mathlib.Core.Path.{refl}
 use Prim.Native.Nat.{_<_, _^_}

@@ -1,5 +1,7 @@
--- `reader::read` meets its contract: a walk of its MIR, by hand. The borrow is opened, `read_on` is called on the slice and the number that the struct holds, the number that it answers is stored beside the slice, and the borrow is closed at the reader moved on.
--- The struct is Copy: of one copy of what it owns the slice goes to the callee, the other is kept for the close, with the new number's facts (`again`). All that the proof knows of `read_on` is that it meets its contract.
+-- `reader::read` meets its contract: a walk of its MIR, by hand. The borrow is opened, `read_on` is called on the slice and the number
+-- that the struct holds, the number in its result is stored, and the borrow is closed with the reader moved on.
+-- The struct is Copy: the slice's part of one copy of its ownership goes to the callee; the other copy is kept for the close, with the
+-- facts about the new number (`again`). The proof uses `read_on` only through its contract.
 use mathlib.Core.Path.{_≡_, refl, ap}
 use Prim.Native.Nat.{ℕ, _<_, _^_}
 use mathlib.Core.List.{List, [], _∷_}
@@ -64,7 +66,7 @@ use Rattle.reader.proofs.read as read
 use Rattle.reader.proofs.read.Statement as stated
 use Rattle.reader.proofs.read.Code as code
 
--- `Reader<'a>`, as the referent's place in the signature
+-- `Reader<'a>`, as the referent's slot in the signature
 abbrev behind : Slot 2
 behind = plain (λ κs. T.the-row (namedLft 2 1 tt κs))
 
@@ -76,7 +78,7 @@ abbrev ReadOn : {M : Type 1} (𝓤 : URA M) (H : Heap 𝓤) (A : Atoms 𝓤) (me
 ReadOn 𝓤 H A mem run = tripleOf 𝓤 H A read-on.signature (read-on.spec 𝓤 H A mem run)
 
 module _ {M : Type 1} (𝓤 : URA M) (H : Heap 𝓤) (A : Atoms 𝓤) (W : Given 𝓤 H A) (at-mem : Memory → SProp 𝓤) (run : Routine → Fun 𝓤) (κ κ′ : Lft) (q q′ : Share) (bounds : AllOutlive 2 (read.signature .outlives) (κ, (κ′, tt))) (b o : ℕ) (γ : GName) (h : Reader) (n : ℕ) (n-fits : n < 2 ^ 64) where
-  -- 'a, the struct's type at it with its laws, and h's fields' values
+  -- 'a, the struct's type at 'a with its laws, and the values of h's fields
   abbrev α : NamedLft
   α = record { mir = named 1; lft = κ′ }
 
@@ -105,7 +107,7 @@ module _ {M : Type 1} (𝓤 : URA M) (H : Heap 𝓤) (A : Atoms 𝓤) (W : Given
   abbrev vals : List Val × (List Val × Unit {0})
   vals = (vptr b o ∷ [], (vint w64 n ∷ [], tt))
 
-  -- what the callee gives, the reader after the outcome t, and the machine value of its answer
+  -- what the callee returns, the reader after the outcome t, and the machine value of its answer
   abbrev found : Outcome
   found = outcomeOf (h .at) (fieldAt (now (h .file)) (h .at) n)
 
@@ -121,7 +123,7 @@ module _ {M : Type 1} (𝓤 : URA M) (H : Heap 𝓤) (A : Atoms 𝓤) (W : Given
   abbrev Own : Fml
   Own = R .own h (mach ∷ [])
 
-  -- what whoever holds a reader, or an outcome, knows of its fields
+  -- what is known of the fields of a reader, and of an outcome
   at-fits : Is R h (mach ∷ []) → h .at < 2 ^ 64
   at-fits g = LL.owed D L h _ g .1 .0 .1
 
@@ -134,7 +136,7 @@ module _ {M : Type 1} (𝓤 : URA M) (H : Heap 𝓤) (A : Atoms 𝓤) (W : Given
   is-answer : (t : Outcome) (u : Val) → Is S.the-row t (u ∷ []) → Is N.the-row (t .answer) (low-answer t ∷ [])
   is-answer t u is = LL.owed S.the-type S′.the-laws t _ is .0
 
-  -- what the callee's triple binds outside, and that the caller has what it asks
+  -- the ghost arguments of the callee's triple, and that the caller meets its precondition
   abbrev to : ReadOn 𝓤 H A at-mem run .Ghost
   to = (((κ′, tt), (q′, tt), tt, (h .file, (h .at, (n, tt))), (v ∷ [], (vint w64 (h .at) ∷ [], (vint w64 n ∷ [], tt)))), tt)
 
@@ -144,11 +146,11 @@ module _ {M : Type 1} (𝓤 : URA M) (H : Heap 𝓤) (A : Atoms 𝓤) (W : Given
       nothing ! $ owned ! usize (Is usize) (uint-makes 𝓤 H A W w64) n _ (refl, n-fits) $ fjoin ! $ owned ! usize (Is usize) (uint-makes 𝓤 H A W w64) (h .at) _ (refl, fits) $ fjoin ! $ move ! (2 ∷ 0 ∷ []) $ fjoin ! $
       move ! (1 ∷ 0 ∷ []) $ join ! $ frame ! $ done !
 
-  -- of the callee's `ensured`, the clause alone: it has no `&mut`, so what is said of last values is dropped
+  -- the clause of the callee's `ensured` alone: it has no `&mut`, so the part on last values is dropped
   said : (t : Outcome) → ent 𝓤 (ensured 𝓤 H A read-on.ended (read-on.clauses 𝓤 H A at-mem run) (κ′, tt) (h .file, (h .at, (n, tt))) tt t) (fact 𝓤 (t ≡ found))
   said t = exE 𝓤 _ (λ ws. snd∗ 𝓤 (sem 𝓤 H A (lasts read-on.ended (κ′, tt) (h .file, (h .at, (n, tt))) ws)) (fact 𝓤 (t ≡ found)))
 
-  -- what the slice owns is kept, and the number's facts are made anew
+  -- what the slice owns is kept, and the facts are those of the new number
   again : (t : Outcome) → t .at < 2 ^ 64 → ent 𝓤 (sem 𝓤 H A Own) (sem 𝓤 H A (R .own (after t) (T′.lowered (after t) ∷ [])))
   again t fits = qed W (‵ Own ∷ []) ∵ owned ! usize (Is usize) (uint-makes 𝓤 H A W w64) (t .at) _ (refl, fits) $ move ! (1 ∷ 0 ∷ []) $ by ! (own-put 𝓤 H A W D L 1 vh (t .at) mach)
 
@@ -168,23 +170,25 @@ module _ {M : Type 1} (𝓤 : URA M) (H : Heap 𝓤) (A : Atoms 𝓤) (W : Given
         opens ! tt R {h = h} b o (λ vs. spelt ! R (Is R) (shows 𝓤 H A R) (LL.vals D L) (LL.tells D L) fullShare h vs b o $
         use1 W (‵ (fat fullShare (T′.mir erased) b o mach)) (W .laws .raw-at fullShare (T′.mir erased) b o mach) $
         move ! (1 ∷ []) $ peeks ! R (Is R) (shows 𝓤 H A R) h (mach ∷ []) (λ g. move ! (1 ∷ 0 ∷ []) $
-        -- [the struct's cell; what a Reader owns; the open borrow; obs; auth; 'a's token; width's; _5; …; _4; …; _3; …; _2; …; _1; …; room for _0; …]
+        -- [the struct's cell; what a Reader owns; the open borrow; obs; auth; 'a's token; width's; _5; …;
+        -- _4; …; _3; …; _2; …; _1; …; room for _0; …]
         assigns ! (of-opd ! (load ! (from ! (hop ! (look ! 15 refl) (fld ! refl (stop !)))) (look-in ! 0 (sub ! 0 refl (whole !))))) (from ! (stop !)) (init ! 9 refl (tt, (tt, (record { fits = room g .0 }, tt)))) $
         assigns ! (of-opd ! (load ! (from ! (hop ! (look ! 15 refl) (fld ! refl (stop !)))) (look-in ! 0 (sub ! 1 refl (whole !))))) (from ! (stop !)) (init ! 7 refl (tt, record { fits = at-fits g })) $
-        -- what the Reader owns is had twice, and of one copy the slice's part goes to the callee
+        -- the Reader's ownership is duplicated, and the slice's part of one copy goes to the callee
         move ! (1 ∷ []) $ use1 W (‵ Own ⊛ ‵ Own) (LL.copy D (T′.the-copy α) 𝓤 H A W .twice h (mach ∷ [])) $ split ! $
         use1 W (given (mach ∷ [] ≡ mach ∷ []) (‵ (all-own (D .parts) L vh))) (own-open 𝓤 H A W D L vh mach) $ learn ! (λ _. use1 W (‵ (ownAt (D .parts) L 0 (h .file)) ⊛ ‵ (rest (D .parts) L 0 vh)) (own-out 𝓤 H A W (D .parts) L 0 vh) $ split ! $ move ! (1 ∷ []) $ drop ! $
         move ! (6 ∷ 0 ∷ []) $ use2 W (raw (ReadOn 𝓤 H A at-mem run .pre to)) (goes (at-fits g)) $
-        -- [what the callee asks; what the Reader owns; the struct's cell; the open borrow; obs; auth; width's; _5; …]
+        -- [the callee's precondition; what the Reader owns; the struct's cell; the open borrow; obs; auth; width's; _5; …]
         calls-at ! fm (ReadOn 𝓤 H A at-mem run) known to (and-then ! (load ! (from ! (stop !)) (look ! 9 refl)) (and-then ! (load ! (from ! (stop !)) (look ! 7 refl)) (and-then ! (load ! (from ! (stop !)) (look ! 13 refl)) (no-more !)))) (λ u.
         use1 W (later (some (λ (t : Outcome). ((‵ (flft κ′ q′) ⊛ ‵ ftrue) ⊛ ‵ (S.the-row .own t (u ∷ []))) ⊛ raw (ensured 𝓤 H A read-on.ended (read-on.clauses 𝓤 H A at-mem run) (κ′, tt) (h .file, (h .at, (n, tt))) tt t)))) (id⊢ 𝓤 _) $ await ! tt $ pick ! (λ t.
         split ! $ move ! (1 ∷ []) $ use1 W (raw (fact 𝓤 (t ≡ found))) (said t) $ heard ! (t ≡ found) (λ e. split ! $ move ! (1 ∷ []) $
-        -- [the outcome; 'a's token; what the Reader owns; the struct's cell; the open borrow; obs; auth; width's; _5; …; _4; …; _3; …; _2; …; _1; …; room for _0; …]
+        -- [the outcome; 'a's token; what the Reader owns; the struct's cell; the open borrow; obs; auth; width's; _5; …;
+        -- _4; …; _3; …; _2; …; _1; …; room for _0; …]
         peeks ! S.the-row (Is S.the-row) (shows 𝓤 H A S.the-row) t (u ∷ []) (λ is.
         land ! (from ! (stop !)) (init ! 12 refl (LL.lawful S.the-type S′.the-laws 𝓤 H A W .typed t _ is .0)) $ rewrite ! 12 (λ (w : Val). ‵ (fat fullShare S′.mir l₃ 0 w)) (ap only (LL.tells S.the-type S′.the-laws t _ is)) refl $
         assigns ! (of-opd ! (load ! (from ! (fld ! refl (stop !))) (look-in ! 12 (sub ! 1 refl (whole !))))) (from ! (hop ! (look ! 16 refl) (fld ! refl (stop !)))) (store-in ! 3 (sub ! 1 refl (whole !)) (tt, record { fits = outcome-fits t u is })) $
         assigns ! (of-opd ! (load ! (from ! (fld ! refl (stop !))) (look-in ! 12 (sub ! 0 refl (whole !))))) (from ! (stop !)) (init ! 18 refl (EL.lawful N.the-type N′.the-laws 𝓤 H A W tt .typed (t .answer) _ (is-answer t u is) .0)) $
-        -- the reader moved on, at which the borrow is closed
+        -- the borrow is closed with the reader moved on
         move ! (2 ∷ []) $ use1 W (‵ (R .own (after t) (T′.lowered (after t) ∷ []))) (again t (outcome-fits t u is)) $
         move ! (3 ∷ []) $ use1 W (‵ (cellAt fullShare (R .mir) (T′.lowered (after t) ∷ []) b o)) (W .laws .at-raw fullShare (T′.mir erased) b o (T′.lowered (after t))) $
         move ! (0 ∷ 1 ∷ 4 ∷ 5 ∷ 6 ∷ []) $ closes ! tt R (after t) (T′.lowered (after t) ∷ []) b o $

@@ -1,4 +1,4 @@
--- Each way out is the definitions' at what `bits::read` ensures of its answer.
+-- Each return is what the definitions give for the answer that `bits::read` ensures.
 use mathlib.Core.Path.{sym, _∙_, ap}
 use borrow.Author.Needs.{needs}
 use Rattle.reader.specs.Reading.{fieldOf, movedTo, outcomeOf}

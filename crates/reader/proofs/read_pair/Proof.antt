@@ -1,6 +1,8 @@
--- `reader::read_pair` meets its contract: a walk of its MIR, by hand. The reader is made in a local, and lent to `read` twice; `lent` and `back` are the two ends of one loan.
--- A loan's lifetime is ν ∷ κ, a new ν within the file's κ, because `read` asks that the file outlive the loan. One half of κ's token goes into the loan's, the other to the callee as it is.
--- All that the proof knows of `read` is that it meets its contract.
+-- `reader::read_pair` meets its contract: a walk of its MIR, by hand. The reader is made in a local and lent to `read` twice; `lent` and
+-- `back` are the start and the end of one loan.
+-- A loan's lifetime is ν ∷ κ, a new ν within the file's κ, because `read` requires that the file outlive the loan. One half of κ's token
+-- goes into the loan's token, the other half to the callee.
+-- The proof uses `read` only through its contract.
 use mathlib.Core.Path.{_≡_, refl, ap}
 use Prim.Native.Nat.{ℕ, _<_, _^_}
 use mathlib.Core.List.{List, [], _∷_}
@@ -74,7 +76,7 @@ stayed = (stay-none-slice (0 ∷ []) tt (plain (λ _. u8)) yes, (stay-none (λ _
 abbrev Read : {M : Type 1} (𝓤 : URA M) (H : Heap 𝓤) (A : Atoms 𝓤) (mem : Memory → SProp 𝓤) (run : Routine → Fun 𝓤) → Contract 𝓤
 Read 𝓤 H A mem run = tripleOf 𝓤 H A read.signature (read.spec 𝓤 H A mem run)
 
--- the machine value of an answer can only be its own
+-- if an answer has a machine value, it has the one that its type gives
 is-at : (a : Answer) (u : Val) → Is N.the-row a (u ∷ []) → Is N.the-row a (EL.vals N.the-type N′.the-laws a)
 is-at a u is = EL.owes N.the-type N′.the-laws a (EL.owed N.the-type N′.the-laws a _ is)
 
@@ -99,9 +101,9 @@ module _ {M : Type 1} (𝓤 : URA M) (H : Heap 𝓤) (A : Atoms 𝓤) (W : Given
   abbrev loans : Share
   loans = PosShare·right q
 
-  -- a reader in the local at l is lent to `read`, and comes back moved on
+  -- a reader in the local at l is lent to `read`, and is moved on when the loan ends
   module _ (l : ℕ) (n : ℕ) (n-fits : n < 2 ^ 64) where
-    -- the reference under the name δ, and what `read`'s triple binds outside
+    -- the reference under the name δ, and the ghost arguments of `read`'s triple
     abbrev ref : GName → Reader → RefT Reader
     ref δ r = record { ptr = (l, 0); name = δ; now = r }
 
@@ -133,7 +135,7 @@ module _ {M : Type 1} (𝓤 : URA M) (H : Heap 𝓤) (A : Atoms 𝓤) (W : Given
         move ! (2 ∷ 4 ∷ 0 ∷ []) $ use3 W (raw (Read 𝓤 H A at-mem run .pre (to ν δ r))) (goes ν δ r) $
         at-once ! $ show ! (λ (x : ℕ × GName). sep 𝓤 (Read 𝓤 H A at-mem run .pre (to (x .0) (x .1) r)) (Kept x)) (ν, δ) $ done !))
 
-    -- what the caller has of the call, once the loan is ended
+    -- what the caller has after the call, once the loan has ended
     abbrev Back : Reader → Val → SProp 𝓤
     Back r u = sep 𝓤 (sep 𝓤 (sep 𝓤 (H .at fullShare (T′.mir erased) l 0 (T′.lowered (movedOn r n))) (sem 𝓤 H A (R .own (movedOn r n) (T′.lowered (movedOn r n) ∷ [])))) (A .lft κ q)) (sem 𝓤 H A (N.the-row .own (answerOf r n) (u ∷ [])))
 
@@ -203,27 +205,30 @@ module _ {M : Type 1} (𝓤 : URA M) (H : Heap 𝓤) (A : Atoms 𝓤) (W : Given
           pass1 ! (init ! 16 refl typed) $ pass1 ! (init ! 14 refl (tt, record { fits = p-fits })) $ pass1 ! (init ! 12 refl (tt, record { fits = n-fits })) $ pass1 ! (init ! 10 refl (tt, record { fits = m-fits })) $ pass0 ! $
           -- [_9; …; _8; …; _7; …; _6; …; _5; …; _4; …; _3; …; _2; …; _1; …; room for _0; …; the token; what the parameters own]
           assigns ! (agg ! (and-then ! (load ! (from ! (stop !)) (look ! 16 refl)) (and-then ! (load ! (from ! (stop !)) (look ! 14 refl)) (no-more !)))) (from ! (stop !)) (init ! 8 refl (tt, (typed .1, (record { fits = p-fits }, tt)))) $
-          -- what the slice owns is had twice: once for the exit, and once inside the reader
+          -- the slice's ownership is duplicated: one copy for the exit, and one for the reader
           move ! (21 ∷ []) $ fsplit ! $ move ! (1 ∷ []) $ drop ! $ use1 W (‵ Own ⊛ ‵ Own) (shr-slice-copy 𝓤 H A W (named 0) κ u8 .twice s (v ∷ [])) $ split ! $
           nothing ! $ owned ! usize (Is usize) (uint-makes 𝓤 H A W w64) p _ (refl, p-fits) $ fjoin ! $ move ! (1 ∷ 0 ∷ []) $ fjoin ! $ use1 W (‵ (R .own r₀ (T′.lowered r₀ ∷ []))) (own-shut 𝓤 H A W D L (s, (p, tt))) $
           move ! (22 ∷ []) $ split ! $ move ! (1 ∷ []) $ drop ! $
-          -- [the token; what the reader owns; what the slice owns; _9; …; _8; …; _7; …; _6; …; _5; …; _4; …; _3; …; _2; …; _1; …; room for _0; …]
+          -- [the token; what the reader owns; what the slice owns; _9; …; _8; …; _7; …; _6; …; _5; …;
+          -- _4; …; _3; …; _2; …; _1; …; room for _0; …]
           assigns ! (addr ! (from ! (stop !))) (from ! (stop !)) (init ! 5 refl (tt, tt)) $
           move ! (11 ∷ 1 ∷ 0 ∷ []) $ use3 W (later (some (λ (y : ℕ × GName). raw (Read 𝓤 H A at-mem run .pre (to l₅ n n-fits (y .0) (y .1) r₀)) ⊛ raw (Kept l₅ n n-fits y)))) (lent l₅ n n-fits r₀) $ await ! tt $ pick ! (λ y. split ! $
-          -- [what `read` asks; what the lender keeps; what the slice owns; _9; …; _8; …; _7; …; _6; …; _5's; _4; …; _3; …; _2; …; _1; …; room for _0; …]
+          -- [`read`'s precondition; what the lender keeps; what the slice owns; _9; …; _8; …; _7; …; _6; …; _5's;
+          -- _4; …; _3; …; _2; …; _1; …; room for _0; …]
           calls-at ! fm (Read 𝓤 H A at-mem run) known (to l₅ n n-fits (y .0) (y .1) r₀) (and-then ! (load ! (from ! (stop !)) (look ! 5 refl)) (and-then ! (load ! (from ! (stop !)) (look ! 14 refl)) (no-more !))) (λ a.
           use2 W (later (((‵ (fat fullShare (T′.mir erased) l₅ 0 (T′.lowered r₁)) ⊛ ‵ (R .own r₁ (T′.lowered r₁ ∷ []))) ⊛ ‵ (flft κ q)) ⊛ ‵ (N.the-row .own (answerOf r₀ n) (a ∷ [])))) (back l₅ n n-fits y r₀ a) $ await ! tt $ split ! $ split ! $ split ! $
           move ! (3 ∷ []) $ peeks ! N.the-row (Is N.the-row) (shows 𝓤 H A N.the-row) (answerOf r₀ n) (a ∷ []) (λ is.
           -- [the answer; the reader; what it owns; the token; what the slice owns; _9; …; _8; …; _7; …; _6; …; _5's; _4; …]
           land ! (from ! (stop !)) (init ! 11 refl (EL.lawful N.the-type N′.the-laws 𝓤 H A W tt .typed (answerOf r₀ n) _ is .0)) $ rewrite ! 11 (λ (w : Val). ‵ (fat fullShare N′.mir l₆ 0 w)) (ap only (EL.tells N.the-type N′.the-laws (answerOf r₀ n) _ is)) refl $ drop ! $
-          -- the same again
+          -- the second read, in the same way
           assigns ! (addr ! (from ! (stop !))) (from ! (stop !)) (init ! 4 refl (tt, tt)) $
           use3 W (later (some (λ (y : ℕ × GName). raw (Read 𝓤 H A at-mem run .pre (to l₅ m m-fits (y .0) (y .1) r₁)) ⊛ raw (Kept l₅ m m-fits y)))) (lent l₅ m m-fits r₁) $ await ! tt $ pick ! (λ y′. split ! $
           calls-at ! fm (Read 𝓤 H A at-mem run) known (to l₅ m m-fits (y′ .0) (y′ .1) r₁) (and-then ! (load ! (from ! (stop !)) (look ! 3 refl)) (and-then ! (load ! (from ! (stop !)) (look ! 12 refl)) (no-more !))) (λ b.
           use2 W (later (((‵ (fat fullShare (T′.mir erased) l₅ 0 (T′.lowered (movedOn r₁ m))) ⊛ ‵ (R .own (movedOn r₁ m) (T′.lowered (movedOn r₁ m) ∷ []))) ⊛ ‵ (flft κ q)) ⊛ ‵ (N.the-row .own (answerOf r₁ m) (b ∷ [])))) (back l₅ m m-fits y′ r₁ b) $ await ! tt $ split ! $ split ! $ split ! $
           move ! (3 ∷ []) $ peeks ! N.the-row (Is N.the-row) (shows 𝓤 H A N.the-row) (answerOf r₁ m) (b ∷ []) (λ is′.
           land ! (from ! (stop !)) (init ! 9 refl (EL.lawful N.the-type N′.the-laws 𝓤 H A W tt .typed (answerOf r₁ m) _ is′ .0)) $ rewrite ! 9 (λ (w : Val). ‵ (fat fullShare N′.mir l₇ 0 w)) (ap only (EL.tells N.the-type N′.the-laws (answerOf r₁ m) _ is′)) refl $ drop ! $
-          -- [the reader; what it owns; the token; what the slice owns; _9; …; _8; …; _7; …; _6; …; _5's; _4; …; _3; …; _2; …; _1; …; room for _0; …]
+          -- [the reader; what it owns; the token; what the slice owns; _9; …; _8; …; _7; …; _6; …; _5's;
+          -- _4; …; _3; …; _2; …; _1; …; room for _0; …]
           assigns ! (agg ! (and-then ! (load ! (from ! (stop !)) (look ! 10 refl)) (and-then ! (load ! (from ! (stop !)) (look ! 8 refl)) (no-more !)))) (from ! (stop !)) (init ! 21 refl (LL.lawful P.the-type P′.the-laws 𝓤 H A W .typed both _ (is-both a b is is′) .0)) $
           returns ! (look ! 21 refl) $ forget ! 0 refl $ forget ! 4 refl $ forget ! 6 refl $ forget ! 8 refl $ forget ! 10 refl $ forget ! 13 refl $ forget ! 15 refl $ forget ! 17 refl $ forget ! 19 refl $ forget ! 21 refl $
           move ! (21 ∷ 22 ∷ []) $ free1 ! $ move ! (19 ∷ 20 ∷ []) $ free1 ! $ move ! (17 ∷ 18 ∷ []) $ free1 ! $ move ! (15 ∷ 16 ∷ []) $ free1 ! $ move ! (13 ∷ 14 ∷ []) $ free1 ! $ move ! (0 ∷ 12 ∷ []) $ free1 ! $

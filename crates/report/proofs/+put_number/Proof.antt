@@ -1,4 +1,4 @@
--- The measure is the number. What is put is `decimal`'s own equation: the front by the call below, then the last digit.
+-- The measure is the number. The text put is that of `decimal`: the front by the recursive call, then the last digit.
 use Prim.Native.Nat.{ℕ, _<_}
 use mathlib.Core.Path.{ap}
 use native.Mathlib.Omega.{arith}

@@ -1,4 +1,4 @@
--- After k turns the first k bytes of the text are pasted; `pasted` says what all of them leave.
+-- After k rounds the first k bytes of the text are pasted; `pasted` gives the result for all of them.
 use Prim.Native.Nat.{_-_, _≤_}
 use mathlib.Core.Path.{_≡_}
 use native.Mathlib.Omega.{arith}

@@ -1,4 +1,4 @@
--- The word, then the number: `put-then` puts them as one, and `decimal-short` bounds the digits.
+-- The word, then the number: `put-then` joins them, and `decimal-short` bounds the digits.
 use native.Mathlib.Omega.{arith}
 use borrow.Author.Needs.{needs}
 use Rattle.report.proofs.Decimal.{decimal-short}

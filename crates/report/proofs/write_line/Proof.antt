@@ -1,4 +1,4 @@
--- The line is made in 64 bytes, which hold every line, and then put at the front where there is room.
+-- The line is built in 64 bytes, which hold every line, and then put at the front if there is room.
 use mathlib.Core.Path.{_≡_, refl}
 use native.Mathlib.Omega.{arith}
 use borrow.Author.Needs.{needs}

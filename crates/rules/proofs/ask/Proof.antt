@@ -1,4 +1,4 @@
--- By what was found before, and whether the condition holds.
+-- By cases: what was found before, and whether the condition holds.
 use borrow.Author.Needs.{needs}
 use Rattle.rules.specs.Asking.{asked}
 use Rattle.rules.proofs.ask.Statement.{statement}

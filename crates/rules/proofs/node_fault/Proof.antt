@@ -1,4 +1,4 @@
--- By the rule's code; the code's n is the machine's.
+-- By cases on the rule's code; the code's n is the machine's.
 use borrow.Author.Needs.{needs}
 use borrow.Author.Tests.{ne-eqb}
 use Rattle.rules.specs.Obligations.{obligationsIn}

@@ -1,4 +1,4 @@
--- What the tables hold at i, at the next node and at the one that node i names.
+-- The records in the tables at i, at the next node and at the one that node i names.
 use mathlib.Core.Path.{_∙_, ap}
 use native.Mathlib.Numerals.{add-one}
 use borrow.Author.Needs.{needs}

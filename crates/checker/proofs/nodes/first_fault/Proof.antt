@@ -1,4 +1,4 @@
--- The first fault of all nodes is that of the nodes from i on. `goes-on` passes a node whose conditions hold.
+-- The first fault of all nodes is that of the nodes from i on. `goes-on` passes over a node whose conditions hold.
 use Prim.Native.Nat.{_-_, _≤_}
 use native.Mathlib.Omega.{arith}
 use native.Mathlib.Nat.{le-trans}

@@ -1,4 +1,4 @@
--- A weaken or another rule.
+-- By cases: a weaken or another rule.
 use native.Mathlib.Numerals.{add-one}
 use borrow.Author.Needs.{needs}
 use borrow.Author.Tests.{eq-eqb, ne-eqb}

@@ -1,4 +1,4 @@
--- The stores at the states taken out of P change nothing or are in G, and those left are still to be asked. `passed-more` asks the least.
+-- The loop keeps whether 43 holds at the states taken out of P; those left are still to be checked. `passed-more` checks the least.
 use Prim.Native.Nat.{ℕ}
 use mathlib.Core.Path.{_∙_, sym}
 use mathlib.Core.Bool.{_||_}

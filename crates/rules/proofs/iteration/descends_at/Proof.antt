@@ -1,4 +1,4 @@
--- The ends lead by W into themselves.
+-- W leads from the ends of row s back into these ends.
 use mathlib.Core.Path.{_∙_, sym}
 use borrow.Author.Needs.{needs}
 use Rattle.states.proofs.Search.{holds-must}

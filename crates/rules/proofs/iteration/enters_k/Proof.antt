@@ -1,4 +1,4 @@
--- P met with the truth is within K, over all that a set can hold as over the n.
+-- P met with the states where the test is true lies in K, and this is the same over all states that a set can hold as over the n.
 use mathlib.Core.Path.{_∙_, ap}
 use borrow.Author.Needs.{needs}
 use Rattle.states.specs.Search.{holds}

@@ -1,5 +1,4 @@
--- From the states taken out of P a round or none leads, where the test is false, into Q, and of those left it is still to be asked.
--- `passed-more` asks the least.
+-- The loop keeps whether 56 holds at the states taken out of P; those left are still to be checked. `passed-more` checks the least.
 use Prim.Native.Nat.{ℕ}
 use mathlib.Core.Path.{_∙_, sym, ap, fun-ext}
 use mathlib.Core.Bool.{Bool, _&&_, _||_}
@@ -28,7 +27,7 @@ Inv-loop n work own w falsity p rest₀ held₀ rest held = Passed n (λ s. hold
 abbrev μ-loop : tie.MeasureT-loop
 μ-loop n work own w falsity p rest₀ held₀ rest held = count capacity (has rest)
 
--- P holds states only.
+-- P has only states below n that a set can hold.
 small : (c : tie.After-set-at Inv-loop μ-loop) → StatesOnly (c .before .before .args .n) (has (c .set-at .result))
 small c s e = let a = c .before .before .args in set-small (a .n) (a .work .now) (a .own .p) s (sym (c .set-at .ensures s) ∙ e)
 

@@ -1,4 +1,4 @@
--- The ends of a round or of none, met with p and the falsity, lie in row s of Q.
+-- s and the ends of W from s, met with p and the states where the test is false, lie in row s of Q.
 use mathlib.Core.Path.{_∙_, ap, ap₂}
 use mathlib.Core.Bool.{_&&_, _||_}
 use borrow.Author.Needs.{needs}

@@ -1,4 +1,4 @@
--- From the states below s that are in P, R keeps the state or descends. `holds-next` adds the next.
+-- The loop keeps whether 55 holds at the states below s. `holds-next` adds the next.
 use Prim.Native.Nat.{_≤_, _-_}
 use native.Mathlib.Omega.{arith}
 use mathlib.Core.Path.{_≡_, _∙_, ap₂, refl}

@@ -1,4 +1,4 @@
--- The row of R is within that of W with s itself.
+-- The row of R lies in that of W joined with s itself.
 use mathlib.Core.Path.{_∙_, sym, ap, ap₂}
 use mathlib.Core.Bool.{_&&_, _||_}
 use lib.Dec.{eqb}

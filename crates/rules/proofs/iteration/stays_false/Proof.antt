@@ -1,4 +1,4 @@
--- R leads from P met with the falsity into the falsity.
+-- R leads from the states of P where the test is false to states where it is false.
 use mathlib.Core.Path.{_∙_, ap, refl}
 use mathlib.Core.Bool.{_&&_}
 use borrow.Author.Needs.{needs}

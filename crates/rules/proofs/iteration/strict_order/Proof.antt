@@ -1,4 +1,4 @@
--- Both searches find nothing below s. `holds-next` adds the next state to each.
+-- The loop keeps whether both searches find nothing below s. `holds-next` adds the next state to each.
 use Prim.Native.Nat.{ℕ, _+_, _≤_, _-_}
 use native.Mathlib.Omega.{arith}
 use mathlib.Core.Path.{_≡_, _∙_, sym, ap₂, refl}

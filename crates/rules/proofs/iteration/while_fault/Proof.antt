@@ -1,4 +1,4 @@
--- 30 to 33, then 34 and 50 to 56; the code's n is the machine's, and the sets are where the test is true and false.
+-- 30 to 33, then 34 and 50 to 56; the code's n is the machine's, and the sets are the states where the test is true and false.
 use mathlib.Core.Path.{_∙_, fun-ext}
 use borrow.Author.Needs.{needs}
 use Rattle.evaluation.specs.Values.{exprIn}

@@ -1,4 +1,4 @@
--- After the variables below v: the mask has those of them that R moves. `any-more` adds the next.
+-- After the variables below v, the mask has those of them that R moves. `any-more` adds the next.
 use Prim.Native.Nat.{ℕ, _≤_, _<_, _-_}
 use native.Mathlib.Omega.{arith}
 use mathlib.Core.Path.{_≡_, _∙_, sym, ap, ap₂}
@@ -29,7 +29,7 @@ abbrev μ-loop : tie.MeasureT-loop
 returns : tie.Need-returns Inv-loop μ-loop
 returns c v = mask-none v ∙ sym (moves-none _ (sym (c .before .states-in .ensures) ∙ c .if1 .taken) _ v)
 
--- The states of P that start a pair are all that matter.
+-- It is enough to look at the states of P that start a pair.
 enough : (c : tie.After-meet Inv-loop μ-loop) (v : ℕ) → let k = c .before .before .before .before .before in
     let a = k .before .before .args in let n = k .states-in .result in
     any n (λ s. has (c .meet .result) s && any n (λ t. wordRelation n (a .work .now) (a .own .r) s t && not (agree (machineIn (a .head)) v s t)))
@@ -54,7 +54,7 @@ loop-holds : tie.Need-loop-holds Inv-loop μ-loop
 unfolding any
 loop-holds c = (omega arith, mask-none)
 
--- Where there is a state there are at most 4 variables.
+-- If there is a state, there are at most 4 variables.
 with-variable-requires : tie.Need-with-variable-requires Inv-loop μ-loop
 with-variable-requires c κs =
     let k = c .before .before .before .before .before .before .before .before .before .before in

@@ -1,5 +1,5 @@
--- From the states taken out of the set, r leads to states that agree, and of those left it is still to be asked. `passed-part` asks it
--- of all that agree with the least, and `passed-not` ends the loop where it does not.
+-- From the states taken out of the set, r leads to states that agree; those left are still to be checked. `passed-part` checks all that
+-- agree with the least, and `passed-not` ends the loop if the check fails.
 use Prim.Native.Nat.{ℕ}
 use mathlib.Core.Path.{_≡_, _∙_, sym, ap, ap₂, refl}
 use mathlib.Core.Bool.{Bool, true, false, not, _&&_, _||_, and-false}
@@ -32,7 +32,7 @@ Inv-loop n work r v variable rest₀ rest = Passed n (keeps n work r variable) r
 abbrev μ-loop : tie.MeasureT-loop
 μ-loop n work r v variable rest₀ rest = count capacity (has rest)
 
--- What is taken out, and what is asked of it.
+-- The states taken out in one round, and what is checked for them.
 group : (c : tie.After-join Inv-loop μ-loop) → let f = c .before .before .before in
     let d = f .before .before .before in
     let first = f .least .result in
@@ -79,7 +79,7 @@ loop-again c =
     passed-part _ _ _ _ _ true true (has (d .before .before .join .result)) (c .narrow .ensures) (sym (c .before .if2 .taken) ∙ asked d)
     (d .before .before .before .before .before .before .before .before .loop .inv)
 
--- Whether r leads to states that agree, from the states that the loop starts with as from the set, in the variable as in the head's.
+-- What the loop finds is what the contract says: the loop starts with the states of the set below n, and its variable is v of the head.
 moved : (c : tie.After-meet Inv-loop μ-loop) (b : Bool) → let a = c .before .before .before .before .args in
     b ≡ all (a .n) (λ s. implies (has (c .meet .result) s) (keeps (a .n) (a .work .now) (a .r) (c .before .before .variable-of .result) s))
     → not b ≡ any (a .n) (λ s. has (a .from) s && any (a .n) (λ t. wordRelation (a .n) (a .work .now) (a .r) s t && not (agree (machineIn (a .head)) (a .v) s t)))

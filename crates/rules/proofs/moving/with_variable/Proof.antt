@@ -1,4 +1,4 @@
--- The mask joined with the power of 2 of the variable's number.
+-- The mask joined with the bit of the variable.
 use Prim.Native.Nat.{ℕ, _*_, _%_, _^_, _<_}
 use native.Mathlib.Nat.{one-mul}
 use native.Mathlib.Omega.{arith}

@@ -1,4 +1,4 @@
--- A join of three.
+-- The join of three relations.
 use Prim.Native.Nat.{ℕ}
 use mathlib.Core.Path.{_≡_, _∙_, refl}
 use mathlib.Core.Bool.{Bool, true, false, _&&_, _||_}
@@ -10,7 +10,7 @@ use Rattle.rules.specs.Words.{wordRelation}
 use Rattle.rules.proofs.parallel.changes.Statement.{statement}
 use Rattle.rules.proofs.parallel.changes.Tie as tie
 
--- The inner join's bound is the outer's.
+-- The bound of the inner join is that of the outer.
 once : (b x y : Bool) → (b && (b && x || y)) ≡ (b && (x || y))
 once true x y = refl
 once false x y = refl

@@ -1,4 +1,4 @@
--- What both rows and the reach have is within the row of Q.
+-- What both rows and the reach have in common lies in the row of Q.
 use Prim.Native.Nat.{ℕ}
 use mathlib.Core.Path.{_≡_, _∙_, sym, ap, ap₂}
 use mathlib.Core.Bool.{Bool, true, _&&_}
@@ -13,7 +13,7 @@ use Rattle.rules.proofs.Words.{set-small, relation-small, reached-set}
 use Rattle.rules.proofs.parallel.joint_post_at.Statement.{statement}
 use Rattle.rules.proofs.parallel.joint_post_at.Tie as tie
 
--- What the two rows share, and where s is in P.
+-- What the two rows share, and that s is in P.
 both : (c : tie.After-meet) → let a = c .before .before .before .before .before .before .before .before .args in
     (t : ℕ) → has (c .meet .result) t ≡ (wordRelation (a .n) (a .work .now) (a .left) (a .s) t && wordRelation (a .n) (a .work .now) (a .right) (a .s) t)
 both c t = c .meet .ensures t ∙ ap₂ _&&_ (c .before .before .row-at .ensures t) (c .before .row-at2 .ensures t)
@@ -21,7 +21,7 @@ both c t = c .meet .ensures t ∙ ap₂ _&&_ (c .before .before .row-at .ensures
 member : (c : tie.Then1) → let a = c .before .before .before .before .before .args in wordSet (a .n) (a .work .now) (a .p) (a .s) ≡ true
 member c = sym (c .before .holds-state .ensures ∙ c .before .before .set-at .ensures _) ∙ c .if1 .taken
 
--- The condition for any property in the place of the reach, by the words.
+-- The condition over the words, with any property in place of the reach.
 by-words : (c : tie.After-row-at3) (x : ℕ → Bool) → let a = c .before .before .before .before .before .before .before .before .before .args in
     all capacity (λ t. implies (has (c .before .meet .result) t && x t) (has (c .row-at3 .result) t))
     ≡ holds (given (wordSet (a .n) (a .work .now) (a .p) (a .s)) (inSet (a .n)

@@ -1,4 +1,4 @@
--- The states below s that are in P meet the condition. `holds-next` adds the next, whose reach by the rows that there are is the whole reach.
+-- The loop keeps whether 66 holds at the states below s. `holds-next` adds the next, whose reach by the rows is the whole reach.
 use Prim.Native.Nat.{ℕ, _≤_, _-_}
 use native.Mathlib.Omega.{arith}
 use mathlib.Core.Path.{_≡_, _∙_, ap, ap₂, fun-ext, refl}
@@ -17,7 +17,7 @@ use Rattle.rules.proofs.Words.{set-small, relation-pairs, join-pairs, r
 use Rattle.rules.proofs.parallel.parallel_post.Statement.{statement}
 use Rattle.rules.proofs.parallel.parallel_post.Tie as tie
 
--- The condition at a state, for the reach by some changes; and the changes that it names.
+-- The condition at a state, with the reach by given changes; and the changes that 66 names.
 abbrev at : ℕ → List ℕ → Names → Names → Names → (ℕ → ℕ → Bool) → ℕ → Search
 at n work own left right moves s =
     given (wordSet n work (own .p) s) (inSet n (λ t. wordRelation n work (left .q) s t && wordRelation n work (right .q) s t && reach n moves s t)

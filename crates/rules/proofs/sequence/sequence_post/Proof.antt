@@ -1,4 +1,4 @@
--- Left Q, then right Q, is in Q from P.
+-- From P, left Q and then right Q is in Q.
 use mathlib.Core.Path.{_∙_}
 use borrow.Author.Needs.{needs}
 use Rattle.semantics.specs.Conditions.{c61}

@@ -1,4 +1,4 @@
--- The pairs (s,s) of P are in Q.
+-- The pairs (s,s) with s in P are in Q.
 use mathlib.Core.Path.{_∙_, ap, fun-ext}
 use borrow.Author.Needs.{needs}
 use Rattle.states.specs.Search.{must, holds}

@@ -1,4 +1,4 @@
--- Where no state starts a pair of R there is no chain to ask about; else those states of P, and those ends of Q, will do that start one.
+-- If no state starts a pair of R, nothing is to be checked; else it is enough to look at the states of P, and ends of Q, that start one.
 use Prim.Native.Nat.{ℕ}
 use mathlib.Core.Path.{_≡_, _∙_, sym, ap}
 use mathlib.Core.Bool.{_&&_}

@@ -1,5 +1,5 @@
--- The states taken out of those to look at have their chains in whole, and those left are still to be asked. `passed-more` asks
--- the least.
+-- The loop keeps whether the chains from the states taken out are in `whole`; those left are still to be
+-- checked. `passed-more` checks the least.
 use Prim.Native.Nat.{ℕ}
 use mathlib.Core.Path.{_≡_, _∙_, ap}
 use mathlib.Core.Bool.{_&&_}

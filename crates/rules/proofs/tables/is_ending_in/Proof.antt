@@ -1,4 +1,4 @@
--- The rows below s are those met with the set. `all-next` adds the next.
+-- The loop keeps whether the rows of `part` below s are those of `a` met with the set. `all-next` adds the next.
 use Prim.Native.Nat.{_≤_, _-_}
 use native.Mathlib.Omega.{arith}
 use mathlib.Core.Path.{_≡_, _∙_, sym, ap₂, refl}

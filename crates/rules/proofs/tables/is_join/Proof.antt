@@ -1,4 +1,4 @@
--- The rows below s are the joined rows. `all-next` adds the next.
+-- The loop keeps whether the rows of `whole` below s are the joined rows. `all-next` adds the next.
 use Prim.Native.Nat.{_≤_, _-_}
 use native.Mathlib.Omega.{arith}
 use mathlib.Core.Path.{_≡_, _∙_, sym, ap₂, refl}

@@ -1,4 +1,4 @@
--- The ends are within the other set, over all that a set can hold as over the n.
+-- The ends lie in the other set, and this is the same over all states that a set can hold as over the n.
 use mathlib.Core.Path.{_∙_}
 use borrow.Author.Needs.{needs}
 use Rattle.states.specs.Sets.{has}

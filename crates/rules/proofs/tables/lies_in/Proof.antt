@@ -1,4 +1,4 @@
--- A table lies in itself. Of two tables the rows below s lie in the other's, and `all-next` adds the next.
+-- A table lies in itself. For two tables the loop keeps whether the rows below s lie in the other's, and `all-next` adds the next.
 use Prim.Native.Nat.{_≤_, _-_}
 use native.Mathlib.Omega.{arith}
 use mathlib.Core.Path.{_≡_, _∙_, sym, ap₂, refl}

@@ -1,4 +1,4 @@
--- The one row is within the other, over all that a set can hold as over the n.
+-- One row lies in the other, and this is the same over all states that a set can hold as over the n.
 use mathlib.Core.Path.{_∙_}
 use borrow.Author.Needs.{needs}
 use Rattle.semantics.specs.Conditions.{setLiesIn}

@@ -1,4 +1,4 @@
--- A table is the same as itself; of two tables the two parts are the rows.
+-- A table is the same as itself; for two tables the rows are compared.
 use mathlib.Core.Path.{_∙_, sym, refl}
 use borrow.Author.Needs.{needs}
 use borrow.Author.Tests.{eq-eqb}

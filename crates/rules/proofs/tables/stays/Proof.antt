@@ -1,4 +1,4 @@
--- The pairs (u,u) of the states of the set below s are there. `holds-next` adds the next.
+-- The loop keeps whether the relation has (u,u) for the states u of the set below s. `holds-next` adds the next.
 use Prim.Native.Nat.{_≤_, _-_}
 use native.Mathlib.Omega.{arith}
 use mathlib.Core.Path.{_≡_, _∙_, ap₂, refl}

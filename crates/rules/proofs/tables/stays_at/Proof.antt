@@ -1,4 +1,4 @@
--- The test of the set is the search's own.
+-- The code tests membership in the set as the search does.
 use mathlib.Core.Path.{_∙_, sym}
 use borrow.Author.Needs.{needs}
 use Rattle.states.proofs.Search.{holds-must}

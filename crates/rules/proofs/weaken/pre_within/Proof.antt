@@ -1,4 +1,4 @@
--- The one set is within the other, over all that a set can hold as over the n.
+-- One set lies in the other, and this is the same over all states that a set can hold as over the n.
 use mathlib.Core.Path.{_∙_, sym}
 use borrow.Author.Needs.{needs}
 use Rattle.states.proofs.Search.{holds-must}

@@ -1,4 +1,4 @@
--- R lies in the child's.
+-- R lies in the child's R.
 use mathlib.Core.Path.{_∙_, sym}
 use borrow.Author.Needs.{needs}
 use Rattle.states.proofs.Search.{holds-must}

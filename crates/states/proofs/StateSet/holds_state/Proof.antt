@@ -1,4 +1,4 @@
--- Bit s of the word, where s is one of the 64 states.
+-- Bit s of the word, if s is one of the 64 states.
 use mathlib.Core.Path.{_∙_, sym}
 use borrow.Author.Needs.{needs}
 use borrow.Author.Tests.{lt-ltb, le-ltb}

@@ -1,4 +1,4 @@
--- `a & b == a` where b has every member of a.
+-- `a & b == a` iff b has every member of a.
 use lib.Bits.{bitAnd}
 use lib.Dec.{eqb}
 use Rattle.states.specs.Search.{implies}

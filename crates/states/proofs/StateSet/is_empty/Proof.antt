@@ -1,4 +1,4 @@
--- A word is 0 where it has no member.
+-- A word is 0 iff it has no member.
 use mathlib.Core.Path.{_∙_}
 use mathlib.Core.Bool.{not}
 use lib.Dec.{eqb}

@@ -1,4 +1,4 @@
--- The word-wise or has the members of either.
+-- The bitwise or has the members of either.
 use mathlib.Core.Path.{refl}
 use mathlib.Core.Bool.{_||_}
 use lib.Bits.{bitOr}

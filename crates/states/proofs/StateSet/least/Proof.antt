@@ -1,4 +1,4 @@
--- The lowest bit of the word that is set.
+-- The least member is the lowest bit that is set.
 use Rattle.states.specs.Sets.{has}
 use Rattle.states.proofs.Words.{least-word}
 use Rattle.states.proofs.StateSet.least.Statement.{statement}

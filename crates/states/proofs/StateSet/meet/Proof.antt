@@ -1,4 +1,4 @@
--- The word-wise and has the members of both.
+-- The bitwise and has the members of both.
 use mathlib.Core.Path.{refl}
 use mathlib.Core.Bool.{_&&_}
 use lib.Bits.{bitAnd}

@@ -1,4 +1,4 @@
--- `a ^ (a & b)` takes from a what it shares with b.
+-- `a ^ (a & b)` removes from a what it shares with b.
 use mathlib.Core.Path.{refl}
 use mathlib.Core.Bool.{not, _&&_}
 use lib.Bits.{bitAnd, bitXor}

@@ -1,4 +1,4 @@
--- Two words are equal where their members are.
+-- Two words are equal iff their members are.
 use mathlib.Core.Bool.{Bool·beq}
 use lib.Dec.{eqb}
 use Rattle.states.specs.Sets.{has}

@@ -1,4 +1,4 @@
--- `1 << s` is the power 2 ^ s, whose one bit is s.
+-- `1 << s` is 2 ^ s, whose only bit is s.
 use native.Mathlib.Omega.{arith}
 use mathlib.Core.Path.{_∙_, sym, ap}
 use mathlib.Core.Bool.{_&&_}

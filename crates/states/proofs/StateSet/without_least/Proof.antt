@@ -1,4 +1,4 @@
--- The word 0 has no bit; of another, `x & (x - 1)` keeps the bits above the lowest.
+-- The word 0 has no bit; for any other word, `x & (x - 1)` keeps the bits above the lowest.
 use Prim.Native.Nat.{_-_}
 use mathlib.Core.Path.{_∙_, sym, ap}
 use mathlib.Core.Bool.{cond}

@@ -1,4 +1,4 @@
--- A part that goes on to the end is what is left of the slice; past the end nothing is.
+-- A part up to the end is the rest of the slice; past the end nothing is left.
 use Prim.Native.Nat.{ℕ, _-_, _*_}
 use native.Mathlib.Nat.{le-of-eq, one-mul}
 use native.Mathlib.Omega.{arith}

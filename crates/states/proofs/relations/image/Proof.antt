@@ -1,4 +1,4 @@
--- The rows of the states taken out, with those of the states that are left, are the rows of the set's states that have one. `turn` takes one out.
+-- The ends found so far and the rows of the states left are those of all states of the set that have a row. `turn` takes one out.
 use Prim.Native.Nat.{ℕ}
 use native.Mathlib.Omega.{arith}
 use mathlib.Core.Path.{_≡_, _∙_, sym, ap}

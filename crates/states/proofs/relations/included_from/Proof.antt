@@ -1,4 +1,4 @@
--- The rows below s that start in the set are included. `all-next` adds the next.
+-- The loop keeps whether the rows below s of states in the set are included. `all-next` adds the next.
 use Prim.Native.Nat.{_≤_, _-_}
 use native.Mathlib.Omega.{arith}
 use mathlib.Core.Path.{_≡_, _∙_, sym, ap₂, refl}

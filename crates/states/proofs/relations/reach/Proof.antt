@@ -1,5 +1,5 @@
--- The loop keeps how many rounds are made, and that the set is what `rounds` says of so many. At the end they are n, which reach
--- all and nothing else.
+-- The loop keeps the number of rounds made, and that the set is what `rounds` gives for that number. At the end it is n,
+-- and n rounds reach all and nothing else.
 use Prim.Native.Nat.{ℕ, _+_, _≤_, _-_}
 use native.Mathlib.Omega.{arith}
 use mathlib.Core.Path.{_≡_, _∙_, ap, refl}

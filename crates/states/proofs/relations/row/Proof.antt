@@ -1,4 +1,4 @@
--- Entry s, masked to the states below n, where s is one of them.
+-- Entry s, masked to the states below n, if s is one of them.
 use native.Mathlib.Omega.{arith}
 use mathlib.Core.Path.{_∙_, sym, ap₂}
 use mathlib.Core.Bool.{_&&_}

@@ -1,4 +1,4 @@
--- The inclusion of the two rows over all states is the one over n, and is asked for only where s is in the set.
+-- Inclusion of the two rows over all states is the same as over n states, and is tested only if s is in the set.
 use mathlib.Core.Path.{_∙_, refl, ap₂, sym}
 use borrow.Author.Needs.{needs}
 use Rattle.states.specs.Search.{implies}

@@ -1,4 +1,4 @@
--- The rows below s have the same members. `all-next` adds the next.
+-- The loop keeps whether the rows below s have the same members. `all-next` adds the next.
 use Prim.Native.Nat.{_≤_, _-_}
 use native.Mathlib.Omega.{arith}
 use mathlib.Core.Path.{_≡_, _∙_, sym, ap₂, refl}

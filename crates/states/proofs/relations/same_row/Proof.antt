@@ -1,4 +1,4 @@
--- The comparison of the two rows over all states is the one over n.
+-- Comparing the two rows over all states is the same as over n states.
 use mathlib.Core.Path.{_∙_, refl, ap₂}
 use mathlib.Core.Bool.{Bool·beq}
 use borrow.Author.Needs.{needs}

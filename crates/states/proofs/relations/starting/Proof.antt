@@ -1,4 +1,4 @@
--- After the rows below s: those that start a pair. `any-more` adds the next; a state past the rows starts none.
+-- After the rows below s, the set has the states below s that start a pair. `any-more` adds the next; a state past the rows starts none.
 use Prim.Native.Nat.{ℕ, _≤_, _-_}
 use native.Mathlib.Omega.{arith}
 use mathlib.Core.Path.{_≡_, _∙_, sym, ap, ap₂}
@@ -24,7 +24,7 @@ loop-holds : tie.Need-loop-holds Inv-loop μ-loop
 unfolding any
 loop-holds c = (omega arith, c .before .empty .ensures)
 
--- The row of s has an end where s starts a pair.
+-- The row of s, masked to the n states, has a member iff s starts a pair.
 row-ends : (c : tie.After-meet Inv-loop μ-loop) → let l = c .before .before .before in let a = l .before .before .before .before .before .args in
     any capacity (λ u. has (c .meet .result) u) ≡ any (a .n) (rel (a .n) (a .rows .now) (l .loop .s))
 unfolding has

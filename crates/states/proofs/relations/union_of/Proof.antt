@@ -1,4 +1,4 @@
--- Row s is the join of the two rows. The rows below s are filled.
+-- Row s is the join of the two rows. The loop has filled the rows below s.
 use Prim.Native.Nat.{_-_}
 use native.Mathlib.Omega.{arith}
 use mathlib.Core.Path.{_∙_, ap₂}

@@ -1,4 +1,4 @@
--- s is joined where its row is not empty.
+-- s is added if its row is not empty.
 use mathlib.Core.Path.{_≡_, _∙_, sym, ap}
 use mathlib.Core.Bool.{not, _||_, or-false, and-true, and-false}
 use borrow.Author.Needs.{needs}
