@@ -1,6 +1,6 @@
 -- What the loop finds, demand 2, and demand 3 for the bytes.
 pub mod Stages
-pub mod Turns
+pub mod Rounds
 pub mod Loaded
 pub mod AtHand
 pub mod Meaning

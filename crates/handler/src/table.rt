@@ -22,7 +22,14 @@ fn word_of(code: u32, target: u32, after: u32, expr: usize) -> u64
 }
 
 // Stores a statement as number j of a table.
-pub(crate) fn store_statement(table: &mut [u64], j: u32, code: u32, target: u32, after: u32, expr: usize)
+pub(crate) fn store_statement(
+    table: &mut [u64],
+    j: u32,
+    code: u32,
+    target: u32,
+    after: u32,
+    expr: usize,
+)
     requires { ⌜ (j < length (now table)) × (expr < 2 ^ 32) ⌝ }
     ensures { λ r.
         ⌜ now (table .exit) ≡ set (now (table .entry)) j (statementWord (record { code = code; target = target; after = after; expr = expr })) ⌝ }

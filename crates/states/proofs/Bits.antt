@@ -10,7 +10,8 @@ use lib.Count.{trailingZeros, under}
 use lib.Pow.{pow-pos, shl-exact}
 use borrow.Author.Tests.{eqb-true, eq-eqb, lt-ltb, le-ltb}
 use Rattle.states.specs.Search.{implies, all, any, leastWhere}
-use Rattle.states.proofs.Search.{all-at, all-intro, all-cong, any-intro, any-first, any-cong, bool-ext, beq-refl, beq-true, beq-false, least-cong}
+use Rattle.states.proofs.Search.{all-at, all-intro, all-cong, any-intro, any-first, any-cong, bool-ext, beq-refl, beq-true, beq-false}
+use Rattle.states.proofs.Least.{least-cong}
 
 -- Bit k of a word, the lowest first.
 abbrev pub bit : ℕ → ℕ → Bool

@@ -13,7 +13,8 @@ use Rattle.states.specs.declared.StateSet.{StateSet}
 use Rattle.states.specs.Search.{implies, all, any, leastWhere}
 use Rattle.states.specs.Sets.{setWords, capacity, mem, has, entryAt}
 use Rattle.states.specs.Relations.{rel}
-use Rattle.states.proofs.Search.{and-left, and-right, and-both, or-left, or-right, or-cases, implies-intro, implies-at, bool-ext, turned, not-true-false, true-or-false, all-intro, all-at, all-cong, all-and, any-intro, any-true, any-cong, any-none, IsLeast, least-is}
+use Rattle.states.proofs.Search.{and-left, and-right, and-both, or-left, or-right, or-cases, implies-intro, implies-at, bool-ext, turned, not-true-false, true-or-false, all-intro, all-at, all-cong, all-and, any-intro, any-true, any-cong, any-none}
+use Rattle.states.proofs.Least.{IsLeast, least-is}
 use Rattle.states.proofs.Words.{mem-below}
 use Rattle.states.proofs.Rows.{rel-row, row-long}
 use Rattle.states.proofs.Reach.{count, count-more}
@@ -88,7 +89,7 @@ module _ (p q : ℕ → Bool) (k : ℕ) (one : Taken p q k) where
           (all-intro n _ (λ s m. implies-intro _ _ (λ e. implies-at _ _ (all-at n _ h s m) (kept s e))))
 
 -- One round of a loop that takes out the least state: that state is removed, and the set has fewer members.
-pub record Turn (set left : StateSet) (first : ℕ) : Type 0 where
+pub record LeastTaken (set left : StateSet) (first : ℕ) : Type 0 where
   pub low : first < capacity
   pub taken : Taken (has set) (has left) first
   pub less : count capacity (has left) < count capacity (has set)
@@ -98,9 +99,9 @@ module _ (set : StateSet) (empty : Bool) (asked : empty ≡ not (any capacity (h
   pub least-of : not empty ≡ true → (first : ℕ) → first ≡ leastWhere capacity (has set) → IsLeast capacity (has set) first
   least-of more first is = rw is (least-is capacity (has set) (turned _ _ asked ∙ more))
 
-  pub turn : not empty ≡ true → (first : ℕ) → first ≡ leastWhere capacity (has set)
-      → (left : StateSet) → ((s : ℕ) → has left s ≡ (has set s && any s (has set))) → Turn set left first
-  turn more first is left above-one =
+  pub take-least : not empty ≡ true → (first : ℕ) → first ≡ leastWhere capacity (has set)
+      → (left : StateSet) → ((s : ℕ) → has left s ≡ (has set s && any s (has set))) → LeastTaken set left first
+  take-least more first is left above-one =
       let least = least-of more first is in
       let one = first-taken capacity (has set) (has left) first least above-one in
       record { low = least .below; taken = one; less = fewer _ _ _ one capacity (least .below) }

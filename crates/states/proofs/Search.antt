@@ -1,14 +1,14 @@
 -- Laws of the bounded quantifiers and of the search for a breach, each by recursion on the bound: a state below suc n is below n or is n.
-use Prim.Native.Nat.{ℕ, zero, suc, _+_, _<_, _≤_, suc-le-suc}
+use Prim.Native.Nat.{ℕ, zero, suc, _+_, _<_, _≤_}
 use native.Mathlib.Numerals.{add-one}
-use native.Mathlib.Nat.{add-zero, add-suc, zero-add, suc-add, zero-lt-suc, eq-or-lt-of-le, le-antisymm, le-of-suc-le-suc, not-suc-le-zero}
+use native.Mathlib.Nat.{add-zero, add-suc, eq-or-lt-of-le, le-antisymm, le-of-suc-le-suc, not-suc-le-zero}
 use native.Mathlib.Omega.{arith}
 use borrow.Author.Tests.{not-true, not-false}
 use mathlib.Core.Path.{_≡_, refl, sym, ap, ap₂, _∙_, subst}
 use mathlib.Core.Logic.{_⊎_, ⊎-elim, inl, inr}
-use mathlib.Core.Bool.{Bool, true, false, cond, not, _&&_, _||_, Bool·beq, and-true, and-assoc, or-false, or-assoc, true≢false, false≢true}
+use mathlib.Core.Bool.{Bool, true, false, not, _&&_, _||_, Bool·beq, and-true, and-assoc, or-false, or-assoc, true≢false, false≢true}
 use mathlib.Core.Option.{none, some}
-use Rattle.states.specs.Search.{implies, all, any, leastWhere, Search, must, given, named, orElse, each, holds}
+use Rattle.states.specs.Search.{implies, all, any, Search, must, given, named, orElse, each, holds}
 
 -- Truth values.
 pub and-left : (a b : Bool) → (a && b) ≡ true → a ≡ true
@@ -187,50 +187,6 @@ all-not (suc n) p = ap (λ b. b && not (p n)) (all-not n p) ∙ neither (any n p
     neither : (a b : Bool) → (not a && not b) ≡ not (a || b)
     neither true b = refl
     neither false b = refl
-
--- The least state.
-pub record IsLeast (n : ℕ) (p : ℕ → Bool) (k : ℕ) : Type 0 where
-  pub below : k < n
-  pub there : p k ≡ true
-  pub less : (t : ℕ) → t < k → p t ≡ false
-
-pub least-is : (n : ℕ) (p : ℕ → Bool) → any n p ≡ true → IsLeast n p (leastWhere n p)
-unfolding any leastWhere
-least-is zero p h = absurd (false≢true h)
-least-is (suc n) p h = at (p 0) refl (least-is n (λ s. p (suc s)))
-  where
-    next : (k : ℕ) → p 0 ≡ false → ((t : ℕ) → t < k → p (suc t) ≡ false) → (t : ℕ) → t < suc k → p t ≡ false
-    next k e less zero l = e
-    next k e less (suc t) l = less t (le-of-suc-le-suc l)
-
-    at : (b : Bool) → p 0 ≡ b → (any n (λ s. p (suc s)) ≡ true → IsLeast n (λ s. p (suc s)) (leastWhere n (λ s. p (suc s))))
-        → IsLeast (suc n) p (cond b 0 (suc (leastWhere n (λ s. p (suc s)))))
-    at true e later = record { below = zero-lt-suc n; there = e; less = λ t l. absurd (not-suc-le-zero l) }
-    at false e later =
-        let w = later (ap (λ b. b || any n (λ s. p (suc s))) (sym e) ∙ sym (any-first n p) ∙ h) in
-        record { below = suc-le-suc (w .below); there = w .there; less = next _ e (w .less) }
-
-pub least-cong : (n : ℕ) (p q : ℕ → Bool) → ((s : ℕ) → s < n → p s ≡ q s) → leastWhere n p ≡ leastWhere n q
-unfolding leastWhere
-least-cong zero p q h = refl
-least-cong (suc n) p q h =
-    ap₂ (λ b k. cond b 0 (suc k)) (h 0 (omega arith)) (least-cong n (λ s. p (suc s)) (λ s. q (suc s)) (λ s l. h (suc s) (omega arith)))
-
-pub least-split : (m n : ℕ) (p : ℕ → Bool) → leastWhere (m + n) p ≡ cond (any m p) (leastWhere m p) (m + leastWhere n (λ s. p (m + s)))
-unfolding any leastWhere
-least-split zero n p = ap (λ k. leastWhere k p) (zero-add n) ∙ least-cong n p (λ s. p (0 + s)) (λ s l. ap p (sym (zero-add s))) ∙ sym (zero-add _)
-least-split (suc m) n p =
-    rw (suc-add, any-first m p)
-    (ap (λ k. cond (p 0) 0 (suc k)) (least-split m n (λ s. p (suc s)) ∙ ap (λ k. cond (any m (λ s. p (suc s))) (leastWhere m (λ s. p (suc s))) (m + k)) moved)
-    ∙ at (p 0) (any m (λ s. p (suc s))) (leastWhere m (λ s. p (suc s))) _)
-  where
-    moved : leastWhere n (λ s. p (suc (m + s))) ≡ leastWhere n (λ s. p (suc m + s))
-    moved = least-cong n _ _ (λ s l. ap p (sym (suc-add m s)))
-
-    at : (a b : Bool) (x y : ℕ) → cond a 0 (suc (cond b x (m + y))) ≡ cond (a || b) (cond a 0 (suc x)) (suc m + y)
-    at true b x y = refl
-    at false true x y = refl
-    at false false x y = sym (suc-add m y)
 
 -- A condition holds iff its search finds none.
 pub holds-none : (x : Search) → holds x ≡ true → x ≡ none

@@ -13,7 +13,8 @@ use lib.Count.{trailingZeros, trailing-of-zero}
 use borrow.Author.Tests.{eqb-true, lt-ltb, le-ltb}
 use Rattle.states.specs.Search.{all, any, leastWhere}
 use Rattle.states.specs.Sets.{mem}
-use Rattle.states.proofs.Search.{turned, not-true-false, all-cong, all-split, all-not, any-cong, any-split, least-cong, least-split}
+use Rattle.states.proofs.Search.{turned, not-true-false, all-cong, all-split, all-not, any-cong, any-split}
+use Rattle.states.proofs.Least.{least-cong, least-split}
 use Rattle.states.proofs.Bits.{bit, Bitwise, bit-nought, word-empty, trailing-least, and-bits, bit-lower}
 
 -- Every word of the list is a word of 64 bits.

@@ -5,7 +5,7 @@ use native.Mathlib.Nat.{le-trans}
 use mathlib.Core.Path.{_≡_, sym, _∙_, ap}
 use borrow.Author.Needs.{needs}
 use Rattle.checker.specs.Nodes.{faultsFrom, faultFound}
-use Rattle.checker.proofs.Turns.{goes-on, ends-at, no-more, after-least}
+use Rattle.checker.proofs.Rounds.{goes-on, ends-at, no-more, after-least}
 use Rattle.checker.proofs.nodes.first_fault.Statement.{statement}
 use Rattle.checker.proofs.nodes.first_fault.Tie as tie
 

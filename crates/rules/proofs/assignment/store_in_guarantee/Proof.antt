@@ -9,7 +9,7 @@ use Rattle.states.specs.Search.{Search, must, holds}
 use Rattle.states.specs.Sets.{capacity, has}
 use Rattle.states.specs.Relations.{rel}
 use Rattle.states.proofs.Reach.{count}
-use Rattle.states.proofs.Members.{Passed, passed-none, passed-more, Turn, turn, none-left}
+use Rattle.states.proofs.Members.{Passed, passed-none, passed-more, LeastTaken, take-least, none-left}
 use Rattle.semantics.specs.Conditions.{inSet}
 use Rattle.rules.specs.Words.{wordRelation}
 use Rattle.rules.proofs.Searches.{passed-search}
@@ -31,10 +31,10 @@ loop-holds c =
     let a = c .before .before .before .args in passed-none _ _ _ (λ s e. set-small (a .n) (a .work .now) (a .own .p) s (sym (c .set-at .ensures s) ∙ e) .1)
 
 one : (c : tie.After-without-least Inv-loop μ-loop)
-    → let d = c .before .before in Turn (d .before .before .before .loop .rest) (c .without-least .result) (d .least .result)
+    → let d = c .before .before in LeastTaken (d .before .before .before .loop .rest) (c .without-least .result) (d .least .result)
 one c =
     let d = c .before .before in
-    turn _ _ (d .before .before .is-empty .ensures) (d .before .if1 .taken) _ (d .least .ensures) _ (c .without-least .ensures)
+    take-least _ _ (d .before .before .is-empty .ensures) (d .before .if1 .taken) _ (d .least .ensures) _ (c .without-least .ensures)
 
 loop-again : tie.Need-loop-again Inv-loop μ-loop
 loop-again c =

@@ -9,7 +9,7 @@ use Rattle.states.specs.Search.{Search, must, holds}
 use Rattle.states.specs.Sets.{capacity, has}
 use Rattle.states.proofs.Search.{and-left, and-right}
 use Rattle.states.proofs.Reach.{count}
-use Rattle.states.proofs.Members.{Passed, passed-none, passed-more, Turn, turn, none-left}
+use Rattle.states.proofs.Members.{Passed, passed-none, passed-more, LeastTaken, take-least, none-left}
 use Rattle.semantics.specs.Conditions.{inSet, c56}
 use Rattle.rules.specs.Words.{wordSet, wordRelation}
 use Rattle.rules.proofs.Searches.{StatesOnly, small-within, passed-search}
@@ -35,10 +35,10 @@ loop-holds : tie.Need-loop-holds Inv-loop μ-loop
 loop-holds c = passed-none _ _ _ (λ s e. small c s e .1)
 
 one : (c : tie.After-without-least Inv-loop μ-loop)
-    → let d = c .before .before in Turn (d .before .before .before .loop .rest) (c .without-least .result) (d .least .result)
+    → let d = c .before .before in LeastTaken (d .before .before .before .loop .rest) (c .without-least .result) (d .least .result)
 one c =
     let d = c .before .before in
-    turn _ _ (d .before .before .is-empty .ensures) (d .before .if1 .taken) _ (d .least .ensures) _ (c .without-least .ensures)
+    take-least _ _ (d .before .before .is-empty .ensures) (d .before .if1 .taken) _ (d .least .ensures) _ (c .without-least .ensures)
 
 loop-again : tie.Need-loop-again Inv-loop μ-loop
 loop-again c =

@@ -8,7 +8,7 @@ use borrow.Author.Needs.{needs}
 use Rattle.states.specs.Search.{must, holds}
 use Rattle.states.specs.Sets.{capacity, has}
 use Rattle.states.proofs.Reach.{count}
-use Rattle.states.proofs.Members.{start-below, start-same, Passed, passed-none, passed-more, Turn, turn, none-left}
+use Rattle.states.proofs.Members.{start-below, start-same, Passed, passed-none, passed-more, LeastTaken, take-least, none-left}
 use Rattle.semantics.specs.Conditions.{inSet}
 use Rattle.rules.specs.Words.{wordRelation}
 use Rattle.rules.proofs.Searches.{passed-search}
@@ -29,10 +29,10 @@ start : (c : tie.After-meet Inv-loop μ-loop) → let a = c .before .before .bef
 start c s = c .meet .ensures s ∙ ap (λ b. has (c .before .before .before .args .from) s && b) (c .before .below .ensures s)
 
 one : (c : tie.After-without-least Inv-loop μ-loop)
-    → let d = c .before .before in Turn (d .before .before .before .loop .rest) (c .without-least .result) (d .least .result)
+    → let d = c .before .before in LeastTaken (d .before .before .before .loop .rest) (c .without-least .result) (d .least .result)
 one c =
     let d = c .before .before in
-    turn _ _ (d .before .before .is-empty .ensures) (d .before .if1 .taken) _ (d .least .ensures) _ (c .without-least .ensures)
+    take-least _ _ (d .before .before .is-empty .ensures) (d .before .if1 .taken) _ (d .least .ensures) _ (c .without-least .ensures)
 
 loop-holds : tie.Need-loop-holds Inv-loop μ-loop
 loop-holds c = passed-none _ _ _ (start-below _ (c .before .before .before .args .from) _ (start c))

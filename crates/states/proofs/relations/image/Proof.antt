@@ -1,4 +1,4 @@
--- The ends found so far and the rows of the states left are those of all states of the set that have a row. `turn` takes one out.
+-- The ends found so far and the rows of the states left are those of all states of the set that have a row. `take-least` takes one out.
 use Prim.Native.Nat.{ℕ}
 use native.Mathlib.Omega.{arith}
 use mathlib.Core.Path.{_≡_, _∙_, sym, ap}
@@ -8,7 +8,7 @@ use borrow.Author.Needs.{needs}
 use Rattle.states.specs.Sets.{capacity, has}
 use Rattle.states.proofs.Reach.{count}
 use Rattle.states.proofs.EntryLaws.{entry-word}
-use Rattle.states.proofs.Members.{start-below, Turn, least-of, turn, none-left, Gathered, gathered-none, gathered-more, gathered-all}
+use Rattle.states.proofs.Members.{start-below, LeastTaken, least-of, take-least, none-left, Gathered, gathered-none, gathered-more, gathered-all}
 use Rattle.states.proofs.relations.image.Statement.{statement}
 use Rattle.states.proofs.relations.image.Tie as tie
 
@@ -27,10 +27,10 @@ loop-holds : tie.Need-loop-holds Inv-loop μ-loop
 loop-holds c = gathered-none _ _ _ _ (start-below _ (c .before .before .before .before .before .args .set) _ (start (c .before))) (c .empty .ensures)
 
 one : (c : tie.After-without-least Inv-loop μ-loop)
-    → let d = c .before .before .before in Turn (d .before .before .before .loop .rest) (c .without-least .result) (d .least .result)
+    → let d = c .before .before .before in LeastTaken (d .before .before .before .loop .rest) (c .without-least .result) (d .least .result)
 one c =
     let d = c .before .before .before in
-    turn _ _ (d .before .before .is-empty .ensures) (d .before .if1 .taken) _ (d .least .ensures) _ (c .without-least .ensures)
+    take-least _ _ (d .before .before .is-empty .ensures) (d .before .if1 .taken) _ (d .least .ensures) _ (c .without-least .ensures)
 
 -- A state that is left has a row.
 read : tie.Need-shared-slice-read-bits Inv-loop μ-loop
