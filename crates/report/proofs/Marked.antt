@@ -23,7 +23,7 @@ use Rattle.handler.specs.Header.{sizeRead, addSize, sizesRead, countRead, headA
 use Rattle.handler.specs.Expressions.{signed, integerHead, truthHead, variableHead, operationHead, payloadHead, tagHead, exprHead, exprAt, wholeExpr}
 use Rattle.handler.specs.Statements.{targetHead, codeHead, markHead, stmtHead, stmtAt, wholeStmt}
 use Rattle.handler.specs.Reading.{HandlerRead, handler, refused, readHandler}
-use Rattle.derivation.specs.Tables.{setAt, rowAt, tablesThere, isCount, relationsRead, setsRead, tablesAt, inSetOf, inRelationOf}
+use Rattle.derivation.specs.Tables.{workWords, setAt, rowAt, tablesThere, isCount, relationsRead, setsRead, tablesAt, inSetOf, inRelationOf}
 use Rattle.derivation.specs.Nodes.{onName, namedTable, loopHead, namesHead, ruleHead, nodeHead, nodeAt, wholeNode}
 use Rattle.derivation.specs.Reading.{readProof}
 use Rattle.checker.specs.Verdicts.{answer}
@@ -31,7 +31,7 @@ use Rattle.report.specs.Line.{ascii, digits, decimal, placeText, verdict
 
 -- What the check program prints for two files.
 abbrev line : List ℕ → List ℕ → List ℕ
-line hb pb = lineOf (answer hb pb 1040 .verdict)
+line hb pb = lineOf (answer hb pb workWords .verdict)
 
 -- One variable c of size 2, c ← 1; and the proof with P {0,1}, R none, G {(0,1)}, Q {(0,1),(1,1)}.
 abbrev sample-handler : List ℕ

@@ -53,17 +53,17 @@ row-gives o a b k h =
     (λ past. absurd (false≢true (rw past at h))) (true-or-false (ltb o 7))
 
 -- There is a value, and it is of kind k.
-pub record Valued (o : Option Val) (k : Kind) : Type 0 where
+pub record OfKind (o : Option Val) (k : Kind) : Type 0 where
   pub val : Val
   pub is : o ≡ some val
   pub kind : sameKind (kindOf val) k ≡ true
 
-valued : (o : Option Val) (k : Kind) → isKind k (Option·map kindOf o) ≡ true → Valued o k
-valued none k h = absurd (false≢true h)
-valued (some v) k h = record { val = v; is = refl; kind = h }
+of-kind : (o : Option Val) (k : Kind) → isKind k (Option·map kindOf o) ≡ true → OfKind o k
+of-kind none k h = absurd (false≢true h)
+of-kind (some v) k h = record { val = v; is = refl; kind = h }
 
 -- If both operands fit the row, both have values of the kinds that the row takes.
-row-met : (r : Row) (k : Kind) (p q : Kind → Bool) {a b : Option Val} → ((x : Kind) → p x ≡ true → Valued a x) → ((y : Kind) → q y ≡ true → Valued b y)
+row-met : (r : Row) (k : Kind) (p q : Kind → Bool) {a b : Option Val} → ((x : Kind) → p x ≡ true → OfKind a x) → ((y : Kind) → q y ≡ true → OfKind b y)
     → rowFits r k p q ≡ true → (v : Val) × (w : Val) × (a ≡ some v) × (b ≡ some w) × (rowFits r k (sameKind (kindOf v)) (sameKind (kindOf w)) ≡ true)
 row-met Unused k p q f g h = absurd (false≢true h)
 row-met (Kinds x y c) k p q f g h =
@@ -73,21 +73,21 @@ row-met (Kinds x y c) k p q f g h =
     let r = g y (and-right (sameKind c k && p x) (q y) h) in
     (l .val, r .val, l .is, r .is, and-both (sameKind c k && sameKind (kindOf (l .val)) x) _ (and-both (sameKind c k) _ same (l .kind)) (r .kind))
 
-pub fits-valued : (m : Machine) (k : Kind) (e : Expr) (s : ℕ) → fits k e ≡ true → Valued (value m e s) k
-fits-valued m k (lit v) s h = record { val = v; is = refl; kind = h }
-fits-valued m k (var v) s h = record { val = int (m .get s v); is = refl; kind = h }
-fits-valued m k (op o l r) s h =
-    let (v, w, left, right, met) = row-met (rowOf o) k _ _ (λ x. fits-valued m x l s) (λ y. fits-valued m y r s) h in
-    let made = valued (apply o v w) k (rw (apply-kind o v w) (row-gives o (kindOf v) (kindOf w) k met)) in
-    subst₂ (λ a b. Valued (both (apply o) a b) k) (sym left) (sym right) made
+pub fits-kind : (m : Machine) (k : Kind) (e : Expr) (s : ℕ) → fits k e ≡ true → OfKind (value m e s) k
+fits-kind m k (lit v) s h = record { val = v; is = refl; kind = h }
+fits-kind m k (var v) s h = record { val = int (m .get s v); is = refl; kind = h }
+fits-kind m k (op o l r) s h =
+    let (v, w, left, right, met) = row-met (rowOf o) k _ _ (λ x. fits-kind m x l s) (λ y. fits-kind m y r s) h in
+    let made = of-kind (apply o v w) k (rw (apply-kind o v w) (row-gives o (kindOf v) (kindOf w) k met)) in
+    subst₂ (λ a b. OfKind (both (apply o) a b) k) (sym left) (sym right) made
 
 -- A test that fits is true or false.
 pub fits-truth : (m : Machine) (e : Expr) (s : ℕ) → fits Truth e ≡ true → (b : Bool) × (value m e s ≡ some (truth b))
-fits-truth m e s h = by (fits-valued m Truth e s h)
+fits-truth m e s h = by (fits-kind m Truth e s h)
   where
     by-kind : (v : Val) → sameKind (kindOf v) Truth ≡ true → (b : Bool) × (v ≡ truth b)
     by-kind (int z) k = absurd (false≢true k)
     by-kind (truth b) k = (b, refl)
 
-    by : Valued (value m e s) Truth → (b : Bool) × (value m e s ≡ some (truth b))
+    by : OfKind (value m e s) Truth → (b : Bool) × (value m e s ≡ some (truth b))
     by x = let (b, is) = by-kind (x .val) (x .kind) in (b, x .is ∙ ap some is)

@@ -90,7 +90,6 @@ module _ (p q : ℕ → Bool) (k : ℕ) (one : Taken p q k) where
 
 -- One round of a loop that takes out the least state: that state is removed, and the set has fewer members.
 pub record LeastTaken (set left : StateSet) (first : ℕ) : Type 0 where
-  pub low : first < capacity
   pub taken : Taken (has set) (has left) first
   pub less : count capacity (has left) < count capacity (has set)
 
@@ -104,7 +103,7 @@ module _ (set : StateSet) (empty : Bool) (asked : empty ≡ not (any capacity (h
   take-least more first is left above-one =
       let least = least-of more first is in
       let one = first-taken capacity (has set) (has left) first least above-one in
-      record { low = least .below; taken = one; less = fewer _ _ _ one capacity (least .below) }
+      record { taken = one; less = fewer _ _ _ one capacity (least .below) }
 
   pub none-in : empty ≡ true → (s : ℕ) → has set s ≡ false
   none-in e s =

@@ -30,7 +30,7 @@ impl StateSet {
         StateSet { bits: 0 }
     }
 
-    // The states below n; all that a set can hold if n is 64 or more.
+    // The states below n; all that a set can hold if n is the capacity or more.
     pub fn below(n: u32) -> StateSet
         ensures { λ r. ⌜ ((s : ℕ) → has r s ≡ (ltb s capacity && ltb s n)) ⌝ }
     {
