@@ -7,3 +7,4 @@ pub mod Meaning
 pub mod Judging
 pub mod Acceptance
 pub mod Demand
+pub mod Bounds

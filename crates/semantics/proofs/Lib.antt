@@ -10,3 +10,4 @@ pub mod Storing
 pub mod Conditions
 pub mod Clear
 pub mod Soundness
+pub mod Numbers
