@@ -104,15 +104,15 @@ fn names_say_the_number() {
 #[test]
 fn blocks_are_tables() {
     let claims = claims();
-    for name in PAGES {
-        for block in page(name).split("```").skip(1).step_by(2) {
-            let block = block.trim_start();
-            let title = block.lines().next().and_then(|line| line.strip_prefix("claim: "));
-            let title = title.unwrap_or_else(|| panic!("a block of {name} names no claim"));
-            let claim = claims.iter().find(|claim| claim.name == title);
-            let claim = claim.unwrap_or_else(|| panic!("there is no claim {title}"));
-            assert_eq!(block, words::block(claim), "claim {title}");
-        }
+    let pages = PAGES.map(page).concat();
+    let blocks: Vec<&str> = pages.split("```").skip(1).step_by(2).map(str::trim_start).collect();
+    assert!(!blocks.is_empty());
+    for block in blocks {
+        let title = block.lines().next().and_then(|line| line.strip_prefix("claim: "));
+        let title = title.unwrap_or_else(|| panic!("a block names no claim: {block}"));
+        let claim = claims.iter().find(|claim| claim.name == title);
+        let claim = claim.unwrap_or_else(|| panic!("there is no claim {title}"));
+        assert_eq!(block, words::block(claim), "claim {title}");
     }
 }
 
@@ -136,4 +136,27 @@ fn every_number_has_a_row() {
     let first = |row: &str| row.strip_prefix('|')?.split('|').next()?.trim().parse::<u32>().ok();
     let rows: Vec<u32> = tables.lines().filter_map(first).collect();
     assert_eq!(rows, NUMBERS);
+}
+
+/// The name by which a link leads to a heading.
+fn anchor(heading: &str) -> String {
+    let kept = heading.to_lowercase();
+    kept.chars()
+        .filter(|letter| letter.is_alphanumeric() || " -".contains(*letter))
+        .map(|letter| if letter == ' ' { '-' } else { letter })
+        .collect()
+}
+
+/// Links within the pages and between them lead to headings.
+#[test]
+fn links_lead_to_headings() {
+    for name in PAGES {
+        for link in page(name).split("](").skip(1).filter_map(|rest| rest.split(')').next()) {
+            let Some((target, wanted)) = link.split_once('#') else { continue };
+            let target = page(if target.is_empty() { name } else { target });
+            let headings = target.lines().filter(|line| line.starts_with('#'));
+            let found = headings.map(|line| anchor(line.trim_start_matches('#').trim()));
+            assert!(found.collect::<Vec<_>>().contains(&wanted.to_string()), "{name}: {link}");
+        }
+    }
 }

@@ -17,13 +17,13 @@ fn empty() -> Vec<Claim> {
     let w = world([("c", 2)]);
     let forever = || repeat(Expression::Truth(true), Statement::Nil);
     let never = when(Expression::Truth(false), forever());
-    let tables = |p| Tables { p, r: none(), g: none(), q: w.relation(|s, t| s == t) };
     let inner = |tables| Loop { tables, k: w.set(|_| false), w: none() }.node(skip);
-    let mut toggled = vacuous::derivation(&forever(), &w.relation(|s, t| s != t));
-    toggled.tables.q = none();
+    let toggled =
+        Tables { p: w.set(|_| false), r: w.relation(|s, t| s != t), g: none(), q: none() };
+    let whole = Tables { p: w.all(), r: none(), g: none(), q: w.relation(|s, t| s == t) };
     vec![
-        w.claim("empty", forever(), toggled),
-        w.claim("never", never, when_node(tables(w.all()), w.set(|_| false), inner)),
+        w.claim("empty", forever(), inner(toggled)),
+        w.claim("never", never, when_node(whole, w.set(|_| false), inner)),
     ]
 }
 

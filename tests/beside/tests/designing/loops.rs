@@ -63,9 +63,11 @@ fn starts() -> Vec<Claim> {
     wider_body.children[0].tables.q = c.relation(|[c, ..], [d, ..]| c == 3 && d == 2);
     let whole = plain(&c);
     let outer = Tables { p: three, ..whole.tables.clone() };
+    let exact = Tables { q: c.relation(|[c, ..], [d, ..]| c == 3 && d == 0), ..outer.clone() };
     vec![
         c.claim("start-42", count_down(0), narrow.node(assignment)),
         c.claim("start-34", count_down(0), wider_body),
+        c.claim("start-73", count_down(0), weaken(exact, whole.clone().node(assignment))),
         c.claim("start", count_down(0), weaken(outer, whole.node(assignment))),
     ]
 }
