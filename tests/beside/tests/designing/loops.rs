@@ -10,7 +10,8 @@ pub fn claims() -> Vec<Claim> {
     claims.extend(starts());
     claims.extend(before_an_assignment());
     claims.extend(waits());
-    claims.extend(bodies());
+    claims.extend(ifs_in_a_body());
+    claims.extend(idles());
     claims
 }
 
@@ -134,14 +135,32 @@ fn waits() -> Vec<Claim> {
     ]
 }
 
-/// Bodies that do not descend.
-fn bodies() -> Vec<Claim> {
+/// An if as the body, and before a statement that descends.
+fn ifs_in_a_body() -> Vec<Claim> {
     let c = counter();
     let more = |least| greater(read(0), number(least));
-    let stuck = repeat(more(0), when(more(1), store(0, minus(read(0), number(1)))));
+    let lower = || store(0, minus(read(0), number(1)));
+    let maybe = || when(more(1), lower());
     let test_true = c.set(|[c, ..]| c > 1);
+    let stuck = plain(&c).node(|tables| when_node(tables, test_true, assignment));
+    let mut wider = plain(&c);
+    wider.tables.g = c.relation(|[c, ..], [d, ..]| d < c);
+    let descends = wider.node(|tables| {
+        let at_least_1 = c.relation(|[c, ..], [d, ..]| d == (c - 1).max(1));
+        let left = Tables { q: at_least_1, ..tables.clone() };
+        let right = Tables { p: c.set(|[c, ..]| c == 1 || c == 2), ..tables.clone() };
+        over(Step::Sequence, tables, when_node(left, test_true, assignment), assignment(right))
+    });
+    vec![
+        c.claim("stuck-46", repeat(more(0), maybe()), stuck),
+        c.claim("unstuck", repeat(more(0), sequence(maybe(), lower())), descends),
+    ]
+}
+
+/// A wait without a bound.
+fn idles() -> Vec<Claim> {
     let f = world([("flag", 2)]);
-    let idle = repeat(equal(read(0), number(0)), Statement::Nil);
+    let idle = || repeat(equal(read(0), number(0)), Statement::Nil);
     let raise = || f.relation(|[f, ..], [g, ..]| f < g);
     let same = || f.relation(|[f, ..], [g, ..]| f == g);
     let tables = |w| Loop {
@@ -152,9 +171,8 @@ fn bodies() -> Vec<Claim> {
     let mut wider_body = tables(raise()).node(skip);
     wider_body.children[0].tables.q = raise().join(&same());
     vec![
-        c.claim("stuck-46", stuck, plain(&c).node(|t| when_node(t, test_true, assignment))),
-        f.claim("idle-35", idle.clone(), tables(raise()).node(skip)),
-        f.claim("idle-34", idle.clone(), wider_body),
-        f.claim("idle-51", idle, tables(raise().join(&same())).node(skip)),
+        f.claim("idle-35", idle(), tables(raise()).node(skip)),
+        f.claim("idle-34", idle(), wider_body),
+        f.claim("idle-51", idle(), tables(raise().join(&same())).node(skip)),
     ]
 }

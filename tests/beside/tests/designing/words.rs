@@ -102,17 +102,24 @@ impl Words<'_> {
                 format!("{} ← {}", self.claim.names[*variable], self.expression(value))
             }
             Statement::Sequence(left, right) => {
-                format!("{}; {}", self.statement(left), self.statement(right))
+                format!("{} ; {}", self.part(left), self.part(right))
             }
             Statement::Parallel(left, right) => {
-                format!("par {} beside {} rap", self.statement(left), self.statement(right))
+                format!("{} ∥ {}", self.part(left), self.part(right))
             }
             Statement::If(test, body) => {
-                format!("if {} then {} fi", self.expression(test), self.statement(body))
+                format!("if {} then {}", self.expression(test), self.part(body))
             }
             Statement::While(test, body) => {
-                format!("while {} do {} od", self.expression(test), self.statement(body))
+                format!("while {} do {}", self.expression(test), self.part(body))
             }
+        }
+    }
+
+    fn part(&self, statement: &Statement) -> String {
+        match statement {
+            Statement::Nil | Statement::Assignment(..) => self.statement(statement),
+            _ => format!("({})", self.statement(statement)),
         }
     }
 
