@@ -1,5 +1,5 @@
-//! Holds docs/DESIGNING.md and docs/FAULTS.md to their word: each claim names a pair, whose verdict
-//! is the line before the claim; each block gives the pair's tables; each search says how many of
+//! Checks what docs/DESIGNING.md and docs/FAULTS.md state: each claim names a pair, and the line
+//! before it is the pair's verdict; each block gives a pair's tables; each search says how many of
 //! the pairs that it tries are accepted.
 
 #[path = "designing/limits.rs"]
@@ -41,13 +41,14 @@ fn claims() -> Vec<Claim> {
         .collect()
 }
 
-/// What a page says with such a mark, ``"`LINE` (MARK: NAME)"``, as the name and the line.
+/// The name and the line of each mark, which a page writes as ``"`LINE` (MARK: NAME)"``. A page
+/// may end a line within it.
 fn marked(page: &str, mark: &str) -> Vec<(String, String)> {
-    let mark = format!("({mark}: ");
-    let parts: Vec<&str> = page.split(mark.as_str()).collect();
+    let text = page.split_whitespace().collect::<Vec<_>>().join(" ");
+    let mark = format!(" ({mark}: ");
+    let parts: Vec<&str> = text.split(mark.as_str()).collect();
     let after = |(before, rest): (&&str, &&str)| {
         let name = rest.split(')').next().expect("split gives a part").to_string();
-        let before = before.trim_end();
         let line = before.strip_suffix('`').and_then(|text| text.rsplit('`').next());
         let line = line.unwrap_or_else(|| panic!("no line before the mark of {name}"));
         (name, line.to_string())

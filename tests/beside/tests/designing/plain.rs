@@ -117,6 +117,10 @@ fn both(sides: Sides) -> Derivation {
     over(Step::Parallel, whole, assignment(left), assignment(right))
 }
 
+fn raise_both() -> Statement {
+    parallel(store(0, number(1)), store(1, number(1)))
+}
+
 fn parallels() -> Vec<Claim> {
     let w = world([("a", 2), ("b", 2)]);
     let with = |name, statement: Statement, change: &dyn Fn(&mut Sides)| {
@@ -124,24 +128,40 @@ fn parallels() -> Vec<Claim> {
         change(&mut sides);
         w.claim(name, statement, both(sides))
     };
-    let raise = || parallel(store(0, number(1)), store(1, number(1)));
     let copy = parallel(store(0, number(1)), store(1, read(0)));
     vec![
-        with("both", raise(), &|_| {}),
-        with("both-34", raise(), &|sides| sides.left.r = none()),
-        with("both-32", raise(), &|sides| {
+        with("both", raise_both(), &|_| {}),
+        with("both-34", raise_both(), &|sides| sides.left.r = none()),
+        with("both-32", raise_both(), &|sides| {
             sides.left.q = w.relation(|[_, b, ..], [c, d, ..]| c == 1 && b == d);
         }),
-        with("both-33", raise(), &|sides| {
+        with("both-33", raise_both(), &|sides| {
             sides.left.g = w.every_pair();
             sides.right.r = w.every_pair();
             sides.whole.g = w.every_pair();
         }),
-        with("both-65", raise(), &|sides| sides.whole.g = sides.left.g.clone()),
-        with("both-66", raise(), &|sides| {
+        with("both-65", raise_both(), &|sides| sides.whole.g = sides.left.g.clone()),
+        with("both-66", raise_both(), &|sides| {
             sides.whole.q =
                 w.relation(|[a, b, ..], [c, d, ..]| (a, b) == (0, 0) && (c, d) == (1, 1));
         }),
         with("both-41", copy, &|_| {}),
+    ]
+    .into_iter()
+    .chain(started_once(&w))
+    .collect()
+}
+
+/// The parallel from a = 0 and b = 0 alone.
+fn started_once(w: &World) -> [Claim; 2] {
+    let start = w.set(|[a, b, ..]| (a, b) == (0, 0));
+    let mut narrow = sides(w);
+    for tables in [&mut narrow.whole, &mut narrow.left, &mut narrow.right] {
+        tables.p = start;
+    }
+    let outer = Tables { p: start, ..sides(w).whole };
+    [
+        w.claim("both-31", raise_both(), both(narrow)),
+        w.claim("both-start", raise_both(), weaken(outer, both(sides(w)))),
     ]
 }

@@ -54,8 +54,8 @@ fn toggles() -> Vec<Claim> {
     ]
 }
 
-/// The tables of a bounded wait: what others do to the shared variables, of which `order` says
-/// in which direction, and the last variable the tries.
+/// The tables of a bounded wait. The variables before `tries` are shared, and others change them
+/// as `order` allows; the wait ends where `done` holds or no tries are left.
 fn bounded(
     w: &World,
     tries: usize,
