@@ -5,8 +5,8 @@ mod arguments;
 mod rows;
 
 use arguments::Arguments;
-use beside::{checkers, judge, Checker};
-use reference::{Place, Verdict, TABLE_WORDS};
+use beside::{checkers, judge, line, Checker};
+use reference::{Verdict, TABLE_WORDS};
 use rows::Row;
 use std::hint::black_box;
 use std::time::Instant;
@@ -34,7 +34,7 @@ fn run(arguments: Arguments) -> Result<(), String> {
     print_head(&checkers);
     for row in rows.iter().filter(wanted) {
         let verdict = judge(&row.handler, &row.proof);
-        assert!((row.expected)(verdict), "{}: {}", row.name, words(verdict));
+        assert!((row.expected)(verdict), "{}: {}", row.name, line(verdict));
         print_row(row, verdict, &measure(row, &checkers, rounds));
     }
     Ok(())
@@ -75,7 +75,7 @@ fn print_head(checkers: &[Box<dyn Checker>]) {
 
 fn print_row(row: &Row, verdict: Verdict, medians: &[f64]) {
     let bytes = row.handler.len() + row.proof.len();
-    print!("| {} | {bytes} | {} |", row.name, words(verdict));
+    print!("| {} | {bytes} | {} |", row.name, line(verdict));
     for median in medians {
         print!(" {median:.0} |");
     }
@@ -85,18 +85,6 @@ fn print_row(row: &Row, verdict: Verdict, medians: &[f64]) {
     println!();
 }
 
-/// The verdict as the check program's line says it.
-fn words(verdict: Verdict) -> String {
-    match verdict {
-        Verdict::Accepted(steps) => format!("accepted {steps}"),
-        Verdict::Refused { number, place: Place::Bit(bit) } => {
-            format!("refused {number} bit {bit}")
-        }
-        Verdict::Refused { number, place: Place::Node(node) } => {
-            format!("refused {number} node {node}")
-        }
-    }
-}
 
 #[cfg(test)]
 mod tests {

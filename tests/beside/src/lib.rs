@@ -78,6 +78,25 @@ pub fn at_node(number: u32, node: u32) -> Verdict {
     Verdict::Refused { number, place: Place::Node(node) }
 }
 
+/// The line that the check program prints, without its end.
+pub fn line(verdict: Verdict) -> String {
+    match verdict {
+        Verdict::Accepted(steps) => format!("accepted {steps}"),
+        Verdict::Refused { number, place: Place::Bit(bit) } => {
+            format!("refused {number} bit {bit}")
+        }
+        Verdict::Refused { number, place: Place::Node(node) } => {
+            format!("refused {number} node {node}")
+        }
+    }
+}
+
+/// The text of a page of docs/.
+pub fn page(name: &str) -> String {
+    let path = format!("{}/../../docs/{name}", env!("CARGO_MANIFEST_DIR"));
+    std::fs::read_to_string(&path).unwrap_or_else(|why| panic!("{path}: {why}"))
+}
+
 /// What word `index` holds before a call: never 0, and no two alike.
 fn mark(index: u64) -> u64 {
     (index + 1).wrapping_mul(0x9E37_79B9_7F4A_7C15) | 1

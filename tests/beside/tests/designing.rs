@@ -17,22 +17,12 @@ mod words;
 #[path = "designing/world.rs"]
 mod world;
 
-use reference::{Place, Verdict};
+use beside::lawful::NUMBERS;
+use beside::{line, page};
 use std::collections::BTreeSet;
 use world::Claim;
 
 const PAGES: [&str; 2] = ["DESIGNING.md", "FAULTS.md"];
-
-/// Every number that a refusal can have.
-const NUMBERS: [u32; 45] = [
-    1, 2, 10, 11, 12, 13, 14, 15, 16, 17, 18, 20, 21, 22, 23, 24, 25, 30, 31, 32, 33, 34, 35, 40,
-    41, 42, 43, 45, 46, 50, 51, 52, 53, 54, 55, 56, 60, 61, 65, 66, 70, 71, 72, 73, 80,
-];
-
-fn page(name: &str) -> String {
-    let path = format!("{}/../../docs/{name}", env!("CARGO_MANIFEST_DIR"));
-    std::fs::read_to_string(&path).unwrap_or_else(|why| panic!("{path}: {why}"))
-}
 
 fn claims() -> Vec<Claim> {
     [plain::claims(), loops::claims(), underivable::claims(), limits::claims()]
@@ -54,18 +44,6 @@ fn marked(page: &str, mark: &str) -> Vec<(String, String)> {
         (name, line.to_string())
     };
     parts.iter().zip(&parts[1..]).map(after).collect()
-}
-
-fn line(verdict: Verdict) -> String {
-    match verdict {
-        Verdict::Accepted(steps) => format!("accepted {steps}"),
-        Verdict::Refused { number, place: Place::Bit(bit) } => {
-            format!("refused {number} bit {bit}")
-        }
-        Verdict::Refused { number, place: Place::Node(node) } => {
-            format!("refused {number} node {node}")
-        }
-    }
 }
 
 /// The names that the pages give to a mark are those that the test has, and each is there once.

@@ -1,11 +1,10 @@
 //! docs/FORMAT.md and docs/RULES.md: the worked example is true, and every number has an entry.
 
 use std::collections::BTreeSet;
-use std::path::Path;
 
-use beside::judge;
 use beside::lawful::NUMBERS;
-use reference::{Place, Verdict, TABLE_WORDS};
+use beside::{judge, line, page};
+use reference::TABLE_WORDS;
 
 /// A table of a page, with the heading of its section.
 struct Table {
@@ -28,11 +27,6 @@ impl Table {
     fn numbers(&self, column: &str) -> Vec<usize> {
         self.column(column).iter().map(|cell| cell.parse().expect(cell)).collect()
     }
-}
-
-fn page(name: &str) -> String {
-    let path = Path::new(env!("CARGO_MANIFEST_DIR")).join("../../docs").join(name);
-    std::fs::read_to_string(&path).unwrap_or_else(|error| panic!("{path:?}: {error}"))
 }
 
 /// The tables of a page, in order.
@@ -75,19 +69,6 @@ fn packed(bits: &str) -> Vec<u8> {
     assert_eq!(bits.len() % 8, 0, "the fill must end the last byte");
     let byte = |place: usize| u8::from_str_radix(&bits[place..place + 8], 2).expect(bits);
     (0..bits.len()).step_by(8).map(byte).collect()
-}
-
-/// The line that the check program prints, without its end.
-fn line(verdict: Verdict) -> String {
-    match verdict {
-        Verdict::Accepted(steps) => format!("accepted {steps}"),
-        Verdict::Refused { number, place: Place::Bit(bit) } => {
-            format!("refused {number} bit {bit}")
-        }
-        Verdict::Refused { number, place: Place::Node(node) } => {
-            format!("refused {number} node {node}")
-        }
-    }
 }
 
 /// The bytes in the heading of a file's table of fields, such as "handler.bin: `22 20 02`".
