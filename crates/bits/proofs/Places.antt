@@ -1,13 +1,13 @@
 -- Where reading can stop: the cursor after a field that is there is within the file, and so is every place at which reading names a
 -- fault. Both readers of files prove from these laws where their faults are.
 use Prim.Native.Nat.{ℕ, zero, suc, _+_, _*_, _^_, _≤_}
-use mathlib.Core.Bool.{Bool, true, false, cond, _&&_}
+use mathlib.Core.Bool.{Bool, true, false, cond, _&&_, and-eq-true-iff}
 use mathlib.Core.List.{List}
 use mathlib.Core.Option.{some}
 use mathlib.Core.Path.{_≡_, refl}
 use native.Mathlib.Omega.{arith}
-use borrow.Author.Tests.{ltb-true, eqb-false}
-use lib.Dec.{ltb, eqb}
+use borrow.Author.Tests.{leb-true, ltb-true, eqb-false}
+use lib.Dec.{leb, ltb, eqb}
 use lib.ListN.{length}
 use Rattle.bits.specs.Fields.{bitLength, bitAt, fieldAt, firstSet, fillBits, furtherByte, fillFrom, fillAt}
 use Rattle.bits.specs.declared.Field.{Field}
@@ -37,10 +37,16 @@ module _ (bytes : List ℕ) where
       by Missing e = missing
       by (Value v next) e = value v next (there bytes at w v next e)
 
-  -- The place of a missing field.
-  pub end-inside : bitLength bytes ≤ 8 * length bytes
-  unfolding bitLength
-  end-inside = omega arith
+  -- A fault at a cursor, and at the file's length, where a field is missing. Numbers are written out, so that `refl` shows their range.
+  module _ (least most k : ℕ) (ranged : (leb least k && leb k most) ≡ true) where
+    pub fault-at : (at : ℕ) → at ≤ 8 * length bytes → FaultIn bytes least most k at
+    fault-at at inside =
+        let tests = simp and-eq-true-iff at ranged in
+        record { from-least = leb-true least k (tests .0); to-most = leb-true k most (tests .1); inside = inside }
+
+    pub fault-missing : FaultIn bytes least most k (bitLength bytes)
+    unfolding bitLength
+    fault-missing = fault-at (bitLength bytes) (omega arith)
 
   abbrev FillIn : Fill → Type 0
   FillIn Ends = Unit {0}

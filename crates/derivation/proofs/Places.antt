@@ -1,7 +1,7 @@
 -- Every fault of a proof file has a number from 20 to 25, and its place is in the file or at its end. Reading keeps its cursor within the
 -- file, and names only its cursor, the file's length or a bit that is there.
 use Prim.Native.Nat.{ℕ, zero, suc, _+_, _*_, _≤_}
-use mathlib.Core.Bool.{_||_}
+use mathlib.Core.Bool.{true, _&&_, _||_}
 use mathlib.Core.List.{List}
 use mathlib.Core.Path.{_≡_, refl}
 use native.Mathlib.Omega.{arith}
@@ -10,7 +10,7 @@ use lib.ListN.{length}
 use Rattle.bits.specs.Fields.{bitLength, fieldAt, fillAt}
 use Rattle.bits.specs.declared.Fill.{Fill}
 use Rattle.bits.specs.declared.Fill.the-variants.{Ends, Wrong}
-use Rattle.bits.proofs.Places.{FaultIn, either, by-field, end-inside, fill-inside}
+use Rattle.bits.proofs.Places.{FaultIn, either, by-field, fault-at, fault-missing, fill-inside}
 use Rattle.semantics.specs.declared.Names.{Names}
 use Rattle.semantics.specs.Derivations.{Derivation}
 use Rattle.derivation.specs.declared.HeadFound.{HeadFound}
@@ -30,10 +30,10 @@ module _ (bytes : List ℕ) where
   Fine = FaultIn bytes 20 25
 
   missing : Fine 20 (bitLength bytes)
-  missing = record { from-least = omega arith; to-most = omega arith; inside = end-inside bytes }
+  missing = fault-missing bytes 20 25 20 refl
 
-  at-cursor : (k at : ℕ) → 20 ≤ k → k ≤ 25 → at ≤ end → Fine k at
-  at-cursor k at least most inside = record { from-least = least; to-most = most; inside = inside }
+  at-cursor : (k : ℕ) → (leb 20 k && leb k 25) ≡ true → (at : ℕ) → at ≤ end → Fine k at
+  at-cursor = fault-at bytes 20 25
 
   -- The head of a node.
   abbrev HeadIn : HeadFound → Type 0
@@ -45,7 +45,7 @@ module _ (bytes : List ℕ) where
   unfolding namedTable onName
   name-in limit at f here after =
       by-field bytes HeadIn at 4 (λ x. onName bytes limit at x f) missing (λ i next t.
-      either HeadIn (ltb i limit) _ _ (after i (t .inside)) (at-cursor 23 at (omega arith) (omega arith) here))
+      either HeadIn (ltb i limit) _ _ (after i (t .inside)) (at-cursor 23 refl at here))
 
   module _ (sets relations : ℕ) where
     loop-in : (rule : ℕ) (h : Names) (at : ℕ) → at ≤ end → HeadIn (loopHead bytes sets relations rule h at)
@@ -63,8 +63,8 @@ module _ (bytes : List ℕ) where
     unfolding nodeHead ruleHead
     head-in below before at here =
         by-field bytes HeadIn at 3 (ruleHead bytes sets relations (eqb below 0 || leb 127 before) at) missing (λ rule next t.
-        either HeadIn (eqb below 0 || leb 127 before) _ _ (at-cursor 24 at (omega arith) (omega arith) here)
-        (either HeadIn (eqb rule 7) _ _ (at-cursor 22 at (omega arith) (omega arith) here) (names-in rule next (omega arith))))
+        either HeadIn (eqb below 0 || leb 127 before) _ _ (at-cursor 24 refl at here)
+        (either HeadIn (eqb rule 7) _ _ (at-cursor 22 refl at here) (names-in rule next (omega arith))))
 
   -- The nodes.
   abbrev NodeIn : NodeRead → Type 0
@@ -89,7 +89,7 @@ module _ (bytes : List ℕ) where
 
   node-in : (sets relations levels before at : ℕ) → at ≤ end → NodeIn (nodeAt levels bytes sets relations before at)
   unfolding nodeAt
-  node-in sets relations zero before at here = at-cursor 24 at (omega arith) (omega arith) here
+  node-in sets relations zero before at here = at-cursor 24 refl at here
   node-in sets relations (suc levels) before at here =
       on-head (nodeAt levels bytes sets relations) (node-in sets relations levels) (nodeHead bytes sets relations levels before at)
       (head-in sets relations levels before at here) before
@@ -105,13 +105,13 @@ module _ (bytes : List ℕ) where
     relations-in sets =
         by-field bytes TablesIn 5 5 (relationsRead bytes n sets) missing (λ relations next t.
         either TablesIn (isCount relations) _ _ (either TablesIn (tablesThere bytes n sets relations) _ _ tt missing)
-        (at-cursor 21 5 (omega arith) (omega arith) (omega (arith, t .inside))))
+        (at-cursor 21 refl 5 (omega (arith, t .inside))))
 
     tables-in : TablesIn (tablesAt bytes n)
     unfolding tablesAt setsRead
     tables-in =
         by-field bytes TablesIn 0 5 (setsRead bytes n) missing (λ sets next t.
-        either TablesIn (isCount sets) _ _ (relations-in sets) (at-cursor 21 0 (omega arith) (omega arith) (omega arith)))
+        either TablesIn (isCount sets) _ _ (relations-in sets) (at-cursor 21 refl 0 (omega arith)))
 
     -- The whole file.
     abbrev FileIn : ProofRead → Type 0
@@ -120,7 +120,7 @@ module _ (bytes : List ℕ) where
 
     fill-in : (sets relations at next : ℕ) (d : Derivation) (f : Fill) → fillAt bytes next ≡ f → FileIn (onProofFill sets relations at d f)
     fill-in sets relations at next d Ends e = tt
-    fill-in sets relations at next d (Wrong place) e = at-cursor 25 place (omega arith) (omega arith) (fill-inside bytes next place e)
+    fill-in sets relations at next d (Wrong place) e = at-cursor 25 refl place (fill-inside bytes next place e)
 
     nodes-in : (sets relations at : ℕ) (x : NodeRead) → NodeIn x → FileIn (onNodes bytes sets relations at x)
     nodes-in sets relations at (fault k place) p = p

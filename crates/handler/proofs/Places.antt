@@ -1,7 +1,7 @@
 -- Every fault of a handler file has a number from 10 to 18, and its place is in the file or at its end. Reading keeps its cursor within the
 -- file, and names only its cursor, the file's length, a bit that is there or a part of what it has read.
 use Prim.Native.Nat.{ℕ, zero, suc, _+_, _*_, _≤_, _<_}
-use mathlib.Core.Bool.{_&&_, _||_}
+use mathlib.Core.Bool.{true, _&&_, _||_}
 use mathlib.Core.List.{List}
 use mathlib.Core.Option.{Option, none, some}
 use mathlib.Core.Path.{_≡_, refl}
@@ -11,7 +11,7 @@ use lib.ListN.{length}
 use Rattle.bits.specs.Fields.{bitLength, fillAt}
 use Rattle.bits.specs.declared.Fill.{Fill}
 use Rattle.bits.specs.declared.Fill.the-variants.{Ends, Wrong}
-use Rattle.bits.proofs.Places.{FaultIn, either, by-field, end-inside, fill-inside}
+use Rattle.bits.proofs.Places.{FaultIn, either, by-field, fault-at, fault-missing, fill-inside}
 use Rattle.states.specs.Sets.{capacity}
 use Rattle.semantics.specs.declared.Kind.{Kind}
 use Rattle.semantics.specs.declared.Kind.the-variants.{Integer as integer-kind, Truth as truth-kind}
@@ -95,10 +95,10 @@ module _ (bytes : List ℕ) where
   Fine = FaultIn bytes 10 18
 
   missing : Fine 10 (bitLength bytes)
-  missing = record { from-least = omega arith; to-most = omega arith; inside = end-inside bytes }
+  missing = fault-missing bytes 10 18 10 refl
 
-  at-cursor : (k at : ℕ) → 10 ≤ k → k ≤ 18 → at ≤ end → Fine k at
-  at-cursor k at least most inside = record { from-least = least; to-most = most; inside = inside }
+  at-cursor : (k : ℕ) → (leb 10 k && leb k 18) ≡ true → (at : ℕ) → at ≤ end → Fine k at
+  at-cursor = fault-at bytes 10 18
 
   -- The head of a node of an expression.
   abbrev ExprHeadIn : ExprHead → Type 0
@@ -115,15 +115,15 @@ module _ (bytes : List ℕ) where
       (either ExprHeadIn (eqb tag 1) _ _ (by-field bytes ExprHeadIn at 1 (truthHead bytes) missing (λ n next t. omega arith))
       (either ExprHeadIn (eqb tag 2) _ _
       (by-field bytes ExprHeadIn at 2 (variableHead bytes count at) missing (λ v next t.
-      either ExprHeadIn (ltb v count) _ _ (omega arith) (at-cursor 15 at (omega arith) (omega arith) here)))
+      either ExprHeadIn (ltb v count) _ _ (omega arith) (at-cursor 15 refl at here)))
       (by-field bytes ExprHeadIn at 3 (operationHead bytes at) missing (λ o next t.
-      either ExprHeadIn (eqb o 7) _ _ (at-cursor 14 at (omega arith) (omega arith) here) (omega arith)))))
+      either ExprHeadIn (eqb o 7) _ _ (at-cursor 14 refl at here) (omega arith)))))
 
   expr-head-in : (count nodes at : ℕ) → at ≤ end → ExprHeadIn (exprHead bytes count nodes at)
   unfolding exprHead tagHead
   expr-head-in count nodes at here =
       by-field bytes ExprHeadIn at 2 (tagHead bytes count nodes at) missing (λ tag next t.
-      either ExprHeadIn (leb 31 nodes) _ _ (at-cursor 17 at (omega arith) (omega arith) here) (payload-in count next tag (omega arith)))
+      either ExprHeadIn (leb 31 nodes) _ _ (at-cursor 17 refl at here) (payload-in count next tag (omega arith)))
 
   abbrev ExprIn : ExprRead → Type 0
   ExprIn (good e nodes next) = next ≤ end
@@ -147,7 +147,7 @@ module _ (bytes : List ℕ) where
 
   expr-in : (levels count nodes at : ℕ) → at ≤ end → ExprIn (exprAt levels bytes count nodes at)
   unfolding exprAt
-  expr-in zero count nodes at here = at-cursor 17 at (omega arith) (omega arith) here
+  expr-in zero count nodes at here = at-cursor 17 refl at here
   expr-in (suc levels) count nodes at here =
       on-expr-head (exprHead bytes count nodes at) (expr-head-in count nodes at here) nodes (exprAt levels bytes count) (expr-in levels count)
 
@@ -169,15 +169,15 @@ module _ (bytes : List ℕ) where
       either StmtHeadIn (eqb code 0) _ _ after
       (either StmtHeadIn (eqb code 1) _ _
       (by-field bytes StmtHeadIn next 2 (targetHead bytes count next) missing (λ v over t.
-      either StmtHeadIn (ltb v count) _ _ (omega arith) (at-cursor 15 next (omega arith) (omega arith) after)))
+      either StmtHeadIn (ltb v count) _ _ (omega arith) (at-cursor 15 refl next after)))
       (either StmtHeadIn (ltb code 4) _ _ after
-      (either StmtHeadIn (ltb code 6) _ _ after (at-cursor 14 at (omega arith) (omega arith) here))))
+      (either StmtHeadIn (ltb code 6) _ _ after (at-cursor 14 refl at here))))
 
   stmt-head-in : (count below before at : ℕ) → at ≤ end → StmtHeadIn (stmtHead bytes count below before at)
   unfolding stmtHead markHead
   stmt-head-in count below before at here =
       by-field bytes StmtHeadIn at 3 (markHead bytes count (eqb below 0 || leb 63 before) at) missing (λ code next t.
-      either StmtHeadIn (eqb below 0 || leb 63 before) _ _ (at-cursor 17 at (omega arith) (omega arith) here) (code-in count at code next here (omega arith)))
+      either StmtHeadIn (eqb below 0 || leb 63 before) _ _ (at-cursor 17 refl at here) (code-in count at code next here (omega arith)))
 
   abbrev StmtIn : StmtRead → Type 0
   StmtIn (whole S before next) = next ≤ end
@@ -213,7 +213,7 @@ module _ (bytes : List ℕ) where
 
   stmt-in : (levels count before at : ℕ) → at ≤ end → StmtIn (stmtAt levels bytes count before at)
   unfolding stmtAt
-  stmt-in zero count before at here = at-cursor 17 at (omega arith) (omega arith) here
+  stmt-in zero count before at here = at-cursor 17 refl at here
   stmt-in (suc levels) count before at here =
       on-stmt-head (stmtAt levels bytes count) (stmt-in levels count) count (stmtHead bytes count levels before at)
       (stmt-head-in count levels before at here) before
@@ -228,8 +228,8 @@ module _ (bytes : List ℕ) where
   size-in (head.fault k place) p = p
   size-in (head.declared sizes at) p =
       by-field bytes HeadIn at 5 (head.sizeRead bytes sizes at) missing (λ size next t.
-      either HeadIn (ltb size 2 || ltb 16 size) _ _ (at-cursor 12 at (omega arith) (omega arith) p)
-      (either HeadIn (ltb capacity (product sizes * size)) _ _ (at-cursor 13 at (omega arith) (omega arith) p) (omega arith)))
+      either HeadIn (ltb size 2 || ltb 16 size) _ _ (at-cursor 12 refl at p)
+      (either HeadIn (ltb capacity (product sizes * size)) _ _ (at-cursor 13 refl at p) (omega arith)))
 
   sizes-in : (count : ℕ) → 3 ≤ end → HeadIn (head.sizesRead bytes count)
   unfolding head.sizesRead
@@ -240,7 +240,7 @@ module _ (bytes : List ℕ) where
   unfolding head.headAt head.countRead
   head-in =
       by-field bytes HeadIn 0 3 (head.countRead bytes) missing (λ count next t.
-      either HeadIn (leb 1 count && leb count 4) _ _ (sizes-in count (omega arith)) (at-cursor 11 0 (omega arith) (omega arith) (omega arith)))
+      either HeadIn (leb 1 count && leb count 4) _ _ (sizes-in count (omega arith)) (at-cursor 11 refl 0 (omega arith)))
 
   -- The whole file.
   abbrev FileIn : HandlerRead → Type 0
@@ -249,11 +249,11 @@ module _ (bytes : List ℕ) where
 
   kinds-in : (sizes : List ℕ) (at : ℕ) (S : Stmt) (o : Option ℕ) → Within at (stmtWidth S) o → at + stmtWidth S ≤ end → FileIn (onKinds sizes at S o)
   kinds-in sizes at S none p here = tt
-  kinds-in sizes at S (some place) p here = at-cursor 16 place (omega arith) (omega arith) (omega arith)
+  kinds-in sizes at S (some place) p here = at-cursor 16 refl place (omega arith)
 
   fill-in : (sizes : List ℕ) (at next : ℕ) (S : Stmt) → at + stmtWidth S ≤ end → (f : Fill) → fillAt bytes next ≡ f → FileIn (onHandlerFill sizes at S f)
   fill-in sizes at next S here Ends e = kinds-in sizes at S (stmtKindError at S) (stmt-within at S) here
-  fill-in sizes at next S here (Wrong place) e = at-cursor 18 place (omega arith) (omega arith) (fill-inside bytes next place e)
+  fill-in sizes at next S here (Wrong place) e = at-cursor 18 refl place (fill-inside bytes next place e)
 
   read-in : (sizes : List ℕ) (at : ℕ) (x : StmtRead) → wholeStmt bytes (length sizes) at ≡ x → StmtIn x → FileIn (onStmt bytes sizes at x)
   unfolding wholeStmt
