@@ -78,7 +78,8 @@ fn deep_expressions() -> Vec<Files> {
             let truths = chain(Operation::And, 16, side, &Expression::Truth(true));
             let less = operate(Operation::Less, read(0), number(3));
             let tests = chain(Operation::Or, 8, side, &less);
-            let statements = [zeros, chain(Operation::Add, 16, side, &read(0))].map(|e| store(0, e));
+            let statements =
+                [zeros, chain(Operation::Add, 16, side, &read(0))].map(|e| store(0, e));
             let compared = operate(Operation::Greater, reads, number(2));
             all.extend(statements.map(|statement| derived(sizes, statement)));
             for test in [compared, truths, tests] {
@@ -109,7 +110,7 @@ fn deep_statements(random: &mut Random) -> Vec<Files> {
         operate(Operation::Greater, reads, number(100))
     };
     for kind in 0..6 {
-        for side in 0..3 {
+        for (side, sizes) in SIZES.into_iter().enumerate() {
             let innermost = store(0, chain(Operation::Add, 16, side, &number(0)));
             let statement = (1..16).fold(innermost, |part, _| match kind {
                 0 => sequence(part, Statement::Nil),
@@ -119,8 +120,8 @@ fn deep_statements(random: &mut Random) -> Vec<Files> {
                 4 => when(test(side), part),
                 _ => repeat(test(side), part),
             });
-            all.push(files(vacuous::pair(SIZES[side], statement.clone())));
-            all.push(derived(SIZES[side], statement));
+            all.push(files(vacuous::pair(sizes, statement.clone())));
+            all.push(derived(sizes, statement));
         }
     }
     for _ in 0..100 {
@@ -169,7 +170,8 @@ fn endless() -> Vec<Files> {
     let sizes: &[Field] = &[(2, 3), (8, 5), (8, 5)];
     let (nil, good) = files(vacuous::pair(&[8, 8], Statement::Nil));
     let repeated = |field: &[Field], times: usize| field.repeat(times);
-    let levels: [&[Field]; 4] = [&[(2, 3)], &[(3, 3)], &[(4, 3), (1, 2), (1, 1)], &[(5, 3), (1, 2), (1, 1)]];
+    let levels: [&[Field]; 4] =
+        [&[(2, 3)], &[(3, 3)], &[(4, 3), (1, 2), (1, 1)], &[(5, 3), (1, 2), (1, 1)]];
     for level in levels {
         all.push((packed(&[sizes, &repeated(level, 2000)]), good.clone()));
         for code in 0..7 {
