@@ -1,29 +1,19 @@
-/* stack FILE...: how much stack the two calls take at most, over the pairs of the files.
+/* stack FILE: how much stack the two calls take at most, over the pairs of a file (pairs.h).
 
-   A file holds pairs one after another: the length of the handler and that of the proof, each as four bytes with the least
-   significant first, then both. Every pair is checked in a thread of its own whose stack was painted beforehand. What is counted
-   reaches from the frame that makes the call down to the lowest byte that is no longer paint. A byte that happens to be written
-   in the colour of the paint is not seen, so each pair is tried with two colours.
+   Every call is made in a thread of its own whose stack was painted beforehand. What is counted reaches from the frame that makes
+   the call down to the lowest byte that is no longer paint. A byte that happens to be written in the colour of the paint is not
+   seen, so each call is made with two colours.
 
    Prints the largest figures, and for comparison what a thread takes that makes no call. Ends with 1 where a call takes more than
    HANDOVER_STACK_BYTES, with 2 where nothing could be measured. */
 #define _GNU_SOURCE
-#include "handover.h"
+#include "pairs.h"
 
 #include <pthread.h>
-#include <stdio.h>
-#include <stdlib.h>
 #include <string.h>
 #include <sys/mman.h>
 
 enum { STACK_BYTES = 256 * 1024 };
-
-struct pair {
-    uint8_t handler[HANDOVER_MOST_BYTES + 1];
-    uint8_t proof[HANDOVER_MOST_BYTES + 1];
-    uint32_t handler_len;
-    uint32_t proof_len;
-};
 
 /* The stack of the threads, and where the frame is that makes the call. */
 static uint8_t *stack;
@@ -52,12 +42,6 @@ static void *call_nothing(void *unused)
 {
     frame = (uint8_t *)__builtin_frame_address(0);
     return unused;
-}
-
-static void give_up(const char *what)
-{
-    fprintf(stderr, "stack: %s\n", what);
-    exit(2);
 }
 
 /* The bytes between the frame that calls and the lowest one that is no longer paint. */
@@ -91,24 +75,6 @@ static size_t most_of(void *(*call)(void *))
     return one > other ? one : other;
 }
 
-/* The next pair of a file; false at its end. */
-static bool next_pair(FILE *file, const char *name)
-{
-    uint8_t head[8];
-    size_t got = fread(head, 1, sizeof head, file);
-    if (got == 0) {
-        return false;
-    }
-    pair.handler_len = (uint32_t)head[0] | (uint32_t)head[1] << 8 | (uint32_t)head[2] << 16 | (uint32_t)head[3] << 24;
-    pair.proof_len = (uint32_t)head[4] | (uint32_t)head[5] << 8 | (uint32_t)head[6] << 16 | (uint32_t)head[7] << 24;
-    bool fits = got == sizeof head && pair.handler_len <= sizeof pair.handler && pair.proof_len <= sizeof pair.proof;
-    if (!fits || fread(pair.handler, 1, pair.handler_len, file) != pair.handler_len
-        || fread(pair.proof, 1, pair.proof_len, file) != pair.proof_len) {
-        give_up(name);
-    }
-    return true;
-}
-
 /* The largest figures so far. */
 struct most {
     size_t pairs;
@@ -123,7 +89,7 @@ static void measure(const char *name, struct most *most)
     if (file == NULL) {
         give_up(name);
     }
-    while (next_pair(file, name)) {
+    while (next_pair(file, &pair)) {
         size_t root = most_of(call_root);
         size_t check = most_of(call_check);
         most->pairs++;
@@ -137,14 +103,15 @@ static void measure(const char *name, struct most *most)
 int main(int argc, char **argv)
 {
     struct most most = {0, 0, 0, 0};
+    if (argc != 2) {
+        give_up("usage: stack FILE");
+    }
     void *memory = mmap(NULL, STACK_BYTES, PROT_READ | PROT_WRITE, MAP_PRIVATE | MAP_ANONYMOUS, -1, 0);
     if (memory == MAP_FAILED) {
         give_up("no memory");
     }
     stack = (uint8_t *)memory;
-    for (int i = 1; i < argc; i++) {
-        measure(argv[i], &most);
-    }
+    measure(argv[1], &most);
     size_t nothing = most_of(call_nothing);
     if (most.accepted == 0 || most.accepted == most.pairs || most.check <= nothing || most.root <= nothing) {
         give_up("the pairs are too few to measure anything");
