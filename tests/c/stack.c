@@ -87,7 +87,7 @@ static void measure(const char *name, struct most *most)
 {
     FILE *file = fopen(name, "rb");
     if (file == NULL) {
-        give_up(name);
+        give_up("the file of pairs cannot be opened");
     }
     while (next_pair(file, &pair)) {
         size_t root = most_of(call_root);
