@@ -16,8 +16,8 @@
    - work is aligned to 8 bytes, as every array of uint64_t is. The files need no alignment.
    - work overlaps neither handler nor proof: that is what `restrict` says below. Where it does, the behaviour is undefined, and the
      answer can be `accepted` for a pair that must be refused. The two files are only read, and may overlap each other.
-   - Until the call returns, nobody else writes the files, and nobody else reads or writes the work words. If a guest can write the
-     memory that its files are in, the host copies them first.
+   - Until the call returns, nothing else (no thread, guest or device) writes the files, or reads or writes the work words. If a
+     guest can write the memory that its files are in, the host copies them first.
    - HANDOVER_STACK_BYTES of stack are free at the call.
 
    What the host gets, from every call:
@@ -119,7 +119,8 @@ enum handover_fault {
 /* Checks a handler file against a proof file. The functions below take the answer apart.
 
    On acceptance the first HANDOVER_WORK_WORDS work words hold the tables of the proof file (see handover_set_word and
-   handover_row_word). Refusals 1 and 2 write nothing; every other refusal leaves these words 0. Words after them never change.
+   handover_row_word), and 0 where there is no table. Refusals 1 and 2 write nothing; every other refusal leaves these words 0.
+   Words after them never change.
 
    What acceptance promises. Let P, R, G and Q be the tables that handover_root names for the same two files. If the handler starts
    at a state of P, and every change that others make to the variables is a pair of R (from the state before it to the state
@@ -128,13 +129,15 @@ enum handover_fault {
    - each of its steps that changed the state was a pair of G;
    - it has not stopped half-way: no store of a value out of range is next, and unless it has ended it has a step to make;
    - if it has ended, the pair of the start and the present state is in Q.
-   That is all: nothing is said of a run in which others make a change outside R even once, of a start outside P, or of time. */
+   That is all. Nothing is said of a run in which others make a change outside R even once, of a start outside P (so nothing at
+   all where P is empty), or of time. */
 uint64_t handover_check(const uint8_t *HANDOVER_RESTRICT handler, size_t handler_len,
                         const uint8_t *HANDOVER_RESTRICT proof, size_t proof_len,
                         uint64_t *HANDOVER_RESTRICT work, size_t work_len);
 
-/* The number of states and the numbers of the root's tables: N + 2^8 P + 2^16 R + 2^24 G + 2^32 Q, which is never 0.
-   It is 0 where either file is ill-formed: longer than HANDOVER_MOST_BYTES, or refused with a number from 10 to 25.
+/* The number of states and the numbers of the root's tables. If both files are well-formed, the answer is
+   N + 2^8 P + 2^16 R + 2^24 G + 2^32 Q, which is not 0, since N is at least 2. If either is not, the answer is 0: a file that is
+   longer than HANDOVER_MOST_BYTES, or in which handover_check finds a fault with a number from 10 to 25.
    It needs no work words, writes nothing, and looks at no condition: it also answers for a pair that is refused with 30 to 80. */
 uint64_t handover_root(const uint8_t *handler, size_t handler_len, const uint8_t *proof, size_t proof_len);
 
@@ -143,7 +146,7 @@ uint64_t handover_root(const uint8_t *handler, size_t handler_len, const uint8_t
 /* Whether the pair was accepted. */
 static inline bool handover_accepted(uint64_t answer) { return answer <= HANDOVER_MOST_STEPS; }
 
-/* The step number of an accepted pair. */
+/* The step number of an accepted pair: the handler never makes more steps than this, and often makes fewer. */
 static inline uint32_t handover_steps(uint64_t answer) { return (uint32_t)(answer & HANDOVER_MOST_STEPS); }
 
 /* The number of the fault, one of enum handover_fault; 0 for an accepted pair. */
@@ -186,13 +189,13 @@ static inline size_t handover_row_word(uint32_t relation, uint32_t from)
     return HANDOVER_MOST_SETS + (size_t)HANDOVER_MOST_STATES * relation + from;
 }
 
-/* Whether a set has the state, in the work words after acceptance. */
+/* Whether a set has the state, in the work words after acceptance. The set is one of the proof file's, the state is below N. */
 static inline bool handover_in_set(const uint64_t *work, uint32_t set, uint32_t state)
 {
     return (work[handover_set_word(set)] >> state & 1) == 1;
 }
 
-/* Whether a relation has the pair (from, to), in the work words after acceptance. */
+/* Whether a relation has the pair (from, to), in the work words after acceptance. Both states are below N. */
 static inline bool handover_in_relation(const uint64_t *work, uint32_t relation, uint32_t from, uint32_t to)
 {
     return (work[handover_row_word(relation, from)] >> to & 1) == 1;
