@@ -1,12 +1,12 @@
 //! Medians of the time that each checker takes, all measured in one run so that the machine
-//! treats them alike. `--smoke` measures hardly at all: it shows that the rows still work.
-//! `--growth` measures how the cost grows with states and nodes instead. Any other word keeps
-//! only the rows whose names start with it.
+//! treats them alike. `arguments.rs` has the flags.
 
+mod arguments;
 mod rows;
 
+use arguments::Arguments;
 use beside::{checkers, judge, Checker};
-use reference::{Verdict, TABLE_WORDS};
+use reference::{Place, Verdict, TABLE_WORDS};
 use rows::Row;
 use std::hint::black_box;
 use std::time::Instant;
@@ -15,18 +15,29 @@ use std::time::Instant;
 const CALLS: u32 = 8;
 
 fn main() {
-    let words: Vec<String> = std::env::args().skip(1).collect();
-    let given = |flag: &str| words.iter().any(|word| word == flag);
-    let rounds = if given("--smoke") { 3 } else { 401 };
-    let rows = if given("--growth") { rows::growth() } else { rows::all() };
-    let wanted = words.iter().find(|word| !word.starts_with("--")).map_or("", String::as_str);
+    if let Err(said) = arguments::read(std::env::args().skip(1)).and_then(run) {
+        eprintln!("{said}");
+        std::process::exit(2);
+    }
+}
+
+/// Measures and prints the wanted rows; an error says that there are none.
+fn run(arguments: Arguments) -> Result<(), String> {
+    let rounds = if arguments.smoke { 3 } else { 401 };
+    let rows = if arguments.growth { rows::growth() } else { rows::all() };
+    let wanted = |row: &&Row| row.name.starts_with(&arguments.row);
+    if !rows.iter().any(|row| wanted(&row)) {
+        let names: Vec<&str> = rows.iter().map(|row| row.name).collect();
+        return Err(arguments::no_such_row(&arguments.row, &names));
+    }
     let checkers = checkers();
     print_head(&checkers);
-    for row in rows.into_iter().filter(|row| row.name.starts_with(wanted)) {
+    for row in rows.iter().filter(wanted) {
         let verdict = judge(&row.handler, &row.proof);
-        assert!((row.expected)(verdict), "{}: {verdict:?}", row.name);
-        print_row(&row, verdict, &measure(&row, &checkers, rounds));
+        assert!((row.expected)(verdict), "{}: {}", row.name, words(verdict));
+        print_row(row, verdict, &measure(row, &checkers, rounds));
     }
+    Ok(())
 }
 
 /// The median of each checker in nanoseconds a call; they take turns in every round.
@@ -74,9 +85,27 @@ fn print_row(row: &Row, verdict: Verdict, medians: &[f64]) {
     println!();
 }
 
+/// The verdict as the check program's line says it.
 fn words(verdict: Verdict) -> String {
     match verdict {
         Verdict::Accepted(steps) => format!("accepted {steps}"),
-        Verdict::Refused { number, place } => format!("refused {number} {place:?}"),
+        Verdict::Refused { number, place: Place::Bit(bit) } => {
+            format!("refused {number} bit {bit}")
+        }
+        Verdict::Refused { number, place: Place::Node(node) } => {
+            format!("refused {number} node {node}")
+        }
+    }
+}
+
+#[cfg(test)]
+mod tests {
+    use super::*;
+
+    #[test]
+    fn verdicts_as_the_line_says_them() {
+        assert_eq!(words(Verdict::Accepted(28)), "accepted 28");
+        assert_eq!(words(beside::at_bit(10, 2000)), "refused 10 bit 2000");
+        assert_eq!(words(beside::at_node(35, 126)), "refused 35 node 126");
     }
 }

@@ -1,4 +1,4 @@
--- Worked examples: document 01's handler file 22 20 02, its fields, its end and what may follow.
+-- Worked examples: the handler file 22 20 02 of docs/FORMAT.md, its fields, its end and what may follow.
 use Prim.Native.Nat.{ℕ}
 use mathlib.Core.List.{List, [], _∷_}
 use mathlib.Core.Bool.{true, false}

@@ -1,4 +1,4 @@
--- Document 01, "The two files": fields are packed most significant bit first with no gaps; after the last field the byte
+-- docs/FORMAT.md, "Bits and fields": fields are packed most significant bit first with no gaps; after the last field the byte
 -- is filled with zero bits and the file ends. A file is the list of its bytes; a cursor is the number of a bit.
 use Prim.Native.Nat.{ℕ, zero, suc, _+_, _-_, _*_, _/_, _%_, _^_, min}
 use mathlib.Core.Bool.{Bool, cond, _&&_}

@@ -1,5 +1,4 @@
--- Demand 2: a pair is accepted exactly when it is acceptable. Each stage of `answer` lets an acceptable pair through and refuses
--- every other.
+-- A pair is accepted exactly when it is acceptable. Each stage of `answer` lets an acceptable pair through and refuses every other.
 use Prim.Native.Nat.{ℕ, _-_, _^_, _≤_, _<_}
 use mathlib.Core.Path.{_≡_, refl}
 use mathlib.Core.Bool.{Bool, true, false}

@@ -1,5 +1,5 @@
--- Demand 3 for the bytes: an accepted pair is acceptable, so its derivation breaks no condition, and the theorem of
--- semantics applies to what the two files hold.
+-- What acceptance promises (docs/RULES.md), for the bytes: an accepted pair is acceptable, so its derivation breaks no condition,
+-- and the theorem of semantics applies to what the two files hold.
 use Prim.Native.Nat.{ℕ}
 use mathlib.Core.Path.{_≡_, sym, _∙_, ap, subst}
 use mathlib.Core.Bool.{cond}

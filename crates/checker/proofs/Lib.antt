@@ -1,4 +1,4 @@
--- What the loop finds, demand 2, and demand 3 for the bytes.
+-- What the loop finds, which pairs are accepted, and what acceptance promises of the bytes.
 pub mod Stages
 pub mod Rounds
 pub mod Loaded
@@ -7,3 +7,4 @@ pub mod Meaning
 pub mod Judging
 pub mod Acceptance
 pub mod Demand
+pub mod Bounds

@@ -1,4 +1,4 @@
--- Demand 2: which pairs of files are accepted, with how many work words, and with which number.
+-- Which pairs of files are accepted, with how many work words, and with which number.
 use Prim.Native.Nat.{ℕ, _≤_}
 use mathlib.Core.Path.{_≡_}
 use mathlib.Core.List.{List}

@@ -1,5 +1,5 @@
--- Document 01, "Who can cause which number" and "Order": 1, 2, the handler file front to back, 16, the proof file front to
--- back, nodes by number, conditions by number, 80 last.
+-- docs/FORMAT.md, "Order of faults": 1, 2, the handler file front to back, 16, the proof file front to back, nodes by number,
+-- conditions by number, 80 last.
 use Prim.Native.Nat.{ℕ, _-_, _^_}
 use mathlib.Core.Path.{_≡_}
 use mathlib.Core.Bool.{Bool, true, false, cond, _||_}
@@ -96,8 +96,8 @@ module _ {hb pb : List ℕ} where
   abbrev pub rootSpec : PairRead hb pb → Spec
   rootSpec pair = specOf (tablesIn pair) (namesOf (pair .derivation))
 
--- Demand 3 for the bytes themselves: if a pair of files is accepted, both are read, and the handler file's whole statement keeps its
--- promise with the root's tables and the stated number.
+-- What acceptance promises (docs/RULES.md), for the bytes themselves: if a pair of files is accepted, both are read, and the
+-- handler file's whole statement keeps its promise with the root's tables and the stated number.
 pub record AcceptedIsSound (hb pb : List ℕ) (v : Verdict) : Type 0 where
   pub sound : (k : ℕ) → v ≡ Accepted k
       → (pair : PairRead hb pb) × Promise (machineOf (pair .sizes)) (pair .statement) (rootSpec pair) k

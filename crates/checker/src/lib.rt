@@ -26,7 +26,7 @@ pub const MOST_BYTES: usize = 16384;
 // The largest step number that is stated.
 const MOST_STEPS: u64 = 4294967295;
 
-// Document 01's numbers that the check itself gives.
+// The numbers that the check itself gives (docs/FORMAT.md, "Limits").
 const FEW_WORDS: u32 = 1;
 
 const LONG_FILE: u32 = 2;
@@ -39,7 +39,7 @@ pub enum Place {
     Node(u32),
 }
 
-// A fault: document 01's number, and its place.
+// A fault: its number, and its place.
 pub struct Fault {
     pub number: u32,
     pub place: Place,

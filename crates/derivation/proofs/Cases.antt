@@ -1,4 +1,4 @@
--- Worked examples on small files: document 01's proof.bin over N = 2, and each fault from 20 to 25 with its place.
+-- Worked examples on small files: the proof.bin of docs/FORMAT.md over N = 2, and each fault from 20 to 25 with its place.
 use Prim.Native.Nat.{ℕ, _+_, _*_}
 use mathlib.Core.List.{List, [], _∷_, _++_}
 use mathlib.Core.Path.{_≡_, refl}

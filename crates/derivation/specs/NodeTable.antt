@@ -1,4 +1,4 @@
--- The table of a derivation's nodes: a word for each node, in file order. Document 01: nodes are numbered from 0 in file order.
+-- The table of a derivation's nodes: a word for each node, in file order, in which nodes are numbered from 0.
 use Prim.Native.Nat.{ℕ, suc, _+_, _-_, _*_, _/_, _%_, _^_}
 use mathlib.Core.List.{List, [], _∷_, _++_}
 use lib.ListN.{length, getD, replicate}

@@ -1,5 +1,5 @@
--- Document 01, "The two files": a node is 3 bits rule, 4 bits each for P (a set), R, G, Q (relations); a while adds 4 bits K
--- (a set) and 4 bits W (a relation); then its child nodes. At most 127 nodes, 24 levels.
+-- docs/FORMAT.md, "Nodes": a node is 3 bits rule, 4 bits each for P (a set), R, G, Q (relations); a while adds 4 bits K (a set)
+-- and 4 bits W (a relation); then its child nodes. At most 127 nodes, 24 levels.
 use Prim.Native.Nat.{ℕ, zero, suc, _+_}
 use mathlib.Core.Bool.{Bool, cond, _||_}
 use mathlib.Core.List.{List}

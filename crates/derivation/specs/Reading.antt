@@ -1,4 +1,4 @@
--- Document 01, "Order": the proof file front to back.
+-- docs/FORMAT.md, "Order of faults": the proof file front to back.
 use Prim.Native.Nat.{ℕ}
 use mathlib.Core.List.{List}
 use lib.ListN.{replicate}

@@ -1,5 +1,5 @@
--- Document 01, "The two files": 5 bits number of sets, 5 bits number of relations, each 1 to 16; sets of N bits, state 0
--- first; relations of N rows of N bits, row s holding the ends t of pairs (s,t).
+-- docs/FORMAT.md, "Counts" and "Sets and relations": 5 bits number of sets, 5 bits number of relations, each 1 to 16; sets of
+-- N bits, state 0 first; relations of N rows of N bits, row s holding the ends t of pairs (s,t).
 use Prim.Native.Nat.{ℕ, zero, suc, _+_, _-_, _*_, _/_, _%_, min}
 use mathlib.Core.Bool.{Bool, cond, _&&_}
 use mathlib.Core.List.{List, [], _∷_, _++_}

@@ -1,4 +1,4 @@
-// The numbers of document 01 that reading the proof file gives.
+// The numbers of the faults of the proof file (docs/FORMAT.md, "Faults of reading").
 
 // A field runs past the end.
 pub const PROOF_MISSING: u32 = 20;

@@ -1,4 +1,4 @@
-// The work words: a set for each set and for each row of a relation, as document 01 lays them out.
+// The work words: a set for each set and for each row of a relation (docs/FORMAT.md, "Work words").
 use super::MOST_TABLES;
 use super::WORK_WORDS;
 use super::header::TABLES_FROM;

@@ -1,3 +1,3 @@
--- Document 01, "States and steps", for the expressions of a handler file.
+-- The values of the expressions of a handler file, and where stores lead.
 pub mod Values
 pub mod Refinement

@@ -1,5 +1,4 @@
--- Document 01, "States and steps": the expression at a cursor of the file, where a store leads, and the states that agree in a
--- variable.
+-- The expression at a cursor of the file, where a store leads, and the states that agree in a variable.
 use Prim.Native.Nat.{ℕ, _/_, _%_}
 use mathlib.Core.Bool.{Bool, false, cond, _&&_}
 use mathlib.Core.List.{List}

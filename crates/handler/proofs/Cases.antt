@@ -1,5 +1,5 @@
--- Worked examples by computation: document 01's handler file, and 10 to 18 with their places, except the cases that the
--- document marks, which are in `twelve` of the crate `report`.
+-- Worked examples by computation: the handler file of docs/FORMAT.md, and 10 to 18 with their places, except the cases of
+-- `twelve` in the crate `report`.
 use Prim.Native.Nat.{ℕ, _+_, _*_, _^_}
 use mathlib.Core.List.{List, [], _∷_, _++_}
 use mathlib.Core.Path.{_≡_, refl}

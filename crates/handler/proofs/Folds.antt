@@ -17,6 +17,7 @@ use Rattle.bits.specs.Fields.{fieldAt}
 use Rattle.bits.specs.declared.Field.{Field}
 use Rattle.bits.specs.declared.Field.the-variants.{Value, Missing}
 use Rattle.bits.proofs.Laws.{there}
+use Rattle.bits.proofs.Places.{either}
 use Rattle.semantics.specs.Language.{Expr, lit, var, op, rowOf}
 use Rattle.semantics.specs.declared.Row.the-variants.{Unused}
 use Rattle.semantics.specs.StepNumber.{E}
@@ -103,15 +104,12 @@ module _ (bytes : List ℕ) (count nodes : ℕ) where
         by true t = tt
         by false t = let other = eqb-false o 7 t in omega (arith, there bytes next 3 o after e)
 
-    pick : (b : Bool) (x y : ExprHead) → Headed count nodes at x → Headed count nodes at y → Headed count nodes at (cond b x y)
-    pick true x y p q = p
-    pick false x y p q = q
-
     on-payload : (tag : ℕ) → Headed count nodes at (payloadHead bytes count next tag)
     unfolding payloadHead
     on-payload tag =
-        pick (eqb tag 0) _ _ (on-integer _ refl)
-        (pick (eqb tag 1) _ _ (on-truth _ refl) (pick (eqb tag 2) _ _ (on-variable _ refl) (on-operation _ refl)))
+        either (Headed count nodes at) (eqb tag 0) _ _ (on-integer _ refl)
+        (either (Headed count nodes at) (eqb tag 1) _ _ (on-truth _ refl)
+        (either (Headed count nodes at) (eqb tag 2) _ _ (on-variable _ refl) (on-operation _ refl)))
 
   pub headed : (at : ℕ) → Headed count nodes at (exprHead bytes count nodes at)
   unfolding Headed exprHead tagHead

@@ -8,5 +8,6 @@ pub mod StatementTable
 pub mod Filling
 pub mod Parts
 pub mod Handlers
+pub mod Places
 pub mod Fitting
 pub mod Cases

@@ -1,4 +1,4 @@
--- Document 01, "The two files": an expression is 2 bits, then an integer, a truth value, a variable or an operation with its
+-- docs/FORMAT.md, "Expressions": an expression is 2 bits, then an integer, a truth value, a variable or an operation with its
 -- two operands; at most 31 nodes.
 use Prim.Native.Nat.{ℕ, zero, suc, _-_}
 use mathlib.Core.Bool.{cond}

@@ -1,4 +1,4 @@
--- Document 01, "The two files": 3 bits for the number of variables, 5 bits for each size. A head is the list of its sizes,
+-- docs/FORMAT.md, "Head": 3 bits for the number of variables, 5 bits for each size. A head is the list of its sizes,
 -- variable 0 first. The number of variables is its length, and N is its product.
 use Prim.Native.Nat.{ℕ, zero, suc, _-_, _*_}
 use mathlib.Core.Bool.{Bool, cond, _&&_, _||_}

@@ -1,5 +1,6 @@
--- Document 01, number 16: the first node, in file order, whose result is not of the wanted kind; in expressions, then in statements.
--- The bit of a part is that of the whole plus the widths before the part, because the format has one encoding for each tree.
+-- docs/FORMAT.md, "Kinds": 16, the first node, in file order, whose result is not of the wanted kind; in expressions, then in
+-- statements. The bit of a part is that of the whole plus the widths before the part, because the format has one encoding for
+-- each tree.
 use Prim.Native.Nat.{ℕ, _+_}
 use mathlib.Core.Bool.{cond}
 use mathlib.Core.Option.{Option, none, some}

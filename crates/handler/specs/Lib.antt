@@ -1,4 +1,4 @@
--- The handler file (document 01, "The two files" and "Who can cause which number"): reading, and what is computed from what was read.
+-- The handler file (docs/FORMAT.md, "Handler file" and "Faults of reading"): reading, and what is computed from what was read.
 pub mod Header
 pub mod Expressions
 pub mod Statements

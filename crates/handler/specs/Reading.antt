@@ -1,4 +1,4 @@
--- Document 01, "Order": the handler file front to back, then 16 if the file has no other fault.
+-- docs/FORMAT.md, "Order of faults": the handler file front to back, then 16 if the file has no other fault.
 use Prim.Native.Nat.{ℕ}
 use mathlib.Core.List.{List}
 use mathlib.Core.Option.{Option, none, some}

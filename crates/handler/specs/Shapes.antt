@@ -1,5 +1,5 @@
--- What the walks over the bits answer, from what is read there: the definitions of document 01 over trees, with no tree in the
--- answer. First for expressions, then for statements, then for the file.
+-- What the walks over the bits answer, from what is read there: what is defined over trees, with no tree in the answer.
+-- First for expressions, then for statements, then for the file.
 use Prim.Native.Nat.{ℕ, _+_, _-_, _*_, _/_, _%_, _^_, min}
 use mathlib.Core.Bool.{Bool, cond}
 use mathlib.Core.List.{List}

@@ -1,4 +1,4 @@
--- Document 01, "The two files": a statement is 3 bits, then what its code asks for; at most 63 statements on at most 16 levels.
+-- docs/FORMAT.md, "Statements": a statement is 3 bits, then what its code asks for; at most 63 statements on at most 16 levels.
 use Prim.Native.Nat.{ℕ, zero, suc}
 use mathlib.Core.Bool.{Bool, cond, _||_}
 use mathlib.Core.List.{List}

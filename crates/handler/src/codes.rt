@@ -1,4 +1,4 @@
-// Document 01's numbers for the faults of the handler file.
+// The numbers of the faults of the handler file (docs/FORMAT.md, "Faults of reading").
 
 // A field runs past the end of the file.
 pub const MISSING: u32 = 10;

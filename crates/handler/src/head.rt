@@ -12,7 +12,7 @@ ghost use lib.ListN.{getD};
 ghost use Rattle.semantics.specs.States.{product};
 ghost use Rattle.handler.specs.Header.{fault, sizesRead, headAt, noHead, headFile, isSize, inLimits, isHead, sizesIn, machineIn};
 
-// Document 01: 1 to 4 variables, sizes of 2 to 16, and no more states than a set can hold.
+// docs/FORMAT.md, "Limits": 1 to 4 variables, sizes of 2 to 16, and no more states than a set can hold.
 const MOST_VARIABLES: u64 = 4;
 
 const LEAST_SIZE: u64 = 2;

@@ -1,4 +1,4 @@
--- Worked examples: document 01's handler file 22 20 02, read from its first bit, and reads that it refuses.
+-- Worked examples: the handler file 22 20 02 of docs/FORMAT.md, read from its first bit, and reads that it refuses.
 use Prim.Native.Nat.{ℕ}
 use mathlib.Core.List.{List, [], _∷_}
 use mathlib.Core.Path.{_≡_, refl}

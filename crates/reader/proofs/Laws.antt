@@ -1,4 +1,4 @@
--- Document 01's sentence on the reader, as two laws of its definitions: a field that is there is given and passed; otherwise nothing is.
+-- What a read gives, as two laws of the definitions of the reader: a field that is there is given and passed; otherwise nothing is.
 use Prim.Native.Nat.{ℕ, _+_, _*_, _^_, _≤_, _<_}
 use mathlib.Core.Bool.{Bool, true, false}
 use mathlib.Core.Path.{_≡_, refl, ap}

@@ -1,5 +1,5 @@
--- Document 01, "The two files": for hosts there is also a reader that holds the file and its own bit position. A read of 1 to
--- 64 bits gives the field and moves on; any other width, or a read past the end, gives none and moves nothing.
+-- For hosts: a reader that holds the file and its own bit position, for fields as in docs/FORMAT.md, "Bits and fields". A read of
+-- 1 to 64 bits gives the field and moves on; any other width, or a read past the end, gives none and moves nothing.
 use Prim.Native.Nat.{ℕ}
 use mathlib.Core.List.{List}
 use denote.Ref.{RefT, now}

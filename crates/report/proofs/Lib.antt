@@ -2,5 +2,6 @@ pub mod Decoding
 pub mod Decimal
 pub mod Writing
 pub mod Lines
-pub mod Cases
+pub mod RootTables
 pub mod Marked
+pub mod Cases

@@ -1,5 +1,5 @@
--- Document 01, "Cases": the twelve marked cases, as one list and one theorem about the definitions. Each case is the bytes
--- that the check program prints, or the numbers that the document states.
+-- The twelve marked cases, as one list and one theorem about the definitions. Each case is the bytes that the check program prints, or
+-- the numbers that docs/FORMAT.md and docs/RULES.md state.
 use Prim.Native.Nat.{ℕ}
 use mathlib.Core.Path.{_≡_, refl}
 use mathlib.Core.Bool.{true, cond, not}
@@ -34,10 +34,10 @@ abbrev line : List ℕ → List ℕ → List ℕ
 line hb pb = lineOf (answer hb pb workWords .verdict)
 
 -- One variable c of size 2, c ← 1; and the proof with P {0,1}, R none, G {(0,1)}, Q {(0,1),(1,1)}.
-abbrev sample-handler : List ℕ
+abbrev pub sample-handler : List ℕ
 sample-handler = 0x22 ∷ 0x20 ∷ 0x02 ∷ []
 
-abbrev sample-proof : List ℕ
+abbrev pub sample-proof : List ℕ
 sample-proof = 0x08 ∷ 0xF0 ∷ 0x45 ∷ 0x20 ∷ 0x02 ∷ 0x40 ∷ []
 
 -- d ← c + c, with c variable 0 of size 2 and d variable 1 of size 3.

@@ -22,7 +22,7 @@ unfoldable pub codeOf : Verdict → ℕ
 codeOf (Accepted n) = n
 codeOf (Refused f) = (f .number % 2 ^ 31 * 2 + placeKind (f .place)) * 2 ^ 32 + indexOf (f .place) % 2 ^ 32
 
--- No bit is cut off. Document 01's numbers are 1 to 80, and its places are far below 2 ^ 32.
+-- No bit is cut off. This holds of every verdict of the check: its numbers are 1 to 80, and its places are far below 2 ^ 32.
 abbrev pub Lossless : Verdict → Type 0
 Lossless (Accepted n) = n < 2 ^ 32
 Lossless (Refused f) = (0 < f .number) × (f .number < 2 ^ 31) × (indexOf (f .place) < 2 ^ 32)

@@ -2,3 +2,4 @@
 pub mod Code
 pub mod Line
 pub mod Put
+pub mod Root

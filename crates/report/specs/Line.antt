@@ -1,5 +1,5 @@
--- Document 01, "Cases": the check program prints one line in full: the word and the step number, or the number, `node` or
--- `bit`, and the place. A text is the list of its bytes.
+-- The check program prints one line in full: the word and the step number, or the word, the number, `node` or `bit`, and the place. A
+-- text is the list of its bytes.
 use Prim.Native.Nat.{ℕ, zero, suc, _+_, _/_, _%_, _^_, _<_}
 use Prim.Native.Char.{code}
 use Prim.Native.String.{String, [] as []ˢ, _∷_ as _∷ˢ_}

@@ -9,6 +9,8 @@ ghost use Rattle.report.specs.Put.{Put};
 use checker::Place;
 use checker::Verdict;
 
+pub mod root;
+
 // A number is kept modulo 2 ^ 31, and a place modulo 2 ^ 32.
 const NUMBERS: u64 = 2147483648;
 

@@ -1,4 +1,4 @@
--- The theorem of demand 3, in reading order; row_of's proof is in its own folder.
+-- The theorem `soundness`, in reading order; row_of's proof is in its own folder.
 pub mod Safe
 pub mod Composition
 pub mod Reading
@@ -10,3 +10,4 @@ pub mod Storing
 pub mod Conditions
 pub mod Clear
 pub mod Soundness
+pub mod Numbers

@@ -1,6 +1,6 @@
--- The invariant of the proof of demand 3. A statement is safe for n more steps if, after any interference that keeps the rely, it is at
--- its end with the postcondition, or each of its turns is a step that keeps the guarantee and leaves a statement that is safe for fewer.
--- Interference keeps a statement safe, and so does weakening.
+-- The invariant of the proof of `soundness`. A statement is safe for n more steps if, after any interference that keeps the rely,
+-- it is at its end with the postcondition, or each of its turns is a step that keeps the guarantee and leaves a statement that is
+-- safe for fewer. Interference keeps a statement safe, and so does weakening.
 use Prim.Native.Nat.{ℕ, zero, suc, _≤_}
 use native.Mathlib.Omega.{arith}
 use mathlib.Core.Path.{_≡_, refl}

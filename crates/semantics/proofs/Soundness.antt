@@ -1,5 +1,5 @@
--- Demand 3. Each node's conditions make its statement safe for its step number, by induction on the derivation; a safe
--- statement keeps the promise over every list of events.
+-- What acceptance promises (docs/RULES.md). Each node's conditions make its statement safe for its step number, by induction on
+-- the derivation; a safe statement keeps the promise over every list of events.
 use Prim.Native.Nat.{ℕ, suc, _+_, _-_, _*_, _<_}
 use mathlib.Core.Path.{_≡_, sym, _∙_, subst}
 use mathlib.Core.Bool.{Bool, true, _&&_, _||_}
@@ -214,7 +214,7 @@ module _ (t : Tables) where
       let (e30, (e31, (e32, (e33, (e70, (e71, (e72, (e73, _)))))))) = clear (obligations t (weaken h d) S) (no-number n _ own) in
       weaken-safe (t .machine) (specOf t h) (specOf t (namesOf d)) (tables-within t h) (tables-within t (namesOf d)) S _ e70 e71 e72 e73 (sound d S (suc n) below kinds)
 
--- Demand 3: a derivation in which no condition is broken, of a statement whose kinds fit, keeps its root's promise with the
+-- A derivation in which no condition is broken, of a statement whose kinds fit, keeps its root's promise with the
 -- step number as the bound.
 pub soundness : (t : Tables) (d : Derivation) (S : Stmt) (n : ℕ) → firstFault t d S n ≡ none → kindsFit S ≡ true
     → Promise (t .machine) S (specOf t (namesOf d)) (steps (t .machine .states) S)

@@ -1,5 +1,5 @@
--- Document 01, "Conditions on a node" and "Order": the conditions that each node must meet, by number, and the first fault of a
--- derivation of a statement, nodes by number, conditions by number.
+-- docs/RULES.md, "Order of conditions": the conditions that each node must meet, by number, and the first fault of a derivation of
+-- a statement, nodes by number, conditions by number.
 use Prim.Native.Nat.{ℕ, suc, _+_}
 use mathlib.Core.Bool.{Bool, true}
 use mathlib.Core.List.{List, [], _∷_, _++_}

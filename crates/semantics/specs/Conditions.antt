@@ -1,4 +1,4 @@
--- Document 01, "Conditions on a node".
+-- The conditions 30 to 73 on a node (docs/RULES.md, a section for each rule).
 use Prim.Native.Nat.{ℕ, _+_}
 use mathlib.Core.Bool.{Bool, true, false, cond, not, _&&_, _||_, Bool·beq}
 use mathlib.Core.Option.{Option, none, some}

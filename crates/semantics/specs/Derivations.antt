@@ -1,4 +1,4 @@
--- Document 01, "The two files": derivations as trees, and the tables that their nodes name.
+-- docs/RULES.md, "Derivations": derivations as trees, and the tables that their nodes name.
 use Prim.Native.Nat.{ℕ, suc, _+_}
 use mathlib.Core.Bool.{Bool, _&&_}
 use lib.Dec.{ltb}

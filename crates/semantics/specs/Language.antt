@@ -1,4 +1,4 @@
--- Document 01, "States and steps": statements and expressions, the kinds of values, and the row of each operation.
+-- docs/RULES.md, "The language": statements and expressions, the kinds of values, and the row of each operation.
 use Prim.Native.Nat.{ℕ}
 use mathlib.Core.Bool.{Bool, true, false, cond, _&&_, _||_}
 use mathlib.Core.List.{List, [], _∷_}

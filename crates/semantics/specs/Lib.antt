@@ -1,4 +1,4 @@
--- What handlers mean, in the order of document 01: the language, states and steps, runs, the step number, derivations with
+-- What handlers mean, in the order of docs/RULES.md: the language, states and steps, runs, the step number, derivations with
 -- the conditions on their nodes, and what an accepted derivation promises.
 pub mod Language
 pub mod States

@@ -1,5 +1,5 @@
--- Demand 3: what an accepted derivation promises of its handler, in one claim over every list of events, the empty list
--- included.
+-- docs/RULES.md, "What acceptance promises": what an accepted derivation promises of its handler, in one claim over every list of
+-- events, the empty list included.
 use Prim.Native.Nat.{ℕ, _≤_}
 use mathlib.Core.Path.{_≡_}
 use mathlib.Core.Bool.{true, false, _||_}

@@ -1,4 +1,4 @@
--- Document 01, "States and steps": runs. A run is a list of events from the whole statement and a start state.
+-- docs/RULES.md, "Runs": a run is a list of events from the whole statement and a start state.
 use Prim.Native.Nat.{ℕ, suc}
 use mathlib.Core.Bool.{Bool, true, false, cond, _&&_, _||_}
 use mathlib.Core.List.{List, [], _∷_}

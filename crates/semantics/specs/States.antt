@@ -1,5 +1,5 @@
--- Document 01, "States and steps": a state's number, which counts variable 0 as most significant, and the value of an expression at
--- a state.
+-- docs/FORMAT.md, "Variables and states": a state's number, which counts variable 0 as most significant, and the value of an
+-- expression at a state.
 use Prim.Native.Nat.{ℕ, suc, _+_, _-_, _*_, _/_, _%_}
 use mathlib.Core.Bool.{Bool, true, false, cond}
 use mathlib.Core.List.{List, [], _∷_}

@@ -1,4 +1,4 @@
--- Document 01, "Step number".
+-- docs/RULES.md, "Step number".
 use Prim.Native.Nat.{ℕ, _+_, _-_, _*_}
 use Rattle.semantics.specs.Language.{Expr, lit, var, op, Stmt, nil, assign, seq, par, if, while}
 

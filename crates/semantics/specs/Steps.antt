@@ -1,5 +1,5 @@
--- Document 01, "States and steps": turns and open steps. One list, left to right, has an entry for every part that has its turn and is
--- ready: its step, or none if it stands still.
+-- docs/RULES.md, "Single steps": turns and open steps. One list, left to right, has an entry for every part that has its turn and
+-- is ready: its step, or none if it stands still.
 use Prim.Native.Nat.{ℕ}
 use mathlib.Core.Bool.{Bool, true, false, cond, _&&_}
 use mathlib.Core.List.{List, [], _∷_, _++_, map}

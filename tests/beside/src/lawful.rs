@@ -1,4 +1,4 @@
-//! What document 01 says of every call, whatever its files are.
+//! What docs/FORMAT.md says of every call, whatever its files are.
 
 use reference::{Place, Verdict, TABLE_WORDS};
 

@@ -1,4 +1,4 @@
-//! Runs checkers beside each other and against what document 01 says of every call.
+//! Runs checkers beside each other and against what holds of every call.
 
 pub mod answer;
 pub mod lawful;
@@ -46,7 +46,7 @@ pub fn judge(handler: &[u8], proof: &[u8]) -> Verdict {
 }
 
 /// Decides two files by every checker with so many work words, and panics where a checker
-/// breaks document 01 or where two differ in the verdict or in any word.
+/// breaks what holds of every call, or where two differ in the verdict or in any word.
 pub fn judge_with(handler: &[u8], proof: &[u8], words: usize) -> Verdict {
     let before: Vec<u64> = (0..words as u64).map(mark).collect();
     let mut first: Option<(Verdict, Vec<u64>)> = None;

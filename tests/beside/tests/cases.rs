@@ -1,4 +1,5 @@
-//! The cases of document 01, and what stands at its limits.
+//! The worked example and its damage, the step numbers of docs/RULES.md, and what is at the
+//! limits. The cases called marked are those of the theorem `twelve` of the crate `report`.
 
 use beside::{at_bit, at_node, judge, judge_with};
 use generate::author::operate;

@@ -3,7 +3,7 @@
 use beside::{at_bit, at_node, judge};
 use generate::pack::{Packer, What};
 
-/// The sample pair of document 01.
+/// The worked example of docs/FORMAT.md.
 const HANDLER: [u8; 3] = [0x22, 0x20, 0x02];
 const PROOF: [u8; 6] = [0x08, 0xF0, 0x45, 0x20, 0x02, 0x40];
 

@@ -12,7 +12,7 @@ use reference::space::Space;
 use reference::states::Relation;
 use reference::{Place, Verdict};
 
-/// Two files and what document 01 says of them.
+/// Two files and the verdict on them.
 pub struct Constructed {
     pub handler: Vec<u8>,
     pub proof: Vec<u8>,

@@ -1,5 +1,5 @@
 //! Derivations from the semantics: for a statement, a precondition and a rely, the tables
-//! under which every condition of document 01 holds, or none where no such tables are found.
+//! under which every condition of docs/RULES.md holds, or none where no such tables are found.
 //!
 //! Each function returns a node whose P holds at least the states asked for, whose R is the
 //! one asked for, and whose G and Q are what the statement needs; `Derivation::settle` may

@@ -1,4 +1,4 @@
-//! Every run of a handler from P with interference within R, against demand 3's claims.
+//! Every run of a handler from P with interference within R, against what acceptance promises.
 //!
 //! A layer holds all that can remain after so many own steps, with the starts it can come
 //! from; changes by others stay within a layer, an own step leads to the next one.
@@ -18,7 +18,7 @@ pub struct Promise {
     pub steps: u32,
 }
 
-/// A claim of demand 3 that does not hold.
+/// A claim of the promise of acceptance (docs/RULES.md) that does not hold.
 #[derive(Clone, Copy, PartialEq, Eq, Debug)]
 pub enum Breach {
     /// An own step changed the state outside G.

@@ -1,4 +1,4 @@
-//! The single steps of document 01, written out anew so that they owe nothing to the
+//! The single steps (docs/RULES.md), written out anew so that they owe nothing to the
 //! evaluation that the checker uses.
 
 use reference::language::{Expression, Operation, Statement};

@@ -1,4 +1,4 @@
-//! Every run of small accepted pairs keeps demand 3, and the explorer sees what breaks it.
+//! Every run of small accepted pairs keeps the promise, and the explorer sees what breaks it.
 
 use generate::author::operate;
 use generate::damage::damaged;

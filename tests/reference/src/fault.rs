@@ -7,7 +7,7 @@ pub enum Place {
     Node(u32),
 }
 
-/// A fault: its number in document 01 and its place.
+/// A fault: its number and its place.
 #[derive(Clone, Copy, PartialEq, Eq, Hash, Debug)]
 pub struct Fault {
     pub number: u32,

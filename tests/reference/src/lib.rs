@@ -1,6 +1,6 @@
-//! A second checker of handover handlers, written from document 01 alone.
+//! A second checker of handover handlers, written separately from the proved one.
 //!
-//! It builds ordinary trees from the two files and tries each condition as the document
+//! It builds ordinary trees from the two files and tries each condition as docs/RULES.md
 //! words it. It shares no code with the proved checker, so that agreement means something.
 
 pub mod conditions;
@@ -66,7 +66,7 @@ fn read(handler: &[u8], proof: &[u8]) -> Result<(Handler, Proof), Fault> {
     Ok((handler, proof))
 }
 
-/// The order of the faults: handler file, proof file, nodes, and 80 last.
+/// The order of faults (docs/FORMAT.md): handler file, proof file, nodes, and 80 last.
 fn decide(handler: &[u8], proof: &[u8]) -> Result<(u32, Proof), Fault> {
     let (handler, proof) = read(handler, proof)?;
     conditions::examine(&handler, &proof)?;

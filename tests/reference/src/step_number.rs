@@ -1,4 +1,4 @@
-//! The step number of document 01.
+//! The step number (docs/RULES.md, "Step number").
 
 use crate::language::{Expression, Statement};
 

@@ -1,5 +1,6 @@
-//! FINDP of the source's figure 4: the least index of a vector at which a predicate holds,
-//! searched for by one thread over the odd indices and one over the even ones.
+//! FINDP, the parallel search of Coleman and Jones (CS-TR-1029, figure 4): the least index of a
+//! vector at which a predicate holds, searched for by one thread over the odd indices and one
+//! over the even ones.
 //!
 //! For the indices 1 to 3 the four variables take 3 · 2 · 3 · 2 = 36 states; for 1 to 4 they
 //! would take 81. The vector is fixed: the predicate holds at 2 and at 3.
@@ -14,22 +15,22 @@ use reference::space::{Space, Values};
 use reference::states::{Relation, StateSet};
 
 const SIZES: [usize; 4] = [3, 2, 3, 2];
-/// 0, 1, 2 stand for 1, 3, 4 (not found).
+/// 0, 1, 2 mean 1, 3, 4 (not found).
 const OT: usize = 0;
-/// 0, 1 stand for 2, 4 (not found).
+/// 0, 1 mean 2, 4 (not found).
 const ET: usize = 1;
-/// 0, 1, 2 stand for 1, 3, 5; after the threads the place is r's, and 0, 1, 2 stand for 1, 2, 3.
+/// 0, 1, 2 mean 1, 3, 5; after the threads it holds the result, and 0, 1, 2 mean 1, 2, 3.
 const OC: usize = 2;
-/// 0, 1 stand for 2, 4.
+/// 0, 1 mean 2, 4.
 const EC: usize = 3;
 
 const ABOUT: &str = "\
-FINDP of the source's figure 4: the least index at which a predicate holds, searched for by one \
-thread over the odd indices and one over the even ones. The indices are 1 to 3 and the predicate \
-holds at 2 and 3, so r ends as 2. It is the largest size that fits: with the indices 1 to 4 the \
-four variables would take 81 states.
+FINDP is the parallel search of Coleman and Jones (CS-TR-1029, 2007, figure 4): the least index at
+which a predicate holds, searched for by one thread over the odd indices and one over the even
+ones. Here the indices are 1 to 3 and the predicate holds at 2 and 3, so that the result r is 2. It
+is the largest search that fits: with the indices 1 to 4 the four variables would take 81 states.
 
-A variable holds a code, so that the states suffice:
+A variable holds a code, to keep the states few:
 
 | variable | 0 | 1 | 2 |
 |---|---|---|---|
@@ -38,17 +39,18 @@ A variable holds a code, so that the states suffice:
 | oc | 1 | 3 | 5 |
 | ec | 2 | 4 | |
 
-In codes, oc < et reads oc < et + 1, and ec < ot reads ec + ec < ot. After the threads the place of \
-oc is r's, and 0, 1, 2 stand for 1, 2, 3.
+In codes, oc < et is oc < et + 1, and ec < ot is ec + ec < ot. After the threads the variable oc
+holds r, and its values 0, 1, 2 mean 1, 2, 3.
 
-One thing differs from figure 4: the threads' counters are set before the threads start. Set inside, \
-a thread could lower its counter again at any time as far as its guarantee says, and the other \
-thread's W could not descend along that (51 and 55).
+One thing differs from the published FINDP: the counters oc and ec are set before the threads start.
+If a thread set its own counter, its guarantee would have to allow at any time that the counter is
+lowered. The other thread's W would have to descend along that step as well as along the steps that
+raise the counter, and no W can (conditions 51 and 55 of [RULES.md](../../docs/RULES.md)).
 
-What each side owes the other is the heart of it: the odd thread only lowers ot and only raises oc, \
-the even one only lowers et and only raises ec. W is the order of these four ways together, and it \
-serves both loops. P of the threads says what has been searched: oc at 5 means that 3 has been found, \
-ec at 4 that 2 has.";
+The odd thread only lowers ot and only raises oc, the even one only lowers et and only raises ec:
+these are their guarantees. W takes these four directions together and is the same in both loops.
+The threads' P says what the search has found so far: if oc is 5 then ot is 3, and if ec is 4 then
+et is 2.";
 
 pub fn sample() -> Sample {
     let statement = statement();

@@ -1,4 +1,4 @@
-//! The samples of examples/: a handler, its proof, and a page that shows both in words.
+//! The samples of examples/: a handler, its proof, and a page that gives both exactly.
 
 mod findp;
 mod small;

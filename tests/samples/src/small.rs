@@ -10,6 +10,32 @@ use reference::language::{Handler, Operation, Statement};
 use reference::space::Space;
 use reference::states::{Relation, StateSet};
 
+const FIRST: &str = "\
+A store alone: the handler stores 1 in c, and nobody else changes c (R has no pair).
+G allows the store, and Q says that c is 1 at the end.";
+
+const SLOT: &str = "\
+A slot is handed over through a flag. One side fills the slot and then raises the flag. The other
+waits for the flag, but only for as many rounds as tries allows.
+
+The flag is raised by one side while the loop of the other reads it. The test reads it once
+(condition 50), and a flag that is up stays up (condition 54). The body of the loop starts with
+tries above 0, whatever the flag is by then: that is its K. The conditions are those of
+[RULES.md](../../docs/RULES.md).";
+
+const COUNTDOWN: &str = "\
+A loop that counts c down to 0. W, the order in which it descends, is that of the numbers.
+
+The test c > 0 has a variable and an operation, so its E is 2. The body takes 3 steps and there are
+4 states: the step number is 4 × (2 + 2) + 3 × (3 + 1) = 28, by the formula for a while of
+[RULES.md](../../docs/RULES.md).";
+
+const COUNTERS: &str = "\
+Two counters in parallel, one counting down and one counting up. The rely of each side holds the
+stores of the other, so that its W must descend along those too (condition 55). At the end both
+counters have arrived, which neither side's Q says alone (condition 66). The conditions are those of
+[RULES.md](../../docs/RULES.md).";
+
 /// The pair with the least tables for this precondition and rely.
 fn derived(sizes: &[usize], statement: Statement, p: StateSet, r: &Relation) -> Pair {
     let space = Space::new(sizes);
@@ -24,7 +50,7 @@ fn states(sizes: &[usize], wanted: impl Fn(&[i64; 4]) -> bool) -> StateSet {
     (0..space.states()).filter(|s| wanted(space.values(*s))).collect()
 }
 
-/// The pair that document 01 shows byte by byte.
+/// Its tables are chosen by hand, so that its bytes stay those that other pages show.
 pub fn first() -> Sample {
     let to_one = StateSet::NONE.with(1);
     let tables = Tables {
@@ -37,8 +63,7 @@ pub fn first() -> Sample {
     let handler = Handler { space: Space::new(&[2]), statement: store(0, number(1)) };
     Sample {
         name: "first",
-        about: "The pair of document 01: a store of 1, with nobody else about. It is accepted \
-                with the step number 1.",
+        about: FIRST,
         variables: &["c"],
         pair: Pair::new(handler, derivation).expect("the sample is small"),
     }
@@ -58,10 +83,7 @@ pub fn slot() -> Sample {
     let p = states(&sizes, |values| values[flag] == 0);
     Sample {
         name: "slot",
-        about: "A slot is handed over through a flag. One side fills the slot and then raises \
-                the flag; the other waits for the flag, but only so many tries long. The flag \
-                is moved while the loop reads it, once: a flag that is up stays up (54), and \
-                the body may count on tries left, not on the flag (K).",
+        about: SLOT,
         variables: &["slot", "flag", "tries"],
         pair: derived(&sizes, statement, p, &Relation::none()),
     }
@@ -70,8 +92,7 @@ pub fn slot() -> Sample {
 pub fn countdown() -> Sample {
     Sample {
         name: "countdown",
-        about: "The loop of document 01 with N = 4 and the step number 28. W, the order in \
-                which it descends, is that of the numbers.",
+        about: COUNTDOWN,
         variables: &["c"],
         pair: derived(&[4], count_down(0), StateSet::first(4), &Relation::none()),
     }
@@ -81,9 +102,7 @@ pub fn counters() -> Sample {
     let statement = parallel(count_down(0), count_up(1, 3));
     Sample {
         name: "counters",
-        about: "Two counters side by side, one counting down and one up. Each side bears the \
-                other's steps, so its W must descend along them too (55); at the end both have \
-                arrived, which neither side says alone (66).",
+        about: COUNTERS,
         variables: &["a", "b"],
         pair: derived(&[4, 4], statement, StateSet::first(16), &Relation::none()),
     }

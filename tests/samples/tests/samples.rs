@@ -1,4 +1,5 @@
-//! The samples are accepted, keep demand 3, and stand in examples/ as they are made.
+//! The samples are accepted, every run of theirs keeps what acceptance promises, and examples/ holds
+//! what the program writes.
 
 use generate::explore::{explore, Exploration, Promise};
 use reference::{check, Verdict, TABLE_WORDS};
@@ -23,27 +24,27 @@ fn accepted_with_their_step_numbers() {
     assert_eq!(known("counters"), Some(2 * (16 * 4 + 15 * 4) + 1));
 }
 
-/// The bytes of document 01.
+/// The bytes are fixed: other pages and tests show them.
 #[test]
-fn the_first_sample_is_the_one_of_the_paper() {
+fn the_bytes_of_the_first_sample() {
     let first = &all()[0].pair;
     assert_eq!(first.handler_file.bytes, [0x22, 0x20, 0x02]);
     assert_eq!(first.proof_file.bytes, [0x08, 0xF0, 0x45, 0x20, 0x02, 0x40]);
 }
 
 #[test]
-fn files_stand_as_they_are_made() {
+fn files_are_as_written() {
     for sample in all() {
         for (name, bytes) in sample.files() {
             let path = folder().join(sample.name).join(name);
             let there = std::fs::read(&path).unwrap_or_default();
-            assert!(there == bytes, "{}: run `cargo run -p samples`", path.display());
+            assert!(there == bytes, "{}: run `cargo run --release -p samples`", path.display());
         }
     }
 }
 
 #[test]
-fn every_run_keeps_demand_3() {
+fn every_run_keeps_the_promise() {
     for sample in all() {
         let tables = &sample.pair.derivation.tables;
         let promise = Promise {
