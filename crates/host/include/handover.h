@@ -1,20 +1,208 @@
-/* The C interface of the handover handler checker (crate host; link target/staticlib/libhost.a). */
+/* handover.h: the C interface of the handover handler checker, for C11 and C++17.
+
+   A handler file holds a short parallel program over a few shared variables. A proof file holds a derivation: from which states
+   the program may start, which changes by others it bears, which changes it makes, and where it ends. handover_check decides
+   whether the derivation is right; handover_root says which of its tables the decision is about. Both are in
+   target/staticlib/libhost.a, which `rt staticlib host` writes: an archive for x86-64 and the System V calling convention that has
+   no other global symbols.
+
+   docs/FORMAT.md describes the two files, docs/RULES.md the rules and what acceptance promises, docs/FAULTS.md every fault number.
+   examples/c has a program that uses all this.
+
+   What the host owes, in every call:
+   - No pointer is null, also where its length is 0. (Pass the address of any object then.)
+   - handler and proof point to handler_len and proof_len readable bytes; work points to work_len readable and writable words.
+     Every length may be passed: if a file has more than HANDOVER_MOST_BYTES bytes, the pair is refused with number 2.
+   - work is aligned to 8 bytes, as every array of uint64_t is. The files need no alignment.
+   - work overlaps neither handler nor proof: that is what `restrict` says below. Where it does, the behaviour is undefined, and the
+     answer can be `accepted` for a pair that must be refused. The two files are only read, and may overlap each other.
+   - Until the call returns, nothing else (no thread, guest or device) writes the files, or reads or writes the work words. If a
+     guest can write the memory that its files are in, the host copies them first.
+   - HANDOVER_STACK_BYTES of stack are free at the call.
+
+   What the host gets, from every call:
+   - It returns. No content of the files makes it run forever, or read or write outside the buffers.
+   - It allocates no memory, makes no system call, and has no global variables, so nothing is kept from one call to the next. Calls
+     from several threads at once are safe if each call has its own work words; they may share the files.
+   - It writes the first HANDOVER_WORK_WORDS work words at most (handover_root none), and never the files.
+   - Of the C library it needs memcpy and memset, and nothing else.
+   - It uses the vector registers xmm0 to xmm15 with SSE2 instructions, for moves and for integer arithmetic; there is no
+     floating-point arithmetic, no x87 and no AVX. The host's memcpy and memset may use more. So code that must leave vector
+     registers alone, in a kernel or an interrupt handler, saves them before the call and restores them after it. */
 #ifndef HANDOVER_H
 #define HANDOVER_H
 
+#include <stdbool.h>
 #include <stddef.h>
 #include <stdint.h>
 
-/* How many work words the check needs; with fewer it refuses with number 1 and writes nothing. */
-#define HANDOVER_WORK_WORDS 1040
+#ifdef __cplusplus
+#define HANDOVER_RESTRICT __restrict
+extern "C" {
+#else
+#define HANDOVER_RESTRICT restrict
+#endif
 
-/* Checks a handler file against a proof file. Every pointer is non-null, also where its length is 0.
-   The answer is below 2^32 for an accepted pair: its step number. Else, with high = answer >> 32: the fault's number is
-   high / 2, its place is a node if high % 2 is 1 and a bit if it is 0, and the place is answer % 2^32.
-   On acceptance work[i] is set i and work[16 + 64 r + s] is row s of relation r; numbers 1 and 2 write nothing, every other
-   refusal leaves the first 1,040 words 0; words past them never change. */
-uint64_t handover_check(const uint8_t *handler, size_t handler_len,
-                        const uint8_t *proof, size_t proof_len,
-                        uint64_t *work, size_t work_len);
+/* Limits. */
+#define HANDOVER_WORK_WORDS 1040                     /* work words that handover_check needs and writes */
+#define HANDOVER_MOST_BYTES 16384                    /* the longest handler file or proof file that is read */
+#define HANDOVER_MOST_STEPS UINT32_C(4294967295)     /* the largest step number that is accepted */
+#define HANDOVER_MOST_STATES 64                      /* the largest N, the number of states */
+#define HANDOVER_MOST_SETS 16                        /* sets in a proof file */
+#define HANDOVER_MOST_RELATIONS 16                   /* relations in a proof file */
+#define HANDOVER_STACK_BYTES 65536                   /* stack that is enough for a call; tests/c/stack.c measures it */
+
+/* Whether the place of a fault is a bit of a file or a node of the derivation. */
+enum handover_place_kind {
+    HANDOVER_BIT = 0,  /* counted from 0, most significant bit of the first byte first, in the file at fault */
+    HANDOVER_NODE = 1  /* counted from 0 in the order of the proof file */
+};
+
+/* The numbers of faults. docs/FAULTS.md says of each what it means and how to mend it. */
+enum handover_fault {
+    HANDOVER_FAULT_NONE = 0,               /* accepted */
+
+    /* Caused by the host. */
+    HANDOVER_FAULT_WORK_WORDS = 1,         /* fewer than HANDOVER_WORK_WORDS work words */
+    HANDOVER_FAULT_FILE_LENGTH = 2,        /* a file longer than HANDOVER_MOST_BYTES */
+
+    /* Caused by the exporter of the handler file; the place is a bit of it. */
+    HANDOVER_FAULT_HANDLER_SHORT = 10,     /* a field runs past the end of the file */
+    HANDOVER_FAULT_VARIABLE_COUNT = 11,    /* the number of variables is not 1 to 4 */
+    HANDOVER_FAULT_SIZE = 12,              /* a size is not 2 to 16 */
+    HANDOVER_FAULT_STATES = 13,            /* the product of the sizes is over 64 */
+    HANDOVER_FAULT_HANDLER_CODE = 14,      /* an unused code of a statement or an operation */
+    HANDOVER_FAULT_VARIABLE = 15,          /* no such variable */
+    HANDOVER_FAULT_KINDS = 16,             /* an integer where a truth value is wanted, or the reverse */
+    HANDOVER_FAULT_HANDLER_LIMIT = 17,     /* more than 63 statements, 16 levels, or 31 nodes in an expression */
+    HANDOVER_FAULT_HANDLER_FILL = 18,      /* a fill bit that is not 0, or a byte after the last field */
+
+    /* Caused by the designer of the proof file; the place is a bit of it. */
+    HANDOVER_FAULT_PROOF_SHORT = 20,       /* a field runs past the end of the file */
+    HANDOVER_FAULT_TABLE_COUNT = 21,       /* the number of sets or of relations is not 1 to 16 */
+    HANDOVER_FAULT_RULE_CODE = 22,         /* the unused rule code 7 */
+    HANDOVER_FAULT_TABLE = 23,             /* no such set or relation */
+    HANDOVER_FAULT_PROOF_LIMIT = 24,       /* more than 127 nodes or 24 levels */
+    HANDOVER_FAULT_PROOF_FILL = 25,        /* a fill bit that is not 0, or a byte after the last field */
+
+    /* Caused by the designer of the proof file; the place is a node. */
+    HANDOVER_FAULT_RULE = 30,              /* the rule is not that of the statement */
+    HANDOVER_FAULT_P_UNSTABLE = 31,        /* others can leave P */
+    HANDOVER_FAULT_Q_BEFORE = 32,          /* changes by others before the statement lead outside Q */
+    HANDOVER_FAULT_Q_AFTER = 33,           /* changes by others after the statement lead outside Q */
+    HANDOVER_FAULT_CHILD_TABLES = 34,      /* a child's tables are not those that the rule gives it */
+    HANDOVER_FAULT_SKIP_Q = 35,            /* skip: a state of P without (s,s) in Q */
+    HANDOVER_FAULT_ASSIGNMENT_RANGE = 40,  /* assignment: a value out of range */
+    HANDOVER_FAULT_ASSIGNMENT_MOVED = 41,  /* assignment: others change a variable of the expression */
+    HANDOVER_FAULT_ASSIGNMENT_Q = 42,      /* assignment: the store is not in Q */
+    HANDOVER_FAULT_ASSIGNMENT_G = 43,      /* assignment: the store is not in G */
+    HANDOVER_FAULT_IF_MOVED = 45,          /* if: others change a variable of the test */
+    HANDOVER_FAULT_IF_Q = 46,              /* if: a state of P with a false test, without (s,s) in Q */
+    HANDOVER_FAULT_WHILE_MOVED = 50,       /* while: the test reads more than once what others change */
+    HANDOVER_FAULT_WHILE_W = 51,           /* while: W is not transitive or has a pair (s,s) */
+    HANDOVER_FAULT_WHILE_K = 52,           /* while: a state of P with a true test is not in K */
+    HANDOVER_FAULT_WHILE_K_UNSTABLE = 53,  /* while: others can leave K */
+    HANDOVER_FAULT_WHILE_TEST = 54,        /* while: others can make a false test true */
+    HANDOVER_FAULT_WHILE_RELY = 55,        /* while: others change the state outside W */
+    HANDOVER_FAULT_WHILE_Q = 56,           /* while: the loop can end outside Q */
+    HANDOVER_FAULT_SEQUENCE_P = 60,        /* sequence: the left part can end outside the right part's P */
+    HANDOVER_FAULT_SEQUENCE_Q = 61,        /* sequence: the left and then the right part lead outside Q */
+    HANDOVER_FAULT_PARALLEL_G = 65,        /* parallel: a child's G is not within G */
+    HANDOVER_FAULT_PARALLEL_Q = 66,        /* parallel: both children can end outside Q */
+    HANDOVER_FAULT_WEAKEN_P = 70,          /* weaken: P is not within the child's P */
+    HANDOVER_FAULT_WEAKEN_R = 71,          /* weaken: R is not within the child's R */
+    HANDOVER_FAULT_WEAKEN_G = 72,          /* weaken: the child's G is not within G */
+    HANDOVER_FAULT_WEAKEN_Q = 73,          /* weaken: the child's Q is not within Q */
+    HANDOVER_FAULT_STEPS = 80              /* the step number is over HANDOVER_MOST_STEPS (node 0) */
+};
+
+/* Checks a handler file against a proof file. The functions below take the answer apart.
+
+   On acceptance the first HANDOVER_WORK_WORDS work words hold the tables of the proof file (see handover_set_word and
+   handover_row_word), and 0 where there is no table. Refusals 1 and 2 write nothing; every other refusal leaves these words 0.
+   Words after them never change.
+
+   What acceptance promises. Let P, R, G and Q be the tables that handover_root names for the same two files. If the handler starts
+   at a state of P, and every change that others make to the variables is a pair of R (from the state before it to the state
+   after it), then at every moment, until the handler has ended and after it:
+   - the handler has made at most handover_steps(answer) steps;
+   - each of its steps that changed the state was a pair of G;
+   - it has not stopped half-way: no store of a value out of range is next, and unless it has ended it has a step to make;
+   - if it has ended, the pair of the start and the present state is in Q.
+   That is all. Nothing is said of a run in which others make a change outside R even once, of a start outside P (so nothing at
+   all where P is empty), or of time. */
+uint64_t handover_check(const uint8_t *HANDOVER_RESTRICT handler, size_t handler_len,
+                        const uint8_t *HANDOVER_RESTRICT proof, size_t proof_len,
+                        uint64_t *HANDOVER_RESTRICT work, size_t work_len);
+
+/* The number of states and the numbers of the root's tables. If both files are well-formed, the answer is
+   N + 2^8 P + 2^16 R + 2^24 G + 2^32 Q, which is not 0, since N is at least 2. If either is not, the answer is 0: a file that is
+   longer than HANDOVER_MOST_BYTES, or in which handover_check finds a fault with a number from 10 to 25.
+   It needs no work words, writes nothing, and looks at no condition: it also answers for a pair that is refused with 30 to 80. */
+uint64_t handover_root(const uint8_t *handler, size_t handler_len, const uint8_t *proof, size_t proof_len);
+
+/* Taking an answer of handover_check apart. */
+
+/* Whether the pair was accepted. */
+static inline bool handover_accepted(uint64_t answer) { return answer <= HANDOVER_MOST_STEPS; }
+
+/* The step number of an accepted pair: the handler never makes more steps than this, and often makes fewer. */
+static inline uint32_t handover_steps(uint64_t answer) { return (uint32_t)(answer & HANDOVER_MOST_STEPS); }
+
+/* The number of the fault, one of enum handover_fault; 0 for an accepted pair. */
+static inline uint32_t handover_number(uint64_t answer) { return (uint32_t)(answer >> 33); }
+
+/* Whether the place of the fault is a bit or a node. */
+static inline enum handover_place_kind handover_kind(uint64_t answer)
+{
+    return (answer >> 32) % 2 == 1 ? HANDOVER_NODE : HANDOVER_BIT;
+}
+
+/* The place of the fault. */
+static inline uint32_t handover_place(uint64_t answer) { return (uint32_t)(answer & UINT32_MAX); }
+
+/* Taking an answer of handover_root apart, where it is not 0. */
+
+/* N, the number of states: the states are 0 to N - 1, with variable 0 most significant. */
+static inline uint32_t handover_root_states(uint64_t root) { return (uint32_t)(root & 0xFF); }
+
+/* The number of the set P: the states at which the handler may start. */
+static inline uint32_t handover_root_precondition(uint64_t root) { return (uint32_t)(root >> 8 & 0xFF); }
+
+/* The number of the relation R: the changes that others may make. */
+static inline uint32_t handover_root_rely(uint64_t root) { return (uint32_t)(root >> 16 & 0xFF); }
+
+/* The number of the relation G: the changes that the handler may make. */
+static inline uint32_t handover_root_guarantee(uint64_t root) { return (uint32_t)(root >> 24 & 0xFF); }
+
+/* The number of the relation Q: from which start the handler may end at which state. */
+static inline uint32_t handover_root_postcondition(uint64_t root) { return (uint32_t)(root >> 32 & 0xFF); }
+
+/* Where the tables are in the work words after acceptance. Sets and relations are numbered from 0, as in the proof file. */
+
+/* The index of the word of a set: bit s, counted from the lowest, is 1 where state s is in the set. */
+static inline size_t handover_set_word(uint32_t set) { return set; }
+
+/* The index of the word of row `from` of a relation: bit t, counted from the lowest, is 1 where (from, t) is in the relation. */
+static inline size_t handover_row_word(uint32_t relation, uint32_t from)
+{
+    return HANDOVER_MOST_SETS + (size_t)HANDOVER_MOST_STATES * relation + from;
+}
+
+/* Whether a set has the state, in the work words after acceptance. The set is one of the proof file's, the state is below N. */
+static inline bool handover_in_set(const uint64_t *work, uint32_t set, uint32_t state)
+{
+    return (work[handover_set_word(set)] >> state & 1) == 1;
+}
+
+/* Whether a relation has the pair (from, to), in the work words after acceptance. Both states are below N. */
+static inline bool handover_in_relation(const uint64_t *work, uint32_t relation, uint32_t from, uint32_t to)
+{
+    return (work[handover_row_word(relation, from)] >> to & 1) == 1;
+}
+
+#ifdef __cplusplus
+}
+#endif
 
 #endif

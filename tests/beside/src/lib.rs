@@ -68,6 +68,23 @@ pub fn judge_with(handler: &[u8], proof: &[u8], words: usize) -> Verdict {
     first.expect("the reference is always there").0
 }
 
+/// N and the numbers of the root's tables by every checker. Panics where two differ, or where a
+/// byte of the files or next to them has changed.
+pub fn judge_root(handler: &[u8], proof: &[u8]) -> u64 {
+    let known = reference::root(handler, proof);
+    #[cfg(feature = "proved")]
+    {
+        let margin = [0xB6; 5];
+        let before = [&margin[..], handler, &margin, proof, &margin].concat();
+        let memory = before.clone();
+        let (first, rest) = memory[margin.len()..].split_at(handler.len());
+        let found = proved::root(first, &rest[margin.len()..][..proof.len()]);
+        assert_eq!(found, known, "handler {handler:02X?} proof {proof:02X?}");
+        assert!(memory == before, "bytes changed: handler {handler:02X?} proof {proof:02X?}");
+    }
+    known
+}
+
 /// A refusal at a bit.
 pub fn at_bit(number: u32, bit: u32) -> Verdict {
     Verdict::Refused { number, place: Place::Bit(bit) }

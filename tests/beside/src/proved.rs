@@ -12,6 +12,13 @@ extern "C" {
         work: *mut u64,
         work_len: usize,
     ) -> u64;
+
+    fn handover_root(
+        handler: *const u8,
+        handler_len: usize,
+        proof: *const u8,
+        proof_len: usize,
+    ) -> u64;
 }
 
 #[cfg(feature = "former")]
@@ -59,4 +66,10 @@ impl Checker for Proved {
         };
         answer::verdict(answer)
     }
+}
+
+/// N and the numbers of the root's tables, by the library of this checkout.
+pub fn root(handler: &[u8], proof: &[u8]) -> u64 {
+    // SAFETY: as above, and nothing is written.
+    unsafe { handover_root(handler.as_ptr(), handler.len(), proof.as_ptr(), proof.len()) }
 }

@@ -15,6 +15,7 @@ pub mod step_number;
 
 pub use fault::{Fault, Place, Verdict};
 
+use language::Handler;
 use proof_file::Proof;
 
 /// The words of the tables: 16 sets, then 16 relations of 64 rows.
@@ -44,10 +45,30 @@ pub fn check(handler: &[u8], proof: &[u8], work: &mut [u64]) -> Verdict {
     }
 }
 
-/// The order of faults (docs/FORMAT.md): handler file, proof file, nodes, and 80 last.
-fn decide(handler: &[u8], proof: &[u8]) -> Result<(u32, Proof), Fault> {
+/// What a host must know of a pair: N + 2^8 × P + 2^16 × R + 2^24 × G + 2^32 × Q, the numbers
+/// of the root's tables, or 0 where a file is ill-formed. No condition is looked at.
+pub fn root(handler: &[u8], proof: &[u8]) -> u64 {
+    if handler.len() > LONGEST_FILE || proof.len() > LONGEST_FILE {
+        return 0;
+    }
+    let Ok((handler, proof)) = read(handler, proof) else {
+        return 0;
+    };
+    let node = &proof.root;
+    let bytes = [handler.space.states(), node.p, node.r, node.g, node.q];
+    bytes.iter().rev().fold(0, |number, byte| number << 8 | *byte as u64)
+}
+
+/// Both files; the proof is over the handler's states.
+fn read(handler: &[u8], proof: &[u8]) -> Result<(Handler, Proof), Fault> {
     let handler = handler_file::read(handler)?;
     let proof = proof_file::read(proof, handler.space.states())?;
+    Ok((handler, proof))
+}
+
+/// The order of faults (docs/FORMAT.md): handler file, proof file, nodes, and 80 last.
+fn decide(handler: &[u8], proof: &[u8]) -> Result<(u32, Proof), Fault> {
+    let (handler, proof) = read(handler, proof)?;
     conditions::examine(&handler, &proof)?;
     let steps = step_number::of(&handler.statement, handler.space.states());
     match u32::try_from(steps) {

@@ -1,0 +1,65 @@
+//! Calls from several threads at once, each with its own work words, answer as calls alone do.
+#![cfg(feature = "proved")]
+
+use beside::proved::{self, PROVED};
+use beside::Checker;
+use generate::damage::{damaged, Files};
+use generate::pairs::{accepted, Scale};
+use generate::random::Random;
+use reference::{Verdict, TABLE_WORDS};
+use std::sync::Barrier;
+
+const THREADS: usize = 8;
+const PAIRS: usize = 100;
+const ROUNDS: usize = 5;
+
+/// What a host gets from both calls for a pair.
+#[derive(PartialEq)]
+struct Answer {
+    verdict: Verdict,
+    words: Vec<u64>,
+    root: u64,
+}
+
+/// Both calls, over the words that an earlier call has left.
+fn answer((handler, proof): &Files, work: &mut [u64]) -> Answer {
+    let verdict = PROVED.check(handler, proof, work);
+    Answer { verdict, words: work.to_vec(), root: proved::root(handler, proof) }
+}
+
+/// Accepted pairs and four damaged versions of each.
+fn pairs() -> Vec<Files> {
+    let mut random = Random::new(0x7472);
+    let mut pairs = Vec::new();
+    for _ in 0..PAIRS {
+        let pair = accepted(&mut random, Scale::FULL);
+        pairs.extend((0..4).map(|_| damaged(&mut random, &pair)));
+        pairs.push((pair.handler_file.bytes, pair.proof_file.bytes));
+    }
+    pairs
+}
+
+/// Every thread goes over all pairs, each from a place of its own on, and shares the files.
+#[test]
+fn threads_do_not_disturb_each_other() {
+    let pairs = pairs();
+    let mut work = vec![0; TABLE_WORDS];
+    let alone: Vec<Answer> = pairs.iter().map(|files| answer(files, &mut work)).collect();
+    let accepted = alone.iter().filter(|a| matches!(a.verdict, Verdict::Accepted(_))).count();
+    assert!(accepted >= PAIRS && accepted < alone.len(), "{accepted} accepted");
+    let start = Barrier::new(THREADS);
+    std::thread::scope(|scope| {
+        for thread in 0..THREADS {
+            let (pairs, alone, start) = (&pairs, &alone, &start);
+            scope.spawn(move || {
+                let mut work = vec![thread as u64; TABLE_WORDS];
+                start.wait();
+                for turn in 0..ROUNDS * pairs.len() {
+                    let index = (turn + thread * pairs.len() / THREADS) % pairs.len();
+                    let found = answer(&pairs[index], &mut work);
+                    assert!(found == alone[index], "thread {thread}, pair {index}");
+                }
+            });
+        }
+    });
+}

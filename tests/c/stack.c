@@ -1,0 +1,122 @@
+/* stack FILE: how much stack the two calls take at most, over the pairs of a file (pairs.h).
+
+   Every call is made in a thread of its own whose stack was painted beforehand. What is counted reaches from the frame that makes
+   the call down to the lowest byte that is no longer paint. A byte that happens to be written in the colour of the paint is not
+   seen, so each call is made with two colours.
+
+   Prints the largest figures, and for comparison what a thread takes that makes no call. Ends with 1 where a call takes more than
+   HANDOVER_STACK_BYTES, with 2 where nothing could be measured. */
+#define _GNU_SOURCE
+#include "pairs.h"
+
+#include <pthread.h>
+#include <string.h>
+#include <sys/mman.h>
+
+enum { STACK_BYTES = 256 * 1024 };
+
+/* The stack of the threads, and where the frame is that makes the call. */
+static uint8_t *stack;
+static uint8_t *frame;
+
+static struct pair pair;
+static uint64_t work[HANDOVER_WORK_WORDS];
+static uint64_t answer;
+
+static void *call_check(void *unused)
+{
+    frame = (uint8_t *)__builtin_frame_address(0);
+    answer = handover_check(pair.handler, pair.handler_len, pair.proof, pair.proof_len, work, HANDOVER_WORK_WORDS);
+    return unused;
+}
+
+static void *call_root(void *unused)
+{
+    frame = (uint8_t *)__builtin_frame_address(0);
+    answer = handover_root(pair.handler, pair.handler_len, pair.proof, pair.proof_len);
+    return unused;
+}
+
+/* The same, with no call. */
+static void *call_nothing(void *unused)
+{
+    frame = (uint8_t *)__builtin_frame_address(0);
+    return unused;
+}
+
+/* The bytes between the frame that calls and the lowest one that is no longer paint. */
+static size_t stack_of(void *(*call)(void *), int paint)
+{
+    pthread_attr_t attributes;
+    pthread_t thread;
+    memset(stack, paint, STACK_BYTES);
+    if (pthread_attr_init(&attributes) != 0 || pthread_attr_setstack(&attributes, stack, STACK_BYTES) != 0) {
+        give_up("the thread's stack cannot be set");
+    }
+    if (pthread_create(&thread, &attributes, call, NULL) != 0 || pthread_join(thread, NULL) != 0) {
+        give_up("no thread");
+    }
+    pthread_attr_destroy(&attributes);
+    uint8_t *lowest = stack;
+    while (*lowest == (uint8_t)paint) {
+        lowest++;
+    }
+    if (lowest == stack) {
+        give_up("the whole stack was used");
+    }
+    return lowest < frame ? (size_t)(frame - lowest) : 0;
+}
+
+/* The larger of the figures of two colours. */
+static size_t most_of(void *(*call)(void *))
+{
+    size_t one = stack_of(call, 0xA5);
+    size_t other = stack_of(call, 0x3C);
+    return one > other ? one : other;
+}
+
+/* The largest figures so far. */
+struct most {
+    size_t pairs;
+    size_t accepted;
+    size_t check;
+    size_t root;
+};
+
+static void measure(const char *name, struct most *most)
+{
+    FILE *file = fopen(name, "rb");
+    if (file == NULL) {
+        give_up("the file of pairs cannot be opened");
+    }
+    while (next_pair(file, &pair)) {
+        size_t root = most_of(call_root);
+        size_t check = most_of(call_check);
+        most->pairs++;
+        most->accepted += handover_accepted(answer);
+        most->root = root > most->root ? root : most->root;
+        most->check = check > most->check ? check : most->check;
+    }
+    fclose(file);
+}
+
+int main(int argc, char **argv)
+{
+    struct most most = {0, 0, 0, 0};
+    if (argc != 2) {
+        give_up("usage: stack FILE");
+    }
+    void *memory = mmap(NULL, STACK_BYTES, PROT_READ | PROT_WRITE, MAP_PRIVATE | MAP_ANONYMOUS, -1, 0);
+    if (memory == MAP_FAILED) {
+        give_up("no memory");
+    }
+    stack = (uint8_t *)memory;
+    measure(argv[1], &most);
+    size_t nothing = most_of(call_nothing);
+    if (most.accepted == 0 || most.accepted == most.pairs || most.check <= nothing || most.root <= nothing) {
+        give_up("the pairs are too few to measure anything");
+    }
+    printf("stack: %zu pairs, %zu accepted: handover_check %zu bytes, handover_root %zu, a thread alone %zu; allowed %d\n",
+           most.pairs, most.accepted, most.check, most.root, nothing, HANDOVER_STACK_BYTES);
+    return most.check > HANDOVER_STACK_BYTES || most.root > HANDOVER_STACK_BYTES ? 1 : 0;
+}
