@@ -6,5 +6,5 @@ pub mod AtHand
 pub mod Meaning
 pub mod Judging
 pub mod Acceptance
-pub mod Demand
+pub mod Promised
 pub mod Bounds

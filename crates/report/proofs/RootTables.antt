@@ -22,7 +22,7 @@ use Rattle.derivation.proofs.Files.{read-known}
 use Rattle.checker.specs.declared.Verdict.the-variants.{Accepted}
 use Rattle.checker.specs.Verdicts.{PairRead, rootSpec, answer}
 use Rattle.checker.proofs.Acceptance.{accepted-exactly}
-use Rattle.checker.proofs.Demand.{accepted-is-sound}
+use Rattle.checker.proofs.Promised.{accepted-is-sound}
 use Rattle.report.specs.Root.{rootNumber, onHandlerRoot, rootOf}
 
 -- A name is below 16.

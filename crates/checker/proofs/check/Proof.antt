@@ -5,7 +5,7 @@ use Rattle.handler.specs.Reading.{readHandler}
 use Rattle.handler.proofs.Handlers.{found-refused}
 use Rattle.checker.specs.Verdicts.{onHandler}
 use Rattle.checker.proofs.Judging.{handled, few-words, long-handler, long-proof, both-read, writes}
-use Rattle.checker.proofs.Demand.{promised}
+use Rattle.checker.proofs.Promised.{promised}
 use Rattle.checker.proofs.check.Statement.{statement}
 use Rattle.checker.proofs.check.Tie as tie
 
