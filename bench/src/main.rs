@@ -84,16 +84,3 @@ fn print_row(row: &Row, verdict: Verdict, medians: &[f64]) {
     }
     println!();
 }
-
-
-#[cfg(test)]
-mod tests {
-    use super::*;
-
-    #[test]
-    fn verdicts_as_the_line_says_them() {
-        assert_eq!(words(Verdict::Accepted(28)), "accepted 28");
-        assert_eq!(words(beside::at_bit(10, 2000)), "refused 10 bit 2000");
-        assert_eq!(words(beside::at_node(35, 126)), "refused 35 node 126");
-    }
-}

@@ -118,3 +118,15 @@ pub fn page(name: &str) -> String {
 fn mark(index: u64) -> u64 {
     (index + 1).wrapping_mul(0x9E37_79B9_7F4A_7C15) | 1
 }
+
+#[cfg(test)]
+mod tests {
+    use super::*;
+
+    #[test]
+    fn lines() {
+        assert_eq!(line(Verdict::Accepted(28)), "accepted 28");
+        assert_eq!(line(at_bit(10, 2000)), "refused 10 bit 2000");
+        assert_eq!(line(at_node(35, 126)), "refused 35 node 126");
+    }
+}
