@@ -13,3 +13,4 @@ pub mod programs;
 pub mod random;
 pub mod steps;
 pub mod vacuous;
+pub mod words;

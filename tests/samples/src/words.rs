@@ -2,7 +2,8 @@
 //! both files can be rebuilt from it (tests/rebuild.rs does).
 
 use crate::Sample;
-use reference::language::{Expression, Operation, Statement};
+use generate::words::expression;
+use reference::language::Statement;
 use reference::proof_file::{Node, Proof, Rule};
 use reference::space::Space;
 use reference::states::StateSet;
@@ -92,7 +93,7 @@ impl Words<'_> {
             Statement::Nil => *text += &format!("{indent}nil\n"),
             Statement::Assignment(variable, value) => {
                 let name = self.names[*variable];
-                *text += &format!("{indent}{name} ← {}\n", self.expression(value));
+                *text += &format!("{indent}{name} ← {}\n", expression(self.names, value));
             }
             Statement::Sequence(left, right) => {
                 self.statement(left, depth, text);
@@ -107,42 +108,15 @@ impl Words<'_> {
                 *text += &format!("{indent}rap\n");
             }
             Statement::If(test, body) => {
-                *text += &format!("{indent}if {} then\n", self.expression(test));
+                *text += &format!("{indent}if {} then\n", expression(self.names, test));
                 self.statement(body, depth + 1, text);
                 *text += &format!("{indent}fi\n");
             }
             Statement::While(test, body) => {
-                *text += &format!("{indent}while {} do\n", self.expression(test));
+                *text += &format!("{indent}while {} do\n", expression(self.names, test));
                 self.statement(body, depth + 1, text);
                 *text += &format!("{indent}od\n");
             }
-        }
-    }
-
-    fn expression(&self, expression: &Expression) -> String {
-        match expression {
-            Expression::Integer(value) => value.to_string(),
-            Expression::Truth(value) => value.to_string(),
-            Expression::Variable(variable) => self.names[*variable].to_string(),
-            Expression::Operation(operation, left, right) => {
-                let sign = match operation {
-                    Operation::Add => "+",
-                    Operation::Subtract => "−",
-                    Operation::Less => "<",
-                    Operation::Equal => "=",
-                    Operation::Greater => ">",
-                    Operation::And => "∧",
-                    Operation::Or => "∨",
-                };
-                format!("{} {sign} {}", self.operand(left), self.operand(right))
-            }
-        }
-    }
-
-    fn operand(&self, expression: &Expression) -> String {
-        match expression {
-            Expression::Operation(..) => format!("({})", self.expression(expression)),
-            _ => self.expression(expression),
         }
     }
 

@@ -2,7 +2,8 @@
 
 use crate::world::Claim;
 use generate::derivation::{Derivation, Step};
-use reference::language::{Expression, Operation, Statement};
+use generate::words::expression;
+use reference::language::Statement;
 use reference::states::{Relation, StateSet};
 
 /// The whole block of a claim.
@@ -99,7 +100,11 @@ impl Words<'_> {
         match statement {
             Statement::Nil => "nil".into(),
             Statement::Assignment(variable, value) => {
-                format!("{} ← {}", self.claim.names[*variable], self.expression(value))
+                format!(
+                    "{} ← {}",
+                    self.claim.names[*variable],
+                    expression(&self.claim.names, value)
+                )
             }
             Statement::Sequence(left, right) => {
                 format!("{} ; {}", self.part(left), self.part(right))
@@ -108,10 +113,10 @@ impl Words<'_> {
                 format!("{} ∥ {}", self.part(left), self.part(right))
             }
             Statement::If(test, body) => {
-                format!("if {} then {}", self.expression(test), self.part(body))
+                format!("if {} then {}", expression(&self.claim.names, test), self.part(body))
             }
             Statement::While(test, body) => {
-                format!("while {} do {}", self.expression(test), self.part(body))
+                format!("while {} do {}", expression(&self.claim.names, test), self.part(body))
             }
         }
     }
@@ -120,33 +125,6 @@ impl Words<'_> {
         match statement {
             Statement::Nil | Statement::Assignment(..) => self.statement(statement),
             _ => format!("({})", self.statement(statement)),
-        }
-    }
-
-    fn expression(&self, expression: &Expression) -> String {
-        match expression {
-            Expression::Integer(value) => value.to_string(),
-            Expression::Truth(value) => value.to_string(),
-            Expression::Variable(variable) => self.claim.names[*variable].to_string(),
-            Expression::Operation(operation, left, right) => {
-                let sign = match operation {
-                    Operation::Add => "+",
-                    Operation::Subtract => "−",
-                    Operation::Less => "<",
-                    Operation::Equal => "=",
-                    Operation::Greater => ">",
-                    Operation::And => "∧",
-                    Operation::Or => "∨",
-                };
-                format!("{} {sign} {}", self.operand(left), self.operand(right))
-            }
-        }
-    }
-
-    fn operand(&self, expression: &Expression) -> String {
-        match expression {
-            Expression::Operation(..) => format!("({})", self.expression(expression)),
-            _ => self.expression(expression),
         }
     }
 }
