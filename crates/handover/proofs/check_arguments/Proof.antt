@@ -1,0 +1,30 @@
+-- The length of an argument is within its array, by the contract of `argument`.
+use mathlib.Core.Path.{sym}
+use native.Mathlib.Omega.{arith}
+use lib.Seq.{length-take-le}
+use borrow.Author.Needs.{needs}
+use Rattle.handover.proofs.check_arguments.Statement.{statement}
+use Rattle.handover.proofs.check_arguments.Tie as tie
+
+array-share-prefix-handler : tie.Need-array-share-prefix-handler
+array-share-prefix-handler c = let r = c .before .before .before .before .argument in omega (arith, r .ensures, r .kept .1 .0)
+
+slice-aggregate-check-files : tie.Need-slice-aggregate-check-files
+slice-aggregate-check-files c = sym (length-take-le _ _ (array-share-prefix-handler (c .before)))
+
+array-share-prefix-proof : tie.Need-array-share-prefix-proof
+array-share-prefix-proof c = let r = c .before .before .argument2 in omega (arith, r .ensures, r .kept .1 .0)
+
+slice-aggregate-check-files-2 : tie.Need-slice-aggregate-check-files-2
+slice-aggregate-check-files-2 c = sym (length-take-le _ _ (array-share-prefix-proof (c .before)))
+
+pub check-arguments-spec : {M : Type 1} → statement M
+check-arguments-spec =
+    tie.close
+    (tie.spec
+    (λ c. search needs) (λ c κs. search needs) (λ c. search needs) (λ c κs. search needs)
+    array-share-prefix-handler
+    slice-aggregate-check-files
+    array-share-prefix-proof
+    slice-aggregate-check-files-2
+    (λ c κs. search needs) (λ c. search needs))
