@@ -1,7 +1,7 @@
 /* handover.h: the C interface of the handover handler checker, for C11 and C++17.
 
    A handler file holds a short parallel program over a few shared variables. A proof file holds a derivation: from which states
-   the program may start, which changes by others it bears, which changes it makes, and where it ends. handover_check decides
+   the program may start, which changes by others it tolerates, which changes it makes, and where it ends. handover_check decides
    whether the derivation is right; handover_root says which of its tables the decision is about. Both are in
    target/staticlib/libhost.a, which `rt staticlib host` writes: an archive for x86-64 and the System V calling convention that has
    no other global symbols.

@@ -108,6 +108,22 @@ pub fn line(verdict: Verdict) -> String {
     }
 }
 
+/// The number of a refusal; 0 is acceptance.
+pub fn number(verdict: Verdict) -> u32 {
+    match verdict {
+        Verdict::Accepted(_) => 0,
+        Verdict::Refused { number, .. } => number,
+    }
+}
+
+/// A setting of the environment that is a number, or its default.
+pub fn setting(name: &str, default: u64) -> u64 {
+    match std::env::var(name) {
+        Ok(text) => text.parse().unwrap_or_else(|_| panic!("{name} is a number, not {text}")),
+        Err(_) => default,
+    }
+}
+
 /// The text of a page of docs/.
 pub fn page(name: &str) -> String {
     let path = format!("{}/../../docs/{name}", env!("CARGO_MANIFEST_DIR"));

@@ -3,7 +3,7 @@
 //! `HANDOVER_COMPARISONS` asks for more than the default, `HANDOVER_SEED` for others.
 
 use beside::lawful::NUMBERS;
-use beside::{at_bit, judge, judge_with};
+use beside::{at_bit, judge, judge_with, number, setting};
 use generate::construct::{self, Constructed};
 use generate::damage::damaged;
 use generate::pairs::{accepted, Pair, Scale};
@@ -13,14 +13,7 @@ use std::collections::BTreeMap;
 
 const LEAST_EACH: usize = 50;
 
-fn setting(name: &str, default: u64) -> u64 {
-    match std::env::var(name) {
-        Ok(text) => text.parse().unwrap_or_else(|_| panic!("{name} is a number, not {text}")),
-        Err(_) => default,
-    }
-}
-
-/// How often each number occurred; 0 stands for acceptance.
+/// How often each number occurred; 0 is acceptance.
 #[derive(Default)]
 struct Tally {
     counts: BTreeMap<u32, usize>,
@@ -29,11 +22,7 @@ struct Tally {
 
 impl Tally {
     fn count(&mut self, verdict: Verdict) {
-        let number = match verdict {
-            Verdict::Accepted(_) => 0,
-            Verdict::Refused { number, .. } => number,
-        };
-        *self.counts.entry(number).or_default() += 1;
+        *self.counts.entry(number(verdict)).or_default() += 1;
         self.total += 1;
     }
 

@@ -3,7 +3,7 @@
 //!
 //! `HANDOVER_COMPARISONS` asks for more than the default, `HANDOVER_SEED` for others.
 
-use beside::{judge, judge_root};
+use beside::{judge, judge_root, number, setting};
 use generate::construct;
 use generate::damage::damaged;
 use generate::pack::{self, What};
@@ -12,7 +12,7 @@ use generate::programs;
 use generate::random::Random;
 use generate::vacuous;
 use reference::language::Statement;
-use reference::{Verdict, LONGEST_FILE};
+use reference::LONGEST_FILE;
 use std::collections::BTreeMap;
 
 const HANDLER: [u8; 3] = [0x22, 0x20, 0x02];
@@ -26,20 +26,6 @@ const ANSWERED: [u32; 29] = [
 
 /// And with each of these, of files that cannot be read.
 const ILL_FORMED: [u32; 16] = [2, 10, 11, 12, 13, 14, 15, 16, 17, 18, 20, 21, 22, 23, 24, 25];
-
-fn setting(name: &str, default: u64) -> u64 {
-    match std::env::var(name) {
-        Ok(text) => text.parse().unwrap_or_else(|_| panic!("{name} is a number, not {text}")),
-        Err(_) => default,
-    }
-}
-
-fn number(verdict: Verdict) -> u32 {
-    match verdict {
-        Verdict::Accepted(_) => 0,
-        Verdict::Refused { number, .. } => number,
-    }
-}
 
 fn root_of(states: u64, p: u64, r: u64, g: u64, q: u64) -> u64 {
     states + (p << 8) + (r << 16) + (g << 24) + (q << 32)
