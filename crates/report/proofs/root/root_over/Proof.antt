@@ -19,7 +19,8 @@ found c = proof-is _ _ _ (c .before .before .read-proof .ensures) (c .found2 .gi
 names : (c : tie.After-node-at) → c .node-at .result .names ≡ namesOf (found (c .before .before .before .before) .d)
 names c =
     let f = found (c .before .before .before .before) in
-    ap (λ x. x .names) (c .node-at .ensures) ∙ ap (λ t. nodeIn t 0 .names) (f .table) ∙ root-names _ _ _ _ _ (f .d) (f .read)
+    let first : c .node-at .result ≡ nodeIn (c .before .before .before .before .before .before .read-proof .result .nodes) 0 = c .node-at .ensures in
+    ap (λ x. x .names) first ∙ ap (λ t. nodeIn t 0 .names) (f .table) ∙ root-names _ _ _ _ _ (f .d) (f .read)
 
 pack-requires : tie.Need-pack-requires
 pack-requires c κs =
