@@ -25,10 +25,10 @@ refused-back : (number : ℕ) (place : Place) → 0 < number → number < 2 ^ 31
     → decoded (codeOf (refusedAt number place)) ≡ refusedAt number place
 unfolding decoded codeOf placeKind indexOf
 refused-back number (Bit i) positive below h =
-    let p = parts number 0 i positive below (omega arith) h _ refl in
+    let p = parts number 0 i positive below (omega arith) h (codeOf (refusedAt number (Bit i))) refl in
     rw (p .0, p .1, p .2, p .3)
 refused-back number (Node k) positive below h =
-    let p = parts number 1 k positive below (omega arith) h _ refl in
+    let p = parts number 1 k positive below (omega arith) h (codeOf (refusedAt number (Node k))) refl in
     rw (p .0, p .1, p .2, p .3)
 
 -- A code that cuts nothing off determines its verdict.
