@@ -1,17 +1,16 @@
 -- What follows if no condition of a list is broken, and which statement is at hand by condition 30.
 use Prim.Native.Nat.{ℕ}
 use mathlib.Core.Path.{_≡_, refl, sym, _∙_, ap}
-use mathlib.Core.Bool.{Bool, true, _&&_}
 use mathlib.Core.List.{List, [], _∷_}
 use mathlib.Core.Option.{Option, none, some, Option·none-ne-some}
 use lib.ListN.{getD}
 use lib.Dec.{eqb}
 use borrow.Author.Tests.{eqb-true}
 use Rattle.states.specs.Search.{Search, must}
-use Rattle.states.proofs.Search.{and-left, and-right, must-none}
+use Rattle.states.proofs.Search.{must-none}
 use Rattle.semantics.specs.Language.{Stmt, nil, assign, seq, par, if, while}
 use Rattle.semantics.specs.Conditions.{statementCode, targetOf, exprOf, firstOf, secondOf}
-use Rattle.semantics.specs.Checking.{Condition, Broken, orNumber, firstBroken, orBroken, atNode}
+use Rattle.semantics.specs.Checking.{Condition, Breach, Broken, orBreach, firstBroken, orBroken, atNode}
 
 -- Every condition of a list holds.
 abbrev pub Clear : List Condition → Type 0
@@ -22,13 +21,13 @@ pub clear : (cs : List Condition) → firstBroken cs ≡ none → Clear cs
 clear [] e = tt
 clear (c ∷ rest) e = (by (c .breach) e .0, clear rest (by (c .breach) e .1))
   where
-    by : (x : Search) → orNumber (c .number) x (firstBroken rest) ≡ none → (x ≡ none) × (firstBroken rest ≡ none)
+    by : (x : Search) → orBreach (c .number) x (firstBroken rest) ≡ none → (x ≡ none) × (firstBroken rest ≡ none)
     by none e = (refl, e)
     by (some found) e = absurd (Option·none-ne-some _ (sym e))
 
-pub no-number : (n : ℕ) (o : Option ℕ) → atNode n o ≡ none → o ≡ none
-no-number n none e = refl
-no-number n (some k) e = absurd (Option·none-ne-some _ (sym e))
+pub no-breach : (n : ℕ) (o : Option Breach) → atNode n o ≡ none → o ≡ none
+no-breach n none e = refl
+no-breach n (some b) e = absurd (Option·none-ne-some _ (sym e))
 
 pub neither : (a b : Option Broken) → orBroken a b ≡ none → (a ≡ none) × (b ≡ none)
 neither none b e = (refl, e)
@@ -50,20 +49,3 @@ made-whole (while e b) = refl
 
 pub says30 : (S : Stmt) (k : ℕ) → must (eqb (statementCode S) k) ≡ none → made k S ≡ S
 says30 S k e = ap (λ x. made x S) (sym (eqb-true (statementCode S) k (must-none _ e))) ∙ made-whole S
-
-none-must : (b : Bool) → b ≡ true → must b ≡ none
-unfolding must
-none-must b h = rw h
-
-pub four : (a b c d : Bool) → must (a && b && c && d) ≡ none → (a ≡ true) × (b ≡ true) × (c ≡ true) × (d ≡ true)
-four a b c d e =
-    let h = must-none _ e in
-    let h3 = and-left (a && b && c) d h in
-    let h2 = and-left (a && b) c h3 in
-    (and-left a b h2, and-right a b h2, and-right (a && b) c h3, and-right (a && b && c) d h)
-
-pub five : (a b c d f : Bool) → must (a && b && c && d && f) ≡ none → (a ≡ true) × (b ≡ true) × (c ≡ true) × (d ≡ true) × (f ≡ true)
-five a b c d f e =
-    let h = must-none _ e in
-    let (one, two, three, fourth) = four a b c d (none-must _ (and-left (a && b && c && d) f h)) in
-    (one, two, three, fourth, and-right (a && b && c && d) f h)

@@ -10,13 +10,13 @@ use borrow.Author.Tests.{ltb-true, lt-ltb, leb-true, eqb-true, eq-eqb, not-true,
 use native.Mathlib.Nat.{le-antisymm}
 use Rattle.states.specs.Search.{Search, must, named}
 use Rattle.states.specs.Relations.{Reached, here, more, reach}
-use Rattle.states.proofs.Search.{and-left, and-right, and-both, or-left, or-right, or-cases, implies-at, all-at, any-at, beq-true, must-none, given-none, orElse-none, each-none}
+use Rattle.states.proofs.Search.{and-left, and-right, and-both, or-left, or-right, or-cases, implies-at, all-at, any-at, beq-true, must-none, given-none, each-none}
 use Rattle.states.proofs.Reach.{Between, reach-exact}
 use Rattle.semantics.specs.declared.Names.{Names}
 use Rattle.semantics.specs.Language.{Val, int, truth, Expr, eqZ}
 use Rattle.semantics.specs.States.{Machine, value, isTruth, storeOf}
 use Rattle.semantics.specs.Derivations.{Tables, Spec, setOf, relationOf, specOf}
-use Rattle.semantics.specs.Conditions.{occurrences, inSet, sameSet, sameRelation, setLiesIn, relationLiesIn, isTrue, isFalse, afterStore, inRange, toAfter, moves, unmoved, c31, c32, c33, c35, c40, c41, c42, c43, c45, c46, c50, c51, c52, c53, c54, c55, c56, c60, c61, c66}
+use Rattle.semantics.specs.Conditions.{occurrences, inSet, sameSet, sameRelation, setLiesIn, relationLiesIn, isTrue, isFalse, afterStore, inRange, toAfter, moves, unmoved, c31, c32, c33, c35, c40, c41, c42, c43, c45, c46, c50, c51, c52, c53, c54, c55, c56, c57, c60, c61, c66}
 use Rattle.semantics.proofs.Safe.{Star, stay, then}
 use Rattle.semantics.proofs.Composition.{Change}
 use Rattle.semantics.proofs.Descent.{Descending}
@@ -169,10 +169,11 @@ module _ (m : Machine) where
     unfolding c50
     says50 e h = leb-true _ 1 (must-none _ h)
 
-    pub says51 : (W : ℕ → ℕ → Bool) → Between (m .states) W → c51 (m .states) W ≡ none → Descending (m .states) (λ s t. W s t ≡ true)
-    unfolding c51
-    says51 W W-in h =
-        let (apart, joined) = orElse-none _ _ h in
+    -- 51 and 57: W descends.
+    pub descending : (W : ℕ → ℕ → Bool) → Between (m .states) W → c51 (m .states) W ≡ none → c57 (m .states) W ≡ none
+        → Descending (m .states) (λ s t. W s t ≡ true)
+    unfolding c51 c57
+    descending W W-in apart joined =
         record {
           transitive = λ s t u a b. must-none _ (at-member (W t) _ (λ x i. W-in t x i .1)
               (at-member (W s) _ (λ x i. W-in s x i .1) (each-none (m .states) _ joined s (W-in s t a .0)) t a) u b);

@@ -11,3 +11,4 @@ pub mod Conditions
 pub mod Clear
 pub mod Soundness
 pub mod Numbers
+pub mod Naming

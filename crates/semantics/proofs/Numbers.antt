@@ -11,22 +11,22 @@ use Rattle.states.specs.Search.{Search}
 use Rattle.semantics.specs.Language.{Stmt}
 use Rattle.semantics.specs.Derivations.{Derivation, skip, assignment, sequence, parallel, conditional, iteration, weaken, nodes, Tables}
 use Rattle.semantics.specs.Conditions.{firstOf, secondOf}
-use Rattle.semantics.specs.Checking.{Condition, Broken, orNumber, firstBroken, orBroken, atNode, obligations, firstFault}
+use Rattle.semantics.specs.Checking.{Condition, Breach, Broken, orBreach, firstBroken, orBroken, atNode, obligations, firstFault}
 
 -- The numbers of a list of conditions, which are written out in the definitions.
 abbrev inRange : List Condition → Bool
 inRange [] = true
 inRange (c ∷ rest) = (leb 30 (c .number) && leb (c .number) 73) && inRange rest
 
-abbrev NumberIn : Option ℕ → Type 0
+abbrev NumberIn : Option Breach → Type 0
 NumberIn none = Unit {0}
-NumberIn (some k) = (30 ≤ k) × (k ≤ 73)
+NumberIn (some b) = (30 ≤ b .number) × (b .number ≤ 73)
 
 first-in : (cs : List Condition) → inRange cs ≡ true → NumberIn (firstBroken cs)
 first-in [] e = tt
 first-in (c ∷ rest) e = let tests = simp and-eq-true-iff at e in by (c .breach) (omega (arith, leb-true)) (first-in rest (tests .1))
   where
-    by : (s : Search) → (30 ≤ c .number) × (c .number ≤ 73) → NumberIn (firstBroken rest) → NumberIn (orNumber (c .number) s (firstBroken rest))
+    by : (s : Search) → (30 ≤ c .number) × (c .number ≤ 73) → NumberIn (firstBroken rest) → NumberIn (orBreach (c .number) s (firstBroken rest))
     by none own later = later
     by (some found) own later = own
 
@@ -35,10 +35,10 @@ unfoldable pub FaultIn : ℕ → ℕ → Option Broken → Type 0
 FaultIn n past none = Unit {0}
 FaultIn n past (some b) = (30 ≤ b .number) × (b .number ≤ 73) × (n ≤ b .node) × (b .node < past)
 
-at-node : (n past : ℕ) → n < past → (o : Option ℕ) → NumberIn o → FaultIn n past (atNode n o)
+at-node : (n past : ℕ) → n < past → (o : Option Breach) → NumberIn o → FaultIn n past (atNode n o)
 unfolding FaultIn
 at-node n past h none p = tt
-at-node n past h (some k) p = omega arith
+at-node n past h (some b) p = omega arith
 
 then : (n past : ℕ) (x y : Option Broken) → FaultIn n past x → FaultIn n past y → FaultIn n past (orBroken x y)
 unfolding FaultIn

@@ -1,7 +1,7 @@
--- docs/RULES.md, "Order of conditions": the conditions that each node must meet, by number, and the first fault of a derivation of
--- a statement, nodes by number, conditions by number.
+-- docs/RULES.md, "Order of conditions": the conditions that each node must meet, in their order, and the first fault of a derivation of
+-- a statement, nodes by number, a node's conditions in their order.
 use Prim.Native.Nat.{ℕ, suc, _+_}
-use mathlib.Core.Bool.{Bool, true}
+use mathlib.Core.Bool.{Bool, true, false, cond, _||_}
 use mathlib.Core.List.{List, [], _∷_, _++_}
 use mathlib.Core.Option.{Option, none, some}
 use lib.Dec.{eqb}
@@ -9,7 +9,7 @@ use Rattle.states.specs.Search.{Search, must}
 use Rattle.semantics.specs.Language.{Expr, Stmt}
 use Rattle.semantics.specs.States.{Machine}
 use Rattle.semantics.specs.Derivations.{Derivation, skip, assignment, sequence, parallel, conditional, iteration, weaken, namesOf, nodes, Tables, Spec, setOf, relationOf, specOf}
-use Rattle.semantics.specs.Conditions.{statementCode, targetOf, exprOf, firstOf, secondOf, isTrue, isFalse, c31, c32, c33, c35, c40, c41, c42, c43, c34if, c45, c46, c34while, c50, c51, c52, c53, c54, c55, c56, c34sequence, c60, c61, c34parallel, c65, c66, c70, c71, c72, c73}
+use Rattle.semantics.specs.Conditions.{statementCode, targetOf, exprOf, firstOf, secondOf, isTrue, isFalse, underTest, inRound, besides, c31, c32, c33, c34, c35, c36, c37, c38, c40, c41, c42, c43, c45, c46, c50, c51, c52, c53, c54, c55, c56, c57, c60, c61, c65, c66, c70, c71, c72, c73}
 
 -- A condition: its number, and the result of the search for a breach.
 pub record Condition : Type 0 where
@@ -19,29 +19,46 @@ pub record Condition : Type 0 where
 abbrev pub numbered : ℕ → Search → Condition
 numbered k found = record { number = k; breach = found }
 
--- A fault of a derivation: the number of the condition and of the node.
+-- A condition that is broken: its number, and the states that it names.
+pub record Breach : Type 0 where
+  pub number : ℕ
+  pub states : List ℕ
+
+-- A fault of a derivation: the condition that is broken, and the number of the node.
 pub record Broken : Type 0 where
   pub number : ℕ
+  pub states : List ℕ
   pub node : ℕ
 
-abbrev pub orNumber : ℕ → Search → Option ℕ → Option ℕ
-orNumber k none rest = rest
-orNumber k (some found) rest = some k
+abbrev pub orBreach : ℕ → Search → Option Breach → Option Breach
+orBreach k none rest = rest
+orBreach k (some found) rest = some (record { number = k; states = found })
 
--- The number of the first condition of a list that does not hold.
-abbrev pub firstBroken : List Condition → Option ℕ
+-- The first condition of a list that does not hold.
+abbrev pub firstBroken : List Condition → Option Breach
 firstBroken [] = none
-firstBroken (c ∷ rest) = orNumber (c .number) (c .breach) (firstBroken rest)
+firstBroken (c ∷ rest) = orBreach (c .number) (c .breach) (firstBroken rest)
 
 abbrev pub orBroken : Option Broken → Option Broken → Option Broken
 orBroken none rest = rest
 orBroken (some fault) rest = some fault
 
-abbrev pub atNode : ℕ → Option ℕ → Option Broken
+abbrev pub atNode : ℕ → Option Breach → Option Broken
 atNode node none = none
-atNode node (some k) = some (record { number = k; node = node })
+atNode node (some b) = some (record { number = b .number; states = b .states; node = node })
 
--- The conditions on a node of each rule, in the order of their numbers, over its own tables c and those of its children.
+abbrev pub isOneOf : List ℕ → ℕ → Bool
+isOneOf [] k = false
+isOneOf (j ∷ rest) k = eqb j k || isOneOf rest k
+
+-- How many states a broken condition names, by its number: the column "states" of docs/RULES.md.
+abbrev pub statesNamed : ℕ → ℕ
+statesNamed k =
+    cond (isOneOf (35 ∷ 40 ∷ 46 ∷ 51 ∷ 52 ∷ []) k) 1
+    (cond (isOneOf (31 ∷ 42 ∷ 43 ∷ 53 ∷ 54 ∷ 55 ∷ 56 ∷ 60 ∷ 66 ∷ []) k) 2
+    (cond (isOneOf (32 ∷ 33 ∷ 57 ∷ 61 ∷ []) k) 3 0))
+
+-- The conditions on a node of each rule, in the order in which they are asked, over its own tables c and those of its children.
 -- 30: the rule is that of the statement at hand. 30 to 33 are asked at every node.
 abbrev pub common : ℕ → Bool → Spec → List Condition
 common n fits c =
@@ -49,6 +66,34 @@ common n fits c =
     ∷ numbered 31 (c31 n c)
     ∷ numbered 32 (c32 n c)
     ∷ numbered 33 (c33 n c)
+    ∷ []
+
+-- The children's tables, against those that the rule asks for; the left child's come before the right's. If and while: all four.
+abbrev pub bodyTables : ℕ → Spec → Spec → List Condition
+bodyTables n asked d =
+    numbered 34 (c34 n asked d)
+    ∷ numbered 36 (c36 n asked d)
+    ∷ numbered 37 (c37 n asked d)
+    ∷ numbered 38 (c38 n asked d)
+    ∷ []
+
+-- Sequence: left has the same P, R, G, right the same R, G.
+abbrev pub sequenceTables : ℕ → Spec → Spec → Spec → List Condition
+sequenceTables n c l r =
+    numbered 34 (c34 n c l)
+    ∷ numbered 36 (c36 n c l)
+    ∷ numbered 37 (c37 n c l)
+    ∷ numbered 36 (c36 n c r)
+    ∷ numbered 37 (c37 n c r)
+    ∷ []
+
+-- Parallel: both P; left's R is R joined with right's G, right's R is R joined with left's G.
+abbrev pub parallelTables : ℕ → Spec → Spec → Spec → List Condition
+parallelTables n c l r =
+    numbered 34 (c34 n c l)
+    ∷ numbered 36 (c36 n (besides c r) l)
+    ∷ numbered 34 (c34 n c r)
+    ∷ numbered 36 (c36 n (besides c l) r)
     ∷ []
 
 abbrev pub skipObligations : ℕ → Bool → Spec → List Condition
@@ -69,33 +114,34 @@ assignmentObligations m fits c v e =
 abbrev pub sequenceObligations : ℕ → Bool → Spec → Spec → Spec → List Condition
 sequenceObligations n fits c l r =
     common n fits c
-    ++ numbered 34 (c34sequence n c l r)
-    ∷ numbered 60 (c60 n c l r)
+    ++ sequenceTables n c l r
+    ++ numbered 60 (c60 n c l r)
     ∷ numbered 61 (c61 n c l r)
     ∷ []
 
 abbrev pub parallelObligations : ℕ → Bool → Spec → Spec → Spec → List Condition
 parallelObligations n fits c l r =
     common n fits c
-    ++ numbered 34 (c34parallel n c l r)
-    ∷ numbered 65 (c65 n c l r)
+    ++ parallelTables n c l r
+    ++ numbered 65 (c65 n c l r)
     ∷ numbered 66 (c66 n c l r)
     ∷ []
 
 abbrev pub ifObligations : Machine → Bool → Spec → Expr → Spec → List Condition
 ifObligations m fits c e d =
     common (m .states) fits c
-    ++ numbered 34 (c34if (m .states) c (isTrue m e) d)
-    ∷ numbered 45 (c45 m c e)
+    ++ bodyTables (m .states) (underTest c (isTrue m e)) d
+    ++ numbered 45 (c45 m c e)
     ∷ numbered 46 (c46 (m .states) c (isFalse m e))
     ∷ []
 
 abbrev pub whileObligations : Machine → Bool → Spec → Expr → (ℕ → Bool) → (ℕ → ℕ → Bool) → Spec → List Condition
 whileObligations m fits c e K W d =
     common (m .states) fits c
-    ++ numbered 34 (c34while (m .states) c K W d)
-    ∷ numbered 50 (c50 m c e)
+    ++ bodyTables (m .states) (inRound c K W) d
+    ++ numbered 50 (c50 m c e)
     ∷ numbered 51 (c51 (m .states) W)
+    ∷ numbered 57 (c57 (m .states) W)
     ∷ numbered 52 (c52 (m .states) c (isTrue m e) K)
     ∷ numbered 53 (c53 (m .states) c K)
     ∷ numbered 54 (c54 (m .states) c (isFalse m e))

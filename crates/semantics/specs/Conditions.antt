@@ -3,7 +3,7 @@ use Prim.Native.Nat.{ℕ, _+_}
 use mathlib.Core.Bool.{Bool, true, false, cond, not, _&&_, _||_, Bool·beq}
 use mathlib.Core.Option.{Option, none, some}
 use lib.Dec.{leb, ltb, eqb}
-use Rattle.states.specs.Search.{implies, all, any, Search, must, given, named, orElse, each}
+use Rattle.states.specs.Search.{implies, all, any, Search, must, given, named, each}
 use Rattle.states.specs.Relations.{reach}
 use Rattle.semantics.specs.Language.{Expr, lit, var, op, int, Stmt, nil, assign, seq, par, if, while, eqZ}
 use Rattle.semantics.specs.States.{Machine, value, isTruth, storeOf}
@@ -115,34 +115,37 @@ module _ (n : ℕ) (c : Spec) where
   unfoldable pub c33 : Search
   c33 = inSet n (c .P) (λ s. inSet n (c .Q s) (λ t. inSet n (c .R t) (λ u. must (c .Q s u))))
 
-  -- The children's tables.
-  -- 34, if: P and the test true, T being the states at which it is; same R, G, Q.
-  unfoldable pub c34if : (ℕ → Bool) → Spec → Search
-  c34if T d =
-      must (sameSet n (d .P) (λ s. c .P s && T s) && sameRelation n (d .R) (c .R) && sameRelation n (d .G) (c .G)
-      && sameRelation n (d .Q) (c .Q))
-
-  -- 34, while: P met with K; same R, G; Q the pairs of W that end in P.
-  unfoldable pub c34while : (ℕ → Bool) → (ℕ → ℕ → Bool) → Spec → Search
-  c34while K W d =
-      must (sameSet n (d .P) (λ s. c .P s && K s) && sameRelation n (d .R) (c .R) && sameRelation n (d .G) (c .G)
-      && sameRelation n (d .Q) (λ s t. W s t && c .P t))
-
-  -- 34, sequence: left has the same P, R, G, right the same R, G.
-  unfoldable pub c34sequence : Spec → Spec → Search
-  c34sequence l r =
-      must (sameSet n (l .P) (c .P) && sameRelation n (l .R) (c .R) && sameRelation n (l .G) (c .G)
-      && sameRelation n (r .R) (c .R) && sameRelation n (r .G) (c .G))
-
-  -- 34, parallel: both P; left's R is R joined with right's G, right's R is R joined with left's G.
-  unfoldable pub c34parallel : Spec → Spec → Search
-  c34parallel l r =
-      must (sameSet n (l .P) (c .P) && sameSet n (r .P) (c .P) && sameRelation n (l .R) (λ s t. c .R s t || r .G s t)
-      && sameRelation n (r .R) (λ s t. c .R s t || l .G s t))
-
   -- Skip 35: s in P: (s,s) in Q.
   unfoldable pub c35 : Search
   c35 = inSet n (c .P) (λ s. must (c .Q s s))
+
+-- The tables that a rule asks of a child, c being the node's own.
+module _ (c : Spec) where
+  -- If, T being the states at which the test is true: P and the test true.
+  abbrev pub underTest : (ℕ → Bool) → Spec
+  underTest T = record { P = λ s. c .P s && T s; R = c .R; G = c .G; Q = c .Q }
+
+  -- While: P met with K; Q the pairs of W that end in P.
+  abbrev pub inRound : (ℕ → Bool) → (ℕ → ℕ → Bool) → Spec
+  inRound K W = record { P = λ s. c .P s && K s; R = c .R; G = c .G; Q = λ s t. W s t && c .P t }
+
+  -- Parallel: R joined with the other child's G.
+  abbrev pub besides : Spec → Spec
+  besides other = record { P = c .P; R = λ s t. c .R s t || other .G s t; G = c .G; Q = c .Q }
+
+-- A child's tables are the ones that are asked of it: 34 for P, 36 for R, 37 for G, 38 for Q.
+module _ (n : ℕ) (asked child : Spec) where
+  unfoldable pub c34 : Search
+  c34 = must (sameSet n (child .P) (asked .P))
+
+  unfoldable pub c36 : Search
+  c36 = must (sameRelation n (child .R) (asked .R))
+
+  unfoldable pub c37 : Search
+  c37 = must (sameRelation n (child .G) (asked .G))
+
+  unfoldable pub c38 : Search
+  c38 = must (sameRelation n (child .Q) (asked .Q))
 
 module _ (m : Machine) (c : Spec) where
   -- R moves no variable of an expression.
@@ -178,11 +181,13 @@ c46 n c F = inSet n (c .P) (λ s. given (F s) (must (c .Q s s)))
 unfoldable pub c50 : Machine → Spec → Expr → Search
 c50 m c e = must (leb (occurrences (moves m c) e) 1)
 
--- While 51: W is transitive and has no (s,s).
+-- While 51: W has no (s,s).
 unfoldable pub c51 : ℕ → (ℕ → ℕ → Bool) → Search
-c51 n W =
-    orElse (each n (λ s. must (not (W s s))))
-    (each n (λ s. inSet n (W s) (λ t. inSet n (W t) (λ u. must (W s u)))))
+c51 n W = each n (λ s. must (not (W s s)))
+
+-- While 57: (s,t) in W, (t,u) in W: (s,u) in W.
+unfoldable pub c57 : ℕ → (ℕ → ℕ → Bool) → Search
+c57 n W = each n (λ s. inSet n (W s) (λ t. inSet n (W t) (λ u. must (W s u))))
 
 module _ (n : ℕ) (c : Spec) where
   -- While, with its K and W, T and F being the states at which its test is true and false.
