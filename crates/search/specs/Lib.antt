@@ -1,0 +1,2 @@
+-- The states that a search finds, and the value that names them.
+pub mod Named
