@@ -5,3 +5,4 @@ pub mod Rows
 pub mod Stores
 pub mod Movement
 pub mod Asking
+pub mod Naming

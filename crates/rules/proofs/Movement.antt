@@ -29,7 +29,7 @@ use Rattle.evaluation.proofs.Laws.{get-past}
 use Rattle.rules.specs.Words.{wordSet, wordRelation, wordSpec}
 use Rattle.rules.proofs.Searches.{holds-inSet, within-holds, part-within}
 use Rattle.rules.proofs.Words.{set-small}
-use Rattle.rules.proofs.Rows.{any-itself}
+use Rattle.search.proofs.Breaches.{any-itself}
 
 eqZ-same : (z : ℤ) → eqZ z z ≡ true
 eqZ-same (pos n) = and-both _ _ (le-leb n n (le-refl n)) (le-leb n n (le-refl n))

@@ -141,11 +141,6 @@ pub at-other : (b : Bool) (x : Search) → b ≡ false → true ≡ holds (given
 unfolding given holds
 at-other b x e = rw e
 
-pub given-cong : (b : Bool) (x y : Search) → (b ≡ true → x ≡ y) → given b x ≡ given b y
-unfolding given
-given-cong true x y h = h refl
-given-cong false x y h = refl
-
 pub inSet-and : (n : ℕ) (p q : ℕ → Bool) (f : ℕ → Search)
     → inSet n (λ s. p s && q s) f ≡ inSet n p (λ s. given (q s) (f s))
 unfolding inSet given

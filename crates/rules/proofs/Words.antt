@@ -1,12 +1,13 @@
 -- The tables in the work words: a member of a set or of a row is a state below n that a set can hold.
-use Prim.Native.Nat.{ℕ, _<_}
+use Prim.Native.Nat.{ℕ, _<_, _≤_}
+use native.Mathlib.Omega.{arith}
 use mathlib.Core.Path.{_≡_, refl, sym, ap₂, _∙_, fun-ext, subst}
 use mathlib.Core.Logic.{_⊎_, ⊎-elim, inl, inr, _↔_}
 use mathlib.Core.Bool.{Bool, true, false, _&&_, _||_, Bool·beq, true≢false}
 use mathlib.Core.List.{List}
 use lib.Dec.{ltb, eqb}
 use borrow.Author.Tests.{lt-ltb, ltb-true, eqb-true}
-use Rattle.states.specs.Search.{all, any, Search, must, holds}
+use Rattle.states.specs.Search.{all, any, Search, must, each, holds}
 use Rattle.states.specs.Sets.{capacity, has}
 use Rattle.states.specs.declared.StateSet.{StateSet}
 use Rattle.states.specs.Relations.{rel, Reached, here, more, reach}
@@ -18,6 +19,7 @@ use Rattle.states.proofs.Reach.{reach-exact}
 use Rattle.semantics.specs.Conditions.{inSet, sameSet}
 use Rattle.rules.specs.Words.{wordSet, wordRelation}
 use Rattle.rules.proofs.Searches.{StatesOnly, all-bounds, inSet-same, inSet-part}
+use Rattle.search.proofs.Breaches.{in-set-all}
 
 -- Members that a set can hold, masked to the n states.
 pub masked : (p : ℕ → Bool) (n s : ℕ) → (p s ≡ true → s < capacity) → (p s && (ltb s capacity && ltb s n)) ≡ (ltb s n && p s)
@@ -53,6 +55,11 @@ pub all-through : (n : ℕ) (work : List ℕ) (a : ℕ) (f : ℕ → ℕ → Sea
 all-through n work a f x states p from all =
     inSet-same n _ p _ _ from (λ s. inSet-part n _ _ _ (λ t st out.
     let low = relation-small n work a s t st in absurd (true≢false (sym (all t ∙ and-both _ _ (lt-ltb t capacity (low .0)) (lt-ltb t n (low .1))) ∙ out))))
+
+-- If a set can hold all n states, a search through those below n is one at each.
+pub in-all : (n : ℕ) (states : StateSet) (f : ℕ → Search) → n ≤ capacity → ((s : ℕ) → has states s ≡ (ltb s capacity && ltb s n))
+    → inSet n (has states) f ≡ each n f
+in-all n states f most all = in-set-all n (has states) f (λ s l. all s ∙ and-both _ _ (lt-ltb s capacity (omega arith)) (lt-ltb s n l))
 
 pub same-cong : (n : ℕ) (x y : StateSet) (p q : ℕ → Bool) → ((s : ℕ) → has x s ≡ p s) → ((s : ℕ) → has y s ≡ q s)
     → sameSet n (has x) (has y) ≡ sameSet n p q
@@ -91,18 +98,25 @@ reached-set n rows s from reached low alone exact t = bool-ext _ _ (λ h. back .
     back = reach-exact n (rel n rows) (rel-between n rows) s t
 
 -- Every pair starts below n and ends at a state below n that a set can hold.
-abbrev pub Pairs : ℕ → (ℕ → ℕ → Bool) → Type 0
+abbrev Pairs : ℕ → (ℕ → ℕ → Bool) → Type 0
 Pairs n r = (s t : ℕ) → r s t ≡ true → (s < n) × ((t < capacity) × (t < n))
 
-pub relation-pairs : (n : ℕ) (work : List ℕ) (r : ℕ) → Pairs n (wordRelation n work r)
+relation-pairs : (n : ℕ) (work : List ℕ) (r : ℕ) → Pairs n (wordRelation n work r)
 unfolding wordRelation
 relation-pairs n work r s t h = (rel-between n _ s t h .0, rel-small n _ s t h)
 
-pub join-pairs : (n : ℕ) (f g : ℕ → ℕ → Bool) → Pairs n f → Pairs n g → Pairs n (λ s t. f s t || g s t)
+join-pairs : (n : ℕ) (f g : ℕ → ℕ → Bool) → Pairs n f → Pairs n g → Pairs n (λ s t. f s t || g s t)
 join-pairs n f g left right s t h = ⊎-elim (left s t) (right s t) (or-cases (f s t) (g s t) h)
 
+-- The changes that others or either side may make: the pairs of 66.
+abbrev pub anyone : ℕ → List ℕ → ℕ → ℕ → ℕ → ℕ → ℕ → Bool
+anyone n work r left right s t = wordRelation n work r s t || wordRelation n work left s t || wordRelation n work right s t
+
+anyone-pairs : (n : ℕ) (work : List ℕ) (r left right : ℕ) → Pairs n (anyone n work r left right)
+anyone-pairs n work r left right = join-pairs n _ _ (join-pairs n _ _ (relation-pairs n work r) (relation-pairs n work left)) (relation-pairs n work right)
+
 -- From a state that a set can hold, the pairs that start in such states suffice for the reach: no pair ends at any other state.
-pub reach-rows : (n : ℕ) (rows : List ℕ) (g : ℕ → ℕ → Bool) → Pairs n g → ((s t : ℕ) → rel n rows s t ≡ (ltb s capacity && g s t))
+reach-rows : (n : ℕ) (rows : List ℕ) (g : ℕ → ℕ → Bool) → Pairs n g → ((s t : ℕ) → rel n rows s t ≡ (ltb s capacity && g s t))
     → (s t : ℕ) → s < capacity → reach n (rel n rows) s t ≡ reach n g s t
 reach-rows n rows g pairs same s t low =
     let part = reach-exact n (rel n rows) (rel-between n rows) s t in
@@ -117,3 +131,7 @@ reach-rows n rows g pairs same s t low =
     into (here {s = a} e) = (rw (eqb-true s a e) at low, here e)
     into (more {s = a} {t = b} way e) =
         let before = into way in (pairs a b e .1 .0, more (before .1) (same a b ∙ and-both _ _ (lt-ltb a capacity (before .0)) e))
+
+pub anyone-reach : (n : ℕ) (work : List ℕ) (r left right : ℕ) (rows : List ℕ) → ((s t : ℕ) → rel n rows s t ≡ (ltb s capacity && anyone n work r left right s t))
+    → (s t : ℕ) → s < capacity → reach n (rel n rows) s t ≡ reach n (anyone n work r left right) s t
+anyone-reach n work r left right rows = reach-rows n rows (anyone n work r left right) (anyone-pairs n work r left right)

@@ -2,6 +2,7 @@
 use crate::NodeVerdict;
 use crate::ask;
 use crate::common;
+use crate::common_states;
 use crate::moving::moved;
 use crate::moving::unmoved;
 use crate::tables::row_at;
@@ -10,20 +11,25 @@ use crate::tables::set_at;
 use evaluation::successors;
 use handler::head::Head;
 use handler::head::states_in;
+use search::pairs::with_same;
+use search::Named;
+use search::least_pair;
+use search::least_state;
 use semantics::Names;
 use states::StateSet;
 use states::relations::included_from;
 use states::relations::row;
 use states::relations::starting;
 ghost use mathlib.Core.Path.{_≡_};
-ghost use mathlib.Core.Bool.{_||_};
+ghost use mathlib.Core.Bool.{Bool, _||_};
 ghost use lib.Dec.{eqb};
 ghost use Rattle.states.specs.Search.{must, holds, any};
 ghost use Rattle.states.specs.Relations.{rel};
 ghost use Rattle.semantics.specs.Conditions.{inSet};
 ghost use Rattle.rules.specs.Words.{wordSet, wordRelation, wordSpec};
 ghost use Rattle.rules.specs.declared.NodeVerdict.the-variants.{Holds};
-ghost use Rattle.rules.specs.Asking.{askedAll};
+ghost use Rattle.rules.specs.Asking.{askedAll, statesFor};
+ghost use Rattle.search.specs.Named.{naming};
 ghost use Rattle.handler.specs.Header.{machineIn};
 ghost use Rattle.evaluation.specs.Values.{exprIn};
 ghost use Rattle.semantics.specs.Checking.{assignmentObligations};
@@ -94,4 +100,29 @@ pub fn assignment_fault(
     );
     let found = ask(found, 42, store_in_post(n, work, own, &after));
     ask(found, 43, store_in_guarantee(n, work, own, &after))
+}
+
+// The states that the condition with this number names: s for 40; s, s′ for 42 and 43.
+pub fn assignment_states(
+    handler: &[u8],
+    head: Head,
+    work: &[u64],
+    own: Names,
+    v: u32,
+    expr: usize,
+    number: u32,
+) -> Named
+    ensures { λ r.
+        ⌜ ((fits : Bool) → r ≡ naming (statesFor number (assignmentObligations (machineIn head) fits
+        (wordSpec (machineIn head .states) (now (work .entry)) own) v (exprIn (now (handler .entry)) (head .count) expr)))) ⌝ }
+{
+    let n = states_in(head);
+    let p = set_at(n, work, own.p);
+    let after = successors(handler, head, v, expr);
+    match number {
+        40 => least_state(n, p, starting(n, &after)),
+        42 => least_pair(n, p, &after, rows_of(work, own.q)),
+        43 => least_pair(n, p, &after, &with_same(n, rows_of(work, own.g))),
+        _ => common_states(n, work, own, number),
+    }
 }

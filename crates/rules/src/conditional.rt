@@ -2,6 +2,7 @@
 use crate::NodeVerdict;
 use crate::ask;
 use crate::common;
+use crate::common_states;
 use crate::moving::moved;
 use crate::moving::unmoved;
 use crate::tables::same_relation;
@@ -11,32 +12,43 @@ use crate::tables::stays;
 use evaluation::truths_at;
 use handler::head::Head;
 use handler::head::states_in;
+use search::pairs::diagonal;
+use search::Named;
+use search::least_state;
+use crate::tables::rows_of;
 use semantics::Names;
 use states::StateSet;
 ghost use mathlib.Core.Path.{_≡_};
+ghost use mathlib.Core.Bool.{Bool};
 ghost use Rattle.states.specs.Search.{holds};
 ghost use Rattle.states.specs.Sets.{has};
-ghost use Rattle.semantics.specs.Conditions.{c34if, c46};
+ghost use Rattle.semantics.specs.Derivations.{Spec};
+ghost use Rattle.semantics.specs.Conditions.{underTest, c46};
 ghost use Rattle.rules.specs.Words.{wordSpec};
 ghost use Rattle.rules.specs.declared.NodeVerdict.the-variants.{Holds};
-ghost use Rattle.rules.specs.Asking.{askedAll};
+ghost use Rattle.rules.specs.Asking.{askedAll, statesFor};
+ghost use Rattle.search.specs.Named.{naming};
 ghost use Rattle.handler.specs.Header.{machineIn};
 ghost use Rattle.evaluation.specs.Values.{exprIn};
-ghost use Rattle.semantics.specs.Checking.{ifObligations};
+ghost use Rattle.semantics.specs.Checking.{bodyTables, ifObligations};
 
-// 34, if: P and the test true; same R, G, Q. The states where the test is true are given.
-pub fn if_tables(n: u32, work: &[u64], own: Names, truth: StateSet, child: Names) -> bool
-    ensures { λ out.
-        ⌜ out ≡ holds (c34if n (wordSpec n (now (work .entry)) own) (has truth) (wordSpec n (now (work .entry)) child)) ⌝ }
+// 34 and 36 to 38: P and the test true; same R, G, Q. The states where the test is true are given.
+fn if_tables(
+    found: NodeVerdict,
+    n: u32,
+    work: &[u64],
+    own: Names,
+    truth: StateSet,
+    child: Names,
+) -> NodeVerdict
+    ensures { λ r.
+        ⌜ r ≡ askedAll found (bodyTables n (underTest (wordSpec n (now (work .entry)) own) (has truth)) (wordSpec n (now (work .entry)) child)) ⌝ }
 {
-    same_set(
-        n,
-        set_at(n, work, child.p),
-        set_at(n, work, own.p).meet(truth),
-    )
-        & same_relation(n, work, child.r, own.r)
-        & same_relation(n, work, child.g, own.g)
-        & same_relation(n, work, child.q, own.q)
+    let asked = set_at(n, work, own.p).meet(truth);
+    let found = ask(found, 34, same_set(n, set_at(n, work, child.p), asked));
+    let found = ask(found, 36, same_relation(n, work, child.r, own.r));
+    let found = ask(found, 37, same_relation(n, work, child.g, own.g));
+    ask(found, 38, same_relation(n, work, child.q, own.q))
 }
 
 // 46: s in P, test false: (s,s) in Q.
@@ -64,11 +76,27 @@ pub fn if_fault(
     let truth = test.holds;
     let falsity = test.fails;
     let found = common(n, work, own, fits);
-    let found = ask(found, 34, if_tables(n, work, own, truth, child));
+    let found = if_tables(found, n, work, own, truth, child);
     let found = ask(
         found,
         45,
         unmoved(handler, head, moved(head, work, own), expr),
     );
     ask(found, 46, skip_satisfies_post(n, work, own, falsity))
+}
+
+// The states that the condition with this number names: s for 46.
+pub fn if_states(handler: &[u8], head: Head, work: &[u64], own: Names, expr: usize, number: u32) -> Named
+    ensures { λ r.
+        ⌜ ((fits : Bool) (child : Spec) → r ≡ naming (statesFor number (ifObligations (machineIn head) fits
+        (wordSpec (machineIn head .states) (now (work .entry)) own) (exprIn (now (handler .entry)) (head .count) expr) child))) ⌝ }
+{
+    let n = states_in(head);
+    if number == 46 {
+        let test = truths_at(handler, head, expr);
+        let from = set_at(n, work, own.p).meet(test.fails);
+        least_state(n, from, diagonal(n, rows_of(work, own.q)))
+    } else {
+        common_states(n, work, own, number)
+    }
 }

@@ -2,71 +2,87 @@
 use crate::NodeVerdict;
 use crate::ask;
 use crate::common;
+use crate::common_states;
 use crate::moving::moved;
 use crate::moving::read_once;
+use search::pairs::diagonal;
 use crate::tables::is_ending_in;
 use crate::tables::leads_into;
 use crate::tables::row_at;
+use crate::tables::rows_of;
 use crate::tables::same_relation;
 use crate::tables::same_set;
 use crate::tables::set_at;
 use evaluation::truths_at;
 use handler::head::Head;
 use handler::head::states_in;
+use search::pairs::all_into;
+use search::pairs::ending_in;
+use search::pairs::with_same;
+use search::Named;
+use search::least_chain;
+use search::least_pair;
+use search::least_state;
 use semantics::Names;
+use states::RELATION_WORDS;
 use states::StateSet;
 ghost use mathlib.Core.Path.{_≡_};
-ghost use mathlib.Core.Bool.{not, _&&_, _||_};
+ghost use mathlib.Core.Bool.{Bool, not, _&&_, _||_};
+ghost use Prim.Native.Nat.{ℕ, _<_};
 ghost use lib.Dec.{eqb};
 ghost use Rattle.states.specs.Search.{must, given, holds, implies, all};
 ghost use Rattle.states.specs.Sets.{capacity, has};
-ghost use Rattle.semantics.specs.Conditions.{inSet, c34while, c51, c53, c55, c52, c54, c56};
+ghost use Rattle.states.specs.Relations.{rel};
+ghost use Rattle.semantics.specs.Derivations.{Spec};
+ghost use Rattle.semantics.specs.Conditions.{inSet, inRound, c51, c57, c53, c55, c52, c54, c56};
 ghost use Rattle.rules.specs.Words.{wordSet, wordRelation, wordSpec};
 ghost use Rattle.rules.specs.declared.NodeVerdict.the-variants.{Holds};
-ghost use Rattle.rules.specs.Asking.{askedAll};
+ghost use Rattle.rules.specs.Asking.{askedAll, statesFor};
+ghost use Rattle.search.specs.Named.{naming};
 ghost use Rattle.handler.specs.Header.{machineIn};
 ghost use Rattle.evaluation.specs.Values.{exprIn};
-ghost use Rattle.semantics.specs.Checking.{whileObligations};
+ghost use Rattle.semantics.specs.Checking.{bodyTables, whileObligations};
 
-// 34, while: P met with K; same R, G; Q the pairs of W that end in P.
-pub fn while_tables(n: u32, work: &[u64], own: Names, k: u32, w: u32, child: Names) -> bool
-    ensures { λ out.
-        ⌜ out ≡ holds (c34while n (wordSpec n (now (work .entry)) own) (wordSet n (now (work .entry)) k)
-        (wordRelation n (now (work .entry)) w) (wordSpec n (now (work .entry)) child)) ⌝ }
+// 34 and 36 to 38: P met with K; same R, G; Q the pairs of W that end in P.
+fn while_tables(
+    found: NodeVerdict,
+    n: u32,
+    work: &[u64],
+    own: Names,
+    k: u32,
+    w: u32,
+    child: Names,
+) -> NodeVerdict
+    ensures { λ r.
+        ⌜ r ≡ askedAll found (bodyTables n (inRound (wordSpec n (now (work .entry)) own) (wordSet n (now (work .entry)) k)
+        (wordRelation n (now (work .entry)) w)) (wordSpec n (now (work .entry)) child)) ⌝ }
 {
-    same_set(
-        n,
-        set_at(n, work, child.p),
-        set_at(n, work, own.p).meet(set_at(n, work, k)),
-    )
-        & same_relation(n, work, child.r, own.r)
-        & same_relation(n, work, child.g, own.g)
-        & is_ending_in(n, work, child.q, w, own.p)
+    let asked = set_at(n, work, own.p).meet(set_at(n, work, k));
+    let found = ask(found, 34, same_set(n, set_at(n, work, child.p), asked));
+    let found = ask(found, 36, same_relation(n, work, child.r, own.r));
+    let found = ask(found, 37, same_relation(n, work, child.g, own.g));
+    ask(found, 38, is_ending_in(n, work, child.q, w, own.p))
 }
 
-fn descends_at(n: u32, work: &[u64], w: u32, s: u32) -> bool
-    ensures { λ out.
-        ⌜ out ≡ (holds (must (not (wordRelation n (now (work .entry)) w s s)))
-        && holds (inSet n (wordRelation n (now (work .entry)) w s)
-        (λ t. inSet n (wordRelation n (now (work .entry)) w t) (λ u. must (wordRelation n (now (work .entry)) w s u))))) ⌝ }
-{
-    let ends = row_at(n, work, w, s);
-    if ends.holds_state(s) {
-        false
-    } else {
-        leads_into(n, work, ends, w, ends)
-    }
+// Whether W is a strict order: it has no (s,s) (51), and it is transitive (57).
+pub struct Order {
+    pub apart: bool,
+    pub transitive: bool,
 }
 
-// 51: W is transitive and has no (s,s).
-pub fn strict_order(n: u32, work: &[u64], w: u32) -> bool
-    ensures { λ out. ⌜ out ≡ holds (c51 n (wordRelation n (now (work .entry)) w)) ⌝ }
+// 51: W has no (s,s). 57: (s,t) in W, (t,u) in W: (s,u) in W. Each row is looked at once for both.
+pub fn order_of(n: u32, work: &[u64], w: u32) -> Order
+    ensures apart { λ out. ⌜ out .apart ≡ holds (c51 n (wordRelation n (now (work .entry)) w)) ⌝ }
+    ensures transitive { λ out. ⌜ out .transitive ≡ holds (c57 n (wordRelation n (now (work .entry)) w)) ⌝ }
 {
-    let mut held = true;
+    let mut apart = true;
+    let mut transitive = true;
     for s in 0..n {
-        held = held & descends_at(n, work, w, s);
+        let ends = row_at(n, work, w, s);
+        apart = apart & !ends.holds_state(s);
+        transitive = transitive & leads_into(n, work, ends, w, ends);
     }
-    held
+    Order { apart, transitive }
 }
 
 // 52: s in P, test true: s in K.
@@ -162,6 +178,15 @@ pub fn exit_satisfies_post(n: u32, work: &[u64], own: Names, w: u32, falsity: St
     held
 }
 
+// The pairs (s,t) with t = s or (s,t) in the order, and t in the set.
+fn exits(n: u32, order: &[u64], into: StateSet) -> [u64; RELATION_WORDS]
+    ensures { λ r.
+        ⌜ ((s t : ℕ) → s < capacity → s < n → rel n r s t ≡ ((eqb s t || rel n (now (order .entry)) s t) && has into t)) ⌝ }
+{
+    let rounds = with_same(n, order);
+    ending_in(n, &rounds, into)
+}
+
 pub fn while_fault(
     handler: &[u8],
     head: Head,
@@ -183,16 +208,54 @@ pub fn while_fault(
     let truth = test.holds;
     let falsity = test.fails;
     let found = common(n, work, own, fits);
-    let found = ask(found, 34, while_tables(n, work, own, k, w, child));
+    let found = while_tables(found, n, work, own, k, w, child);
     let found = ask(
         found,
         50,
         read_once(handler, head, moved(head, work, own), expr),
     );
-    let found = ask(found, 51, strict_order(n, work, w));
+    let order = order_of(n, work, w);
+    let found = ask(found, 51, order.apart);
+    let found = ask(found, 57, order.transitive);
     let found = ask(found, 52, enters_k(n, work, own, k, truth));
     let found = ask(found, 53, keeps_k(n, work, own, k));
     let found = ask(found, 54, stays_false(n, work, own, falsity));
     let found = ask(found, 55, rely_descends(n, work, own, w));
     ask(found, 56, exit_satisfies_post(n, work, own, w, falsity))
+}
+
+// The states that the condition with this number names: s for 51 and 52; s, t for 53 to 56; s, t, u for 57.
+pub fn while_states(
+    handler: &[u8],
+    head: Head,
+    work: &[u64],
+    own: Names,
+    k: u32,
+    w: u32,
+    expr: usize,
+    number: u32,
+) -> Named
+    ensures { λ r.
+        ⌜ ((fits : Bool) (child : Spec) → r ≡ naming (statesFor number (whileObligations (machineIn head) fits
+        (wordSpec (machineIn head .states) (now (work .entry)) own) (exprIn (now (handler .entry)) (head .count) expr)
+        (wordSet (machineIn head .states) (now (work .entry)) k) (wordRelation (machineIn head .states) (now (work .entry)) w) child))) ⌝ }
+{
+    let n = states_in(head);
+    let test = truths_at(handler, head, expr);
+    let truth = test.holds;
+    let falsity = test.fails;
+    let p = set_at(n, work, own.p);
+    let inside = set_at(n, work, k);
+    let rely = rows_of(work, own.r);
+    let order = rows_of(work, w);
+    match number {
+        51 => least_state(n, diagonal(n, order), StateSet::empty()),
+        52 => least_state(n, p.meet(truth), inside),
+        53 => least_pair(n, p.meet(inside), rely, &all_into(inside)),
+        54 => least_pair(n, p.meet(falsity), rely, &all_into(falsity)),
+        55 => least_pair(n, p, rely, &with_same(n, order)),
+        56 => least_pair(n, p, &exits(n, order, p.meet(falsity)), rows_of(work, own.q)),
+        57 => least_chain(n, StateSet::below(n), order, order, order),
+        _ => common_states(n, work, own, number),
+    }
 }

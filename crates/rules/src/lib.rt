@@ -1,7 +1,10 @@
-// The conditions of each rule, on the tables in the work words, each equal to its definition. A rule checks its conditions from 30
-// upwards and keeps the first that failed; all are checked, because an accepted pair needs them all.
+// The conditions of each rule, on the tables in the work words, each equal to its definition. A rule checks its conditions in their order
+// and keeps the number of the first that failed; all are checked, because an accepted pair needs them all. The states that a failed
+// condition names are looked for afterwards, by its number, so an accepted pair does not pay for them.
 use assignment::assignment_fault;
+use assignment::assignment_states;
 use conditional::if_fault;
+use conditional::if_states;
 use derivation::ASSIGNMENT;
 use derivation::IF;
 use derivation::Node;
@@ -13,17 +16,29 @@ use handler::head::Head;
 use handler::head::states_in;
 use handler::table::Statement;
 use iteration::while_fault;
+use iteration::while_states;
+use search::pairs::all_into;
 use parallel::parallel_fault;
+use parallel::parallel_states;
+use search::Named;
+use search::least_chain;
+use search::least_pair;
 use semantics::Names;
 use sequence::sequence_fault;
+use sequence::sequence_states;
 use skip::skip_fault;
+use skip::skip_states;
 use stability::stable_under_rely;
+use tables::rows_of;
+use tables::set_at;
 use weaken::weaken_fault;
 ghost use mathlib.Core.Path.{_≡_};
+ghost use mathlib.Core.Bool.{Bool};
 ghost use Rattle.rules.specs.Words.{wordSpec};
-ghost use Rattle.semantics.specs.Checking.{common as commonObligations};
+ghost use Rattle.semantics.specs.Checking.{firstBroken, common as commonObligations};
 ghost use Rattle.rules.specs.declared.NodeVerdict.the-variants.{Holds};
-ghost use Rattle.rules.specs.Asking.{asked, askedAll};
+ghost use Rattle.rules.specs.Asking.{asked, askedAll, statesFor, faultOf};
+ghost use Rattle.search.specs.Named.{naming};
 ghost use Rattle.rules.specs.Obligations.{obligationsIn};
 
 pub mod assignment;
@@ -41,6 +56,12 @@ pub mod weaken;
 pub enum NodeVerdict {
     Holds,
     Breaks(u32),
+}
+
+// All conditions of a node hold, or the number of the first that failed and the states that it names.
+pub enum NodeFault {
+    Nothing,
+    Broken(u32, Named),
 }
 
 // One more condition, by its number and whether it holds.
@@ -70,9 +91,24 @@ pub fn common(n: u32, work: &[u64], own: Names, fits: bool) -> NodeVerdict
     ask(found, 33, held.after)
 }
 
+// The states that 31, 32 or 33 names, by its number. No other number has states here.
+pub fn common_states(n: u32, work: &[u64], own: Names, number: u32) -> Named
+    ensures { λ r. ⌜ ((fits : Bool) → r ≡ naming (statesFor number (commonObligations n fits (wordSpec n (now (work .entry)) own)))) ⌝ }
+{
+    let p = set_at(n, work, own.p);
+    let r = rows_of(work, own.r);
+    let q = rows_of(work, own.q);
+    match number {
+        31 => least_pair(n, p, r, &all_into(p)),
+        32 => least_chain(n, p, r, q, q),
+        33 => least_chain(n, p, q, r, q),
+        _ => Named::Nothing,
+    }
+}
+
 // The verdict of a node's conditions over a statement, by the node's rule. `first` and `second` are its children, as far as the rule
 // has them; a weaken fits every statement.
-pub fn node_fault(
+fn node_verdict(
     handler: &[u8],
     head: Head,
     work: &[u64],
@@ -119,5 +155,59 @@ pub fn node_fault(
             expr,
         ),
         _ => weaken_fault(n, work, own, left),
+    }
+}
+
+// The states that the condition with this number names, where it is the first of a node's conditions that failed; by the node's rule, as
+// above. A weaken names none of its own.
+fn node_states(
+    handler: &[u8],
+    head: Head,
+    work: &[u64],
+    node: Node,
+    statement: Statement,
+    first: Node,
+    second: Node,
+    number: u32,
+) -> Named
+    ensures { λ r.
+        ⌜ r ≡ naming (statesFor number (obligationsIn (now (handler .entry)) head (now (work .entry)) node statement first second)) ⌝ }
+{
+    let n = states_in(head);
+    let own = node.names;
+    let left = first.names;
+    let right = second.names;
+    let expr = statement.expr;
+    let rule = node.rule;
+    match rule {
+        SKIP => skip_states(n, work, own, number),
+        ASSIGNMENT => assignment_states(handler, head, work, own, statement.target, expr, number),
+        SEQUENCE => sequence_states(n, work, own, left, right, number),
+        PARALLEL => parallel_states(n, work, own, left, right, number),
+        IF => if_states(handler, head, work, own, expr, number),
+        WHILE => while_states(handler, head, work, own, node.k, node.w, expr, number),
+        _ => common_states(n, work, own, number),
+    }
+}
+
+// The first of a node's conditions over a statement that failed, with the states that it names.
+pub fn node_fault(
+    handler: &[u8],
+    head: Head,
+    work: &[u64],
+    node: Node,
+    statement: Statement,
+    first: Node,
+    second: Node,
+) -> NodeFault
+    ensures { λ r.
+        ⌜ r ≡ faultOf (firstBroken (obligationsIn (now (handler .entry)) head (now (work .entry)) node statement first second)) ⌝ }
+{
+    match node_verdict(handler, head, work, node, statement, first, second) {
+        NodeVerdict::Holds => NodeFault::Nothing,
+        NodeVerdict::Breaks(number) => {
+            let states = node_states(handler, head, work, node, statement, first, second, number);
+            NodeFault::Broken(number, states)
+        }
     }
 }

@@ -1,6 +1,7 @@
 // The tables in the work words, by number, and what the conditions compare: entry i is set i, and the rows of relation r start at entry
 // 16 + CAPACITY r. Any n and any words are accepted: only the states below n are looked at, and an entry past the end is empty.
 use derivation::MOST_TABLES;
+use semantics::Names;
 use states::CAPACITY;
 use states::StateSet;
 use states::entries::entries_from;
@@ -13,9 +14,9 @@ ghost use mathlib.Core.Bool.{_&&_, _||_};
 ghost use Prim.Native.Nat.{ℕ, _+_, _*_};
 ghost use Rattle.states.specs.Search.{must, given, holds};
 ghost use Rattle.states.specs.Sets.{setWords, capacity, has};
-ghost use Rattle.semantics.specs.Conditions.{inSet, sameSet, sameRelation, setLiesIn, relationLiesIn};
+ghost use Rattle.semantics.specs.Conditions.{inSet, sameSet, sameRelation, setLiesIn, relationLiesIn, c34};
 ghost use Rattle.derivation.specs.Tables.{mostTables};
-ghost use Rattle.rules.specs.Words.{wordSet, wordRelation};
+ghost use Rattle.rules.specs.Words.{wordSet, wordRelation, wordSpec};
 ghost use lib.ListN.{drop};
 
 pub fn set_at(n: u32, work: &[u64], i: u32) -> StateSet
@@ -142,6 +143,13 @@ pub fn same_set(n: u32, a: StateSet, b: StateSet) -> bool
 {
     let states = StateSet::below(n);
     a.meet(states).same(b.meet(states))
+}
+
+// 34 for a child that is asked to have the node's own P.
+pub fn same_pre(n: u32, work: &[u64], own: Names, child: Names) -> bool
+    ensures { λ out. ⌜ out ≡ holds (c34 n (wordSpec n (now (work .entry)) own) (wordSpec n (now (work .entry)) child)) ⌝ }
+{
+    same_set(n, set_at(n, work, child.p), set_at(n, work, own.p))
 }
 
 // Whether a and b have the same pairs. A table is the same as itself and need not be compared.

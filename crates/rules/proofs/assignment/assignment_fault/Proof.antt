@@ -1,6 +1,7 @@
 -- 30 to 33, then 40 to 43; the code's n is the machine's, and the rows say where a store leads.
-use mathlib.Core.Path.{_∙_}
+use mathlib.Core.Path.{_∙_, ap}
 use borrow.Author.Needs.{needs}
+use Rattle.states.specs.Search.{holds}
 use Rattle.handler.specs.Header.{machineIn}
 use Rattle.evaluation.specs.Values.{exprIn}
 use Rattle.rules.specs.Words.{wordSpec}
@@ -23,10 +24,10 @@ returns c =
     (asked-then 42 _
     (asked-then 41 _
     (asked-then 40 _ (rw n at (c .before .before .before .before .before .before .before .before .before .before .before .before .common .ensures))
-    (c .before .before .before .before .before .before .before .before .before .ask .ensures) (rw n at (c .before .before .before .before .before .before .before .before .before .before .in-range .ensures) ∙ in-range-40 (a .head) (a .v) e _ rows own))
+    (c .before .before .before .before .before .before .before .before .before .ask .ensures) (rw n at (c .before .before .before .before .before .before .before .before .before .before .in-range .ensures) ∙ ap holds (in-range-40 (a .head) (a .v) e _ rows own)))
     (c .before .before .before .before .before .before .ask2 .ensures) still)
-    (c .before .before .before .ask3 .ensures) (rw n at (c .before .before .before .before .store-in-post .ensures) ∙ store-in-post-42 (a .head) (a .v) e _ rows own))
-    (c .ask4 .ensures) (rw n at (c .before .store-in-guarantee .ensures) ∙ store-in-guarantee-43 (a .head) (a .v) e _ rows own)
+    (c .before .before .before .ask3 .ensures) (rw n at (c .before .before .before .before .store-in-post .ensures) ∙ ap holds (store-in-post-42 (a .head) (a .v) e _ rows own)))
+    (c .ask4 .ensures) (rw n at (c .before .store-in-guarantee .ensures) ∙ ap holds (store-in-guarantee-43 (a .head) (a .v) e _ rows own))
 
 pub assignment-fault-spec : {M : Type 1} → statement M
 assignment-fault-spec =

@@ -1,28 +1,35 @@
 -- Each comparison is the one that the condition names.
 use Prim.Native.Nat.{ℕ}
-use mathlib.Core.Path.{_∙_, sym, ap, ap₂}
+use mathlib.Core.Path.{_∙_, sym, ap, refl}
 use mathlib.Core.Bool.{_&&_}
 use borrow.Author.Needs.{needs}
-use Rattle.states.proofs.Search.{holds-must}
 use Rattle.states.specs.Sets.{has}
-use Rattle.semantics.specs.Conditions.{c34if}
+use Rattle.states.proofs.Search.{holds-must}
+use Rattle.semantics.specs.Conditions.{c34, c36, c37, c38}
+use Rattle.rules.proofs.Asking.{asked-then}
 use Rattle.rules.proofs.Words.{same-cong}
 use Rattle.rules.proofs.conditional.if_tables.Statement.{statement}
 use Rattle.rules.proofs.conditional.if_tables.Tie as tie
 
 returns : tie.Need-returns
-unfolding c34if
+unfolding c34 c36 c37 c38
 returns c =
-    let d = c .before .before .before in
-    let e = d .before .before in
-    let truth = e .before .before .before .args .truth in
-    let met : (s : ℕ) → _ = λ s. d .before .meet .ensures s ∙ ap (λ b. b && has truth s) (e .set-at2 .ensures s) in
-    let sets = d .same-set .ensures ∙ same-cong _ _ _ _ _ (e .before .set-at .ensures) met in
-    ap₂ _&&_ (ap₂ _&&_ (ap₂ _&&_ sets (c .before .before .same-relation .ensures)) (c .before .same-relation2 .ensures)) (c .same-relation3 .ensures)
-    ∙ sym (holds-must _)
+    let sets = c .before .before .before .before .before .before .before in
+    let met : (s : ℕ) → _ = λ s. sets .before .before .meet .ensures s ∙ ap (λ b. b && has (sets .before .before .before .before .before .args .truth) s) (sets .before .before .before .set-at .ensures s) in
+    let same-pre = sets .same-set .ensures ∙ same-cong _ _ _ _ _ (sets .before .set-at2 .ensures) met ∙ sym (holds-must _) in
+    asked-then 38 _
+    (asked-then 37 _
+    (asked-then 36 _
+    (asked-then 34 _ refl (c .before .before .before .before .before .before .ask .ensures) same-pre)
+    (c .before .before .before .before .ask2 .ensures) (c .before .before .before .before .before .same-relation .ensures ∙ sym (holds-must _)))
+    (c .before .before .ask3 .ensures) (c .before .before .before .same-relation2 .ensures ∙ sym (holds-must _)))
+    (c .ask4 .ensures) (c .before .same-relation3 .ensures ∙ sym (holds-must _))
 
 pub if-tables-spec : {M : Type 1} → statement M
 if-tables-spec =
     tie.close
-    (tie.spec (λ c κs. search needs) (λ c κs. search needs) (λ c κs. search needs) (λ c κs. search needs) (λ c κs. search needs)
-    (λ c κs. search needs) (λ c κs. search needs) returns)
+    (tie.spec
+    (λ c κs. search needs) (λ c κs. search needs) (λ c κs. search needs) (λ c κs. search needs) (λ c κs. search needs)
+    (λ c κs. search needs) (λ c κs. search needs) (λ c κs. search needs) (λ c κs. search needs) (λ c κs. search needs)
+    (λ c κs. search needs)
+    returns)

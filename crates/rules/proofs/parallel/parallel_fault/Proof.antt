@@ -1,4 +1,4 @@
--- 30 to 33, then 34, 65 and 66.
+-- 30 to 33, then the children's tables, 65 and 66.
 use borrow.Author.Needs.{needs}
 use Rattle.rules.proofs.Asking.{asked-then}
 use Rattle.rules.proofs.parallel.parallel_fault.Statement.{statement}
@@ -8,15 +8,13 @@ returns : tie.Need-returns
 returns c =
     asked-then 66 _
     (asked-then 65 _
-    (asked-then 34 _
-    (c .before .before .before .before .before .before .common .ensures)
-    (c .before .before .before .before .ask .ensures) (c .before .before .before .before .before .parallel-tables .ensures))
-    (c .before .before .ask2 .ensures) (c .before .before .before .guarantees-within .ensures))
-    (c .ask3 .ensures) (c .before .parallel-post .ensures)
+    (rw (c .before .before .before .before .before .common .ensures) at (c .before .before .before .before .parallel-tables .ensures))
+    (c .before .before .ask .ensures) (c .before .before .before .guarantees-within .ensures))
+    (c .ask2 .ensures) (c .before .parallel-post .ensures)
 
 pub parallel-fault-spec : {M : Type 1} → statement M
 parallel-fault-spec =
     tie.close
     (tie.spec
-    (λ c κs. search needs) (λ c κs. search needs) (λ c κs. search needs) (λ c κs. search needs) (λ c κs. search needs) (λ c κs. search needs) (λ c κs. search needs)
+    (λ c κs. search needs) (λ c κs. search needs) (λ c κs. search needs) (λ c κs. search needs) (λ c κs. search needs) (λ c κs. search needs)
     returns)

@@ -2,7 +2,7 @@
 use Prim.Native.Nat.{ℕ, _≤_, _-_}
 use native.Mathlib.Omega.{arith}
 use mathlib.Core.Path.{_≡_, _∙_, ap, ap₂, fun-ext, refl}
-use mathlib.Core.Bool.{Bool, _&&_, _||_}
+use mathlib.Core.Bool.{Bool, _&&_}
 use mathlib.Core.List.{List}
 use lib.Dec.{ltb}
 use borrow.Author.Needs.{needs}
@@ -12,8 +12,9 @@ use Rattle.states.specs.Relations.{rel, reach}
 use Rattle.semantics.specs.Conditions.{inSet, c66}
 use Rattle.semantics.specs.declared.Names.{Names}
 use Rattle.rules.specs.Words.{wordSet, wordRelation}
-use Rattle.rules.proofs.Searches.{holds-next, each-done, given-cong}
-use Rattle.rules.proofs.Words.{set-small, relation-pairs, join-pairs, reach-rows, Pairs}
+use Rattle.rules.proofs.Searches.{holds-next, each-done}
+use Rattle.search.proofs.Breaches.{given-cong}
+use Rattle.rules.proofs.Words.{set-small, anyone, anyone-reach}
 use Rattle.rules.proofs.parallel.parallel_post.Statement.{statement}
 use Rattle.rules.proofs.parallel.parallel_post.Tie as tie
 
@@ -24,7 +25,7 @@ at n work own left right moves s =
     (λ t. must (wordRelation n work (own .q) s t)))
 
 abbrev whole : ℕ → List ℕ → Names → Names → Names → ℕ → ℕ → Bool
-whole n work own left right s t = wordRelation n work (own .r) s t || wordRelation n work (left .g) s t || wordRelation n work (right .g) s t
+whole n work own left right = anyone n work (own .r) (left .g) (right .g)
 
 same-reach : (n : ℕ) (work : List ℕ) (own left right : Names) (rows : List ℕ)
     → ((s t : ℕ) → rel n rows s t ≡ (ltb s capacity && whole n work own left right s t))
@@ -32,10 +33,7 @@ same-reach : (n : ℕ) (work : List ℕ) (own left right : Names) (rows : List �
 same-reach n work own left right rows same s =
     given-cong _ _ _ (λ e. ap (λ p. inSet n p (λ t. must (wordRelation n work (own .q) s t)))
     (fun-ext (λ t. ap (λ b. wordRelation n work (left .q) s t && wordRelation n work (right .q) s t && b)
-    (reach-rows n rows (whole n work own left right) pairs same s t (set-small n work (own .p) s e .0)))))
-  where
-    pairs : Pairs n (whole n work own left right)
-    pairs = join-pairs n _ _ (join-pairs n _ _ (relation-pairs n work (own .r)) (relation-pairs n work (left .g))) (relation-pairs n work (right .g))
+    (anyone-reach n work (own .r) (left .g) (right .g) rows same s t (set-small n work (own .p) s e .0)))))
 
 abbrev Inv-loop : tie.InvT-loop
 Inv-loop n work own left right moves held₀ s₀ held s = (s ≤ n) × (held ≡ holds (each s (at n work own left right (whole n work own left right))))

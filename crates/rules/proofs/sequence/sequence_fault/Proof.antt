@@ -1,4 +1,4 @@
--- 30 to 33, then 34, 60 and 61.
+-- 30 to 33, then the children's tables, 60 and 61.
 use borrow.Author.Needs.{needs}
 use Rattle.rules.proofs.Asking.{asked-then}
 use Rattle.rules.proofs.sequence.sequence_fault.Statement.{statement}
@@ -8,15 +8,13 @@ returns : tie.Need-returns
 returns c =
     asked-then 61 _
     (asked-then 60 _
-    (asked-then 34 _
-    (c .before .before .before .before .before .before .common .ensures)
-    (c .before .before .before .before .ask .ensures) (c .before .before .before .before .before .sequence-tables .ensures))
-    (c .before .before .ask2 .ensures) (c .before .before .before .left-meets-right .ensures))
-    (c .ask3 .ensures) (c .before .sequence-post .ensures)
+    (rw (c .before .before .before .before .before .common .ensures) at (c .before .before .before .before .sequence-tables .ensures))
+    (c .before .before .ask .ensures) (c .before .before .before .left-meets-right .ensures))
+    (c .ask2 .ensures) (c .before .sequence-post .ensures)
 
 pub sequence-fault-spec : {M : Type 1} → statement M
 sequence-fault-spec =
     tie.close
     (tie.spec
-    (λ c κs. search needs) (λ c κs. search needs) (λ c κs. search needs) (λ c κs. search needs) (λ c κs. search needs) (λ c κs. search needs) (λ c κs. search needs)
+    (λ c κs. search needs) (λ c κs. search needs) (λ c κs. search needs) (λ c κs. search needs) (λ c κs. search needs) (λ c κs. search needs)
     returns)
