@@ -15,7 +15,7 @@ use Rattle.semantics.specs.Language.{Expr, Stmt, nil, assign, seq, par, if, whi
 use Rattle.semantics.specs.States.{Machine}
 use Rattle.semantics.specs.Derivations.{Derivation, skip, assignment, sequence, parallel, conditional, iteration, weaken, namesOf, nodes, Tables, setOf, relationOf, specOf}
 use Rattle.semantics.specs.Conditions.{statementCode}
-use Rattle.semantics.specs.Checking.{Broken, firstBroken, skipObligations, assignmentObligations, sequenceObligations, parallelObligations, ifObligations, whileObligations, weakenObligations, obligations}
+use Rattle.semantics.specs.Checking.{Breach, Broken, firstBroken, skipObligations, assignmentObligations, sequenceObligations, parallelObligations, ifObligations, whileObligations, weakenObligations, obligations}
 use Rattle.handler.specs.Header.{headOf, machineIn}
 use Rattle.evaluation.specs.Values.{exprIn}
 use Rattle.evaluation.proofs.Laws.{expr-whole}
@@ -93,7 +93,7 @@ module _ (env : Decoded) where
         Q = relation-is (namesOf d .q) (names .Q-below) j;
       }
 
-  abbrev pub own : ℕ → ℕ → Option ℕ
+  abbrev pub own : ℕ → ℕ → Option Breach
   own i s = firstBroken (obligationsAt (env .bytes) (headOf (env .sizes)) (env .work) (env .nodeTable) (env .statementTable) i s)
 
   abbrev pub faults : ℕ → ℕ → ℕ → Option Broken

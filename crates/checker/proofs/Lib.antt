@@ -8,3 +8,4 @@ pub mod Judging
 pub mod Acceptance
 pub mod Promised
 pub mod Bounds
+pub mod Names

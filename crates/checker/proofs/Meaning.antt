@@ -7,7 +7,7 @@ use native.Mathlib.Omega.{arith}
 use Rattle.semantics.specs.Language.{Stmt}
 use Rattle.semantics.specs.Derivations.{Derivation, skip, assignment, sequence, parallel, conditional, iteration, weaken, nodes}
 use Rattle.semantics.specs.Conditions.{firstOf, secondOf}
-use Rattle.semantics.specs.Checking.{Broken, firstBroken, orBroken, atNode, obligations, firstFault}
+use Rattle.semantics.specs.Checking.{Breach, Broken, firstBroken, orBroken, atNode, obligations, firstFault}
 use Rattle.semantics.proofs.Clear.{clear, says30}
 use Rattle.handler.specs.StatementTable.{statements}
 use Rattle.derivation.specs.NodeTable.{ruleOf}
@@ -19,7 +19,7 @@ or-assoc none b c = refl
 or-assoc (some x) b c = refl
 
 -- A broken condition of a node ends the search; otherwise the search goes on with the nodes after it.
-pass : (i : ℕ) (o : Option ℕ) (below next rest : Option Broken) → (o ≡ none → next ≡ orBroken below rest)
+pass : (i : ℕ) (o : Option Breach) (below next rest : Option Broken) → (o ≡ none → next ≡ orBroken below rest)
     → orBroken (atNode i o) next ≡ orBroken (orBroken (atNode i o) below) rest
 pass i none below next rest on = on refl
 pass i (some k) below next rest on = refl

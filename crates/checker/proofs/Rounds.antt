@@ -2,36 +2,51 @@
 use Prim.Native.Nat.{ℕ, suc, _+_, _-_, _≤_, _<_}
 use native.Mathlib.Numerals.{add-one}
 use native.Mathlib.Omega.{arith}
-use mathlib.Core.Path.{_≡_, sym, _∙_}
+use mathlib.Core.Path.{_≡_, refl}
 use mathlib.Core.Bool.{Bool, true, false, cond}
 use mathlib.Core.List.{List}
 use lib.Dec.{eqb}
-use mathlib.Core.Option.{none, some}
-use Rattle.semantics.specs.Checking.{firstBroken}
+use mathlib.Core.Option.{Option, none, some}
+use Rattle.semantics.specs.Checking.{Breach, firstBroken, orBroken, atNode}
+use Rattle.semantics.specs.Checking as Broken
 use Rattle.handler.specs.declared.head.Head.{Head}
 use Rattle.derivation.specs.NodeTable.{nodeIn}
-use Rattle.rules.specs.declared.NodeVerdict.the-variants.{Holds, Breaks}
-use Rattle.rules.specs.Asking.{askedAll}
-use Rattle.rules.proofs.Asking.{first-asked, none-broken, one-broken}
-use Rattle.checker.specs.Nodes.{statementAfter, obligationsAt, faultsFrom}
+use Rattle.rules.specs.declared.NodeFault.the-variants.{Nothing, Broken}
+use Rattle.search.specs.declared.Named.{Named}
+use Rattle.search.specs.Named.{naming}
+use Rattle.rules.specs.Asking.{faultOf}
+use Rattle.checker.specs.Nodes.{statementAfter, obligationsAt, faultsFrom, faultFound}
+use Rattle.checker.specs.declared.nodes.FirstFault.the-variants as first
+
+-- What a node's fault says of its conditions.
+whole : (o : Option Breach) → faultOf o ≡ Nothing → o ≡ none
+whole none e = refl
+whole (some b) e = absurd (let z : _≡_ {A = ℕ} 0 1 = cc in omega arith)
+
+broken : (i : ℕ) (o : Option Breach) (k : ℕ) (states : Named) (rest : Option Broken.Broken) → faultOf o ≡ Broken k states
+    → faultFound (orBroken (atNode i o) rest) ≡ first.Broken k i states
+broken i none k states rest e = absurd (let z : _≡_ {A = ℕ} 0 1 = cc in omega arith)
+broken i (some b) k states rest e = let number : b .number ≡ k = cc in let names : naming (b .states) ≡ states = cc in rw (number, names)
 
 module _ (bytes : List ℕ) (head : Head) (work nodes statements : List ℕ) (count i s : ℕ) where
-  pub goes-on : i < count → askedAll Holds (obligationsAt bytes head work nodes statements i s) ≡ Holds
+  abbrev own : Option Breach
+  own = firstBroken (obligationsAt bytes head work nodes statements i s)
+
+  pub goes-on : i < count → faultOf own ≡ Nothing
       → faultsFrom bytes head work nodes statements (count - i) i s
       ≡ faultsFrom bytes head work nodes statements (count - (i + 1)) (i + 1) (statementAfter (nodeIn nodes i .rule) s)
   unfolding faultsFrom
   goes-on more holds =
       let left : count - i ≡ suc (count - (i + 1)) = omega arith in
-      let clear : firstBroken (obligationsAt bytes head work nodes statements i s) ≡ none = none-broken _ (sym (first-asked (obligationsAt bytes head work nodes statements i s)) ∙ holds) in
+      let clear : own ≡ none = whole own holds in
       rw (left, clear, add-one)
 
-  pub ends-at : i < count → (k : ℕ) → askedAll Holds (obligationsAt bytes head work nodes statements i s) ≡ Breaks k
-      → faultsFrom bytes head work nodes statements (count - i) i s ≡ some (record { number = k; node = i })
+  pub ends-at : i < count → (k : ℕ) (states : Named) → faultOf own ≡ Broken k states
+      → faultFound (faultsFrom bytes head work nodes statements (count - i) i s) ≡ first.Broken k i states
   unfolding faultsFrom
-  ends-at more k broken =
+  ends-at more k states found =
       let left : count - i ≡ suc (count - (i + 1)) = omega arith in
-      let first : firstBroken (obligationsAt bytes head work nodes statements i s) ≡ some k = one-broken _ k (sym (first-asked (obligationsAt bytes head work nodes statements i s)) ∙ broken) in
-      rw (left, first)
+      rw left (broken i own k states _ found)
 
   pub no-more : count ≤ i → faultsFrom bytes head work nodes statements (count - i) i s ≡ none
   unfolding faultsFrom

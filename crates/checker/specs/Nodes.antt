@@ -1,4 +1,4 @@
--- The loop over the nodes of the table: nodes by number, conditions by number.
+-- The loop over the nodes of the table: nodes by number, a node's conditions in their order.
 use Prim.Native.Nat.{ℕ, zero, suc}
 use mathlib.Core.Bool.{cond}
 use mathlib.Core.List.{List}
@@ -8,6 +8,7 @@ use Rattle.semantics.specs.Checking.{Condition, Broken, firstBroken, orBroken, 
 use Rattle.handler.specs.declared.head.Head.{Head}
 use Rattle.handler.specs.StatementTable.{statementIn}
 use Rattle.derivation.specs.NodeTable.{nodeIn}
+use Rattle.search.specs.Named.{naming}
 use Rattle.rules.specs.Obligations.{obligationsIn}
 use Rattle.checker.specs.declared.nodes.FirstFault.{FirstFault}
 use Rattle.checker.specs.declared.nodes.FirstFault.the-variants as first
@@ -31,4 +32,4 @@ module _ (bytes : List ℕ) (head : Head) (work nodes statements : List ℕ) whe
 -- The code's answer.
 abbrev pub faultFound : Option Broken → FirstFault
 faultFound none = first.Nothing
-faultFound (some b) = first.Broken (b .number) (b .node)
+faultFound (some b) = first.Broken (b .number) (b .node) (naming (b .states))

@@ -16,7 +16,7 @@ use Rattle.checker.specs.declared.Verdict.{Verdict}
 use Rattle.checker.specs.declared.Verdict.the-variants.{Accepted}
 use Rattle.checker.specs.declared.nodes.FirstFault.{FirstFault}
 use Rattle.checker.specs.declared.nodes.FirstFault.the-variants as first
-use Rattle.checker.specs.Verdicts.{refusedAt}
+use Rattle.checker.specs.Verdicts.{refusedNaming, refusedAt}
 
 -- A handler file that was read: its head, its table of statements, and its step number, capped at 2 ^ 32.
 pub record Handled (hb : List ℕ) (head : Head) (statements : List ℕ) (steps : ℕ) : Type 0 where
@@ -30,5 +30,5 @@ pub record Handled (hb : List ℕ) (head : Head) (statements : List ℕ) (steps 
 
 -- The verdict from what the loop found and the step number; 80 last, at node 0.
 abbrev pub decided : FirstFault → ℕ → Verdict
-decided (first.Broken k node) steps = refusedAt k (Node node)
+decided (first.Broken k node states) steps = refusedNaming k (Node node) states
 decided first.Nothing steps = cond (ltb (2 ^ 32 - 1) steps) (refusedAt 80 (Node 0)) (Accepted steps)

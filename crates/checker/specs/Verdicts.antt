@@ -1,5 +1,5 @@
 -- docs/FORMAT.md, "Order of faults": 1, 2, the handler file front to back, 16, the proof file front to back, nodes by number,
--- conditions by number, 80 last.
+-- a node's conditions in their order, 80 last.
 use Prim.Native.Nat.{ℕ, _-_, _^_}
 use mathlib.Core.Path.{_≡_}
 use mathlib.Core.Bool.{Bool, true, false, cond, _||_}
@@ -16,14 +16,21 @@ use Rattle.semantics.specs.Promise.{Promise}
 use Rattle.handler.specs.Reading.{HandlerRead, handler, refused, readHandler}
 use Rattle.derivation.specs.Tables.{workWords, inSetOf, inRelationOf, tableWord, written}
 use Rattle.derivation.specs.Reading as Proofs
+use Rattle.search.specs.declared.Named.{Named}
+use Rattle.search.specs.declared.Named.the-variants.{Nothing}
+use Rattle.search.specs.Named.{naming}
 use Rattle.checker.specs.declared.Place.{Place}
 use Rattle.checker.specs.declared.Place.the-variants.{Bit, Node}
 use Rattle.checker.specs.declared.Verdict.{Verdict}
 use Rattle.checker.specs.declared.Verdict.the-variants.{Accepted, Refused}
 
--- A fault carries its number and a place that is a bit or a node.
+-- A fault carries its number, a place that is a bit or a node, and the states that a condition names.
+abbrev pub refusedNaming : ℕ → Place → Named → Verdict
+refusedNaming k place states = Refused (record { number = k; place = place; states = states })
+
+-- Most faults name no states.
 abbrev pub refusedAt : ℕ → Place → Verdict
-refusedAt k place = Refused (record { number = k; place = place })
+refusedAt k place = refusedNaming k place Nothing
 
 -- The tables of a proof file with `sets` sets, over variables of these sizes.
 abbrev pub tablesOf : List ℕ → List ℕ → ℕ → Tables
@@ -52,7 +59,7 @@ onSteps k words = cond (ltb (2 ^ 32 - 1) k) (cleared (refusedAt 80 (Node 0))) (l
 
 abbrev pub onFault : Option Broken → ℕ → (ℕ → ℕ) → CheckResult
 onFault none k words = onSteps k words
-onFault (some b) k words = cleared (refusedAt (b .number) (Node (b .node)))
+onFault (some b) k words = cleared (refusedNaming (b .number) (Node (b .node)) (naming (b .states)))
 
 module _ (pb : List ℕ) where
   abbrev pub onProof : List ℕ → Stmt → Proofs.ProofRead → CheckResult

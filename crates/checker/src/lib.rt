@@ -7,13 +7,14 @@ use handler::head::Head;
 use handler::reading::read_handler;
 use nodes::FirstFault;
 use nodes::first_fault;
+use search::Named;
 ghost use mathlib.Core.Path.{_≡_};
 ghost use Prim.Native.Nat.{_≤_};
 ghost use lib.ListN.{length};
 ghost use Rattle.handler.specs.Reading.{readHandler};
 ghost use Rattle.derivation.specs.Tables.{workWords, written};
 ghost use Rattle.checker.specs.declared.Place.the-variants.{Bit, Node};
-ghost use Rattle.checker.specs.Verdicts.{refusedAt, onHandler, answer, workAfter, AcceptedIsSound};
+ghost use Rattle.checker.specs.Verdicts.{refusedNaming, refusedAt, onHandler, answer, workAfter, AcceptedIsSound};
 ghost use Rattle.checker.specs.Refinement.{Handled, decided};
 
 pub mod nodes;
@@ -39,10 +40,11 @@ pub enum Place {
     Node(u32),
 }
 
-// A fault: its number, and its place.
+// A fault: its number, its place, and the states that a broken condition names.
 pub struct Fault {
     pub number: u32,
     pub place: Place,
+    pub states: Named,
 }
 
 // The result of the check of two files: the step number, or the first fault.
@@ -58,16 +60,18 @@ fn at_bit(number: u32, place: usize) -> Verdict
     Verdict::Refused(Fault {
         number,
         place: Place::Bit(place),
+        states: Named::Nothing,
     })
 }
 
 // A refusal at a node of the derivation.
-fn at_node(number: u32, node: u32) -> Verdict
-    ensures { λ r. ⌜ r ≡ refusedAt number (Node node) ⌝ }
+fn at_node(number: u32, node: u32, states: Named) -> Verdict
+    ensures { λ r. ⌜ r ≡ refusedNaming number (Node node) states ⌝ }
 {
     Verdict::Refused(Fault {
         number,
         place: Place::Node(node),
+        states,
     })
 }
 
@@ -76,10 +80,10 @@ fn decide(found: FirstFault, steps: u64) -> Verdict
     ensures { λ r. ⌜ r ≡ decided found steps ⌝ }
 {
     match found {
-        FirstFault::Broken(number, node) => at_node(number, node),
+        FirstFault::Broken(number, node, states) => at_node(number, node, states),
         FirstFault::Nothing => {
             if steps > MOST_STEPS {
-                return at_node(MANY_STEPS, 0);
+                return at_node(MANY_STEPS, 0, Named::Nothing);
             }
             Verdict::Accepted(steps as u32)
         }

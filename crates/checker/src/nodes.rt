@@ -4,22 +4,23 @@ use derivation::WEAKEN;
 use derivation::table::node_at;
 use handler::head::Head;
 use handler::table::statement_at;
-use rules::NodeVerdict;
+use rules::NodeFault;
 use rules::node_fault;
+use search::Named;
 ghost use mathlib.Core.Path.{_≡_};
 ghost use Prim.Native.Nat.{_+_, _^_, _<_};
 ghost use Rattle.derivation.specs.NodeTable.{nodeIn};
-ghost use Rattle.rules.specs.declared.NodeVerdict.the-variants.{Holds};
-ghost use Rattle.rules.specs.Asking.{askedAll};
+ghost use Rattle.semantics.specs.Checking.{firstBroken};
+ghost use Rattle.rules.specs.Asking.{faultOf};
 ghost use Rattle.checker.specs.Nodes.{statementAfter, obligationsAt, faultsFrom, faultFound};
 
-// No fault, or the number and the node of the first condition that is broken.
+// No fault, or the first condition that is broken: its number, its node, and the states that it names.
 pub enum FirstFault {
     Nothing,
-    Broken(u32, u32),
+    Broken(u32, u32, Named),
 }
 
-// The verdict of the conditions of node i over statement s.
+// The first of the conditions of node i over statement s that is broken.
 fn fault_at(
     handler: &[u8],
     head: Head,
@@ -28,9 +29,9 @@ fn fault_at(
     statements: &[u64],
     i: u32,
     s: u32,
-) -> NodeVerdict
+) -> NodeFault
     ensures { λ r.
-        ⌜ r ≡ askedAll Holds (obligationsAt (now (handler .entry)) head (now (work .entry)) (now (nodes .entry)) (now (statements .entry)) i s) ⌝ }
+        ⌜ r ≡ faultOf (firstBroken (obligationsAt (now (handler .entry)) head (now (work .entry)) (now (nodes .entry)) (now (statements .entry)) i s)) ⌝ }
 {
     let at = i as usize;
     let node = node_at(nodes, at);
@@ -71,7 +72,7 @@ pub fn first_fault(
 {
     let mut s = 0;
     for i in 0..count {
-        if let NodeVerdict::Breaks(number) = fault_at(
+        if let NodeFault::Broken(number, states) = fault_at(
             handler,
             head,
             work,
@@ -80,7 +81,7 @@ pub fn first_fault(
             i,
             s,
         ) {
-            return FirstFault::Broken(number, i);
+            return FirstFault::Broken(number, i, states);
         }
         s = statement_after(nodes, i, s);
     }

@@ -3,8 +3,8 @@ use mathlib.Core.Path.{_∙_, ap}
 use native.Mathlib.Numerals.{add-one}
 use borrow.Author.Needs.{needs}
 use Rattle.derivation.specs.NodeTable.{nodeIn}
-use Rattle.rules.specs.declared.NodeVerdict.the-variants.{Holds}
-use Rattle.rules.specs.Asking.{askedAll}
+use Rattle.semantics.specs.Checking.{firstBroken}
+use Rattle.rules.specs.Asking.{faultOf}
 use Rattle.rules.specs.Obligations.{obligationsIn}
 use Rattle.checker.specs.Nodes.{obligationsAt}
 use Rattle.checker.proofs.nodes.fault_at.Statement.{statement}
@@ -18,7 +18,7 @@ returns c =
     let first = c .before .before .before .before .node-at2 .ensures ∙ ap (nodeIn (a .nodes .now)) (add-one (a .i)) in
     let second = c .before .before .node-at3 .ensures ∙ ap (λ x. nodeIn (a .nodes .now) (x .after)) node in
     c .node-fault .ensures
-    ∙ (λ j. askedAll Holds (obligationsIn (a .handler .now) (a .head) (a .work .now) (node j) (c .before .statement-at .ensures j) (first j) (second j)))
+    ∙ (λ j. faultOf (firstBroken (obligationsIn (a .handler .now) (a .head) (a .work .now) (node j) (c .before .statement-at .ensures j) (first j) (second j))))
 
 pub fault-at-spec : {M : Type 1} → statement M
 fault-at-spec =

@@ -24,7 +24,7 @@ loop-holds c =
 returns : tie.Need-returns Inv-loop μ-loop
 returns c =
     let l = c .before .before .before .before .before in
-    sym (ap faultFound (l .loop .inv .2 ∙ ends-at _ _ _ _ _ _ _ _ (omega arith) _ (sym (c .before .before .before .fault-at .ensures) ∙ c .before .number .given .1)))
+    sym (ap faultFound (l .loop .inv .2) ∙ ends-at _ _ _ _ _ _ _ _ (omega arith) _ _ (sym (c .before .before .before .fault-at .ensures) ∙ c .before .number .given .1))
 
 loop-again : tie.Need-loop-again Inv-loop μ-loop
 loop-again c =
