@@ -1,0 +1,4 @@
+pub mod FirstBits
+pub mod Viewing
+pub mod Refusals
+pub mod Cases

@@ -1,0 +1,2 @@
+-- Where a refusal is shown in the two files.
+pub mod View
