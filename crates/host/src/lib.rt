@@ -1,21 +1,37 @@
-// The C interface for hosts (include/handover.h): the check of two files with the verdict as one number, and the root of two files.
+// The C interface for hosts (include/handover.h): the check of two files with the verdict as one number, the states that its refusal
+// names, the root of two files, and where a refusal is shown.
 ghost use mathlib.Core.Path.{_≡_};
 ghost use lib.ListN.{length};
 ghost use Rattle.checker.specs.Verdicts.{answer, workAfter, AcceptedIsSound};
-ghost use Rattle.report.specs.Code.{codeOf, decoded};
+ghost use Rattle.report.specs.Code.{codeOf, withoutStates, decoded};
+ghost use Rattle.report.specs.States.{statesOf, statesNumber, statesDecoded};
 ghost use Rattle.report.specs.Root.{rootOf};
+ghost use Rattle.viewer.specs.View.{viewOf};
 
 // The check of two files over the host's work words. The result is the verdict as one number, `codeOf`: below 2 ^ 32 it is the step number
-// of an accepted pair, else the fault's number, the kind of its place and the place. `decoded` of it is the verdict, for every pair of
-// files, and what acceptance promises is promised of what is decoded.
+// of an accepted pair, else the fault's number, the kind of its place and the place. `decoded` of it is the verdict but for the states,
+// for every pair of files, and what acceptance promises is promised of what is decoded.
 #[no_mangle]
 pub extern "C" fn handover_check(handler: &[u8], proof: &[u8], work: &mut [u64]) -> u64
     ensures number { λ r. ⌜ r ≡ codeOf (answer (now (handler .entry)) (now (proof .entry)) (length (now (work .entry))) .verdict) ⌝ }
-    ensures verdict { λ r. ⌜ decoded r ≡ answer (now (handler .entry)) (now (proof .entry)) (length (now (work .entry))) .verdict ⌝ }
+    ensures verdict { λ r. ⌜ decoded r ≡ withoutStates (answer (now (handler .entry)) (now (proof .entry)) (length (now (work .entry))) .verdict) ⌝ }
     ensures words { λ _. ⌜ now (work .exit) ≡ workAfter (now (handler .entry)) (now (proof .entry)) (now (work .entry)) ⌝ }
     ensures promise { λ r. ⌜ AcceptedIsSound (now (handler .entry)) (now (proof .entry)) (decoded r) ⌝ }
 {
     report::code_of(checker::check(handler, proof, work))
+}
+
+// The check once more, for the states that its refusal names: how many, and then up to three of 8 bits each, `statesNumber`; 0 for an
+// accepted pair and where none are named. `statesDecoded` of it is the list of the states. The work words end as after `handover_check`.
+#[no_mangle]
+pub extern "C" fn handover_states(handler: &[u8], proof: &[u8], work: &mut [u64]) -> u64
+    ensures number { λ r.
+        ⌜ r ≡ statesNumber (statesOf (answer (now (handler .entry)) (now (proof .entry)) (length (now (work .entry))) .verdict)) ⌝ }
+    ensures states { λ r.
+        ⌜ statesDecoded r ≡ statesOf (answer (now (handler .entry)) (now (proof .entry)) (length (now (work .entry))) .verdict) ⌝ }
+    ensures words { λ _. ⌜ now (work .exit) ≡ workAfter (now (handler .entry)) (now (proof .entry)) (now (work .entry)) ⌝ }
+{
+    report::states_code(checker::check(handler, proof, work))
 }
 
 // N and the numbers of the root's P, R, G and Q, 8 bits each, or 0 where a file is too long or ill-formed: what a host must know of a pair
@@ -25,4 +41,13 @@ pub extern "C" fn handover_root(handler: &[u8], proof: &[u8]) -> u64
     ensures { λ r. ⌜ r ≡ rootOf (now (handler .entry)) (now (proof .entry)) ⌝ }
 {
     report::root::root_number(handler, proof)
+}
+
+// Where a refusal's number with its place is shown: the file, 0 the handler file and 1 the proof file, × 2 ^ 32, and the index of the first
+// byte, which is the file's length where none of its bytes are shown. The kind of the place is 0 for a bit and 1 for a node.
+#[no_mangle]
+pub extern "C" fn handover_view(handler: &[u8], proof: &[u8], number: u32, kind: u32, place: u64) -> u64
+    ensures { λ r. ⌜ r ≡ viewOf (now (handler .entry)) (now (proof .entry)) number kind place ⌝ }
+{
+    viewer::view_number(handler, proof, number, kind, place)
 }

@@ -1,19 +1,24 @@
--- A verdict can be recovered from its code: quotients and remainders by powers of two give its parts, and every verdict of the check is
--- small enough (`bounded` of `checker`).
-use Prim.Native.Nat.{ℕ, _+_, _*_, _/_, _%_, _^_, _<_}
+-- A verdict can be recovered from its code, and its states from theirs: quotients and remainders by powers of two give the parts, and
+-- every verdict of the check is small enough (`bounded` and `names-states` of `checker`).
+use Prim.Native.Nat.{ℕ, _+_, _*_, _/_, _%_, _^_, _≤_, _<_}
 use mathlib.Core.Path.{_≡_, refl}
 use mathlib.Core.Bool.{false}
-use mathlib.Core.List.{List}
+use mathlib.Core.List.{List, [], _∷_}
 use native.Mathlib.Omega.{arith}
 use lib.Dec.{ltb}
 use borrow.Author.Tests.{lt-ltb, le-ltb}
-use Rattle.checker.specs.Verdicts.{refusedAt, answer}
+use Rattle.states.specs.Sets.{capacity}
+use Rattle.semantics.specs.Checking.{statesNamed}
+use Rattle.semantics.proofs.Naming.{Named, nothing, state, few-named}
+use Rattle.checker.specs.Verdicts.{refusedAt, answer, AcceptedIsSound}
 use Rattle.checker.specs.declared.Place.{Place}
 use Rattle.checker.specs.declared.Place.the-variants.{Bit, Node}
 use Rattle.checker.specs.declared.Verdict.{Verdict}
 use Rattle.checker.specs.declared.Verdict.the-variants.{Accepted, Refused}
 use Rattle.checker.proofs.Bounds.{PlaceBounded, Bounded, bounded}
-use Rattle.report.specs.Code.{placeKind, indexOf, codeOf, Lossless, decoded}
+use Rattle.checker.proofs.Names.{NamesStates, names-states}
+use Rattle.report.specs.Code.{placeKind, indexOf, codeOf, withoutStates, Lossless, decoded}
+use Rattle.report.specs.States.{statesOf, statesNumber, statesDecoded}
 
 -- The parts of a refusal's code.
 parts : (number kind index : ℕ) → 0 < number → number < 2 ^ 31 → kind < 2 → index < 2 ^ 32
@@ -31,9 +36,9 @@ refused-back number (Node k) positive below h =
     let p = parts number 1 k positive below (omega arith) h (codeOf (refusedAt number (Node k))) refl in
     rw (p .0, p .1, p .2, p .3)
 
--- A code that cuts nothing off determines its verdict.
-pub decoded-back : (v : Verdict) → Lossless v → decoded (codeOf v) ≡ v
-unfolding decoded codeOf
+-- A code that cuts nothing off determines its verdict but for the states.
+pub decoded-back : (v : Verdict) → Lossless v → decoded (codeOf v) ≡ withoutStates v
+unfolding decoded codeOf withoutStates
 decoded-back (Accepted n) h = rw (lt-ltb n (2 ^ 32) h)
 decoded-back (Refused f) h = refused-back (f .number) (f .place) (h .0) (h .1) (h .2)
 
@@ -46,6 +51,38 @@ lossless : (v : Verdict) → Bounded v → Lossless v
 lossless (Accepted n) h = h
 lossless (Refused f) h = (h .0, omega arith, place-small (f .place) (h .2))
 
--- The code of every verdict of the check determines it, whatever the files are.
-pub answer-decoded : (hb pb : List ℕ) (words : ℕ) → decoded (codeOf (answer hb pb words .verdict)) ≡ answer hb pb words .verdict
+-- The code of every verdict of the check determines it but for the states, whatever the files are.
+pub answer-decoded : (hb pb : List ℕ) (words : ℕ) → decoded (codeOf (answer hb pb words .verdict)) ≡ withoutStates (answer hb pb words .verdict)
 answer-decoded hb pb words = let v = answer hb pb words .verdict in decoded-back v (lossless v (bounded hb pb words))
+
+-- A verdict without its states accepts what the verdict accepts.
+pub accepted-alike : (hb pb : List ℕ) (v : Verdict) → AcceptedIsSound hb pb v → AcceptedIsSound hb pb (withoutStates v)
+unfolding withoutStates
+accepted-alike hb pb (Accepted n) sound = sound
+accepted-alike hb pb (Refused f) sound = record { sound = λ k e. absurd (let z : _≡_ {A = ℕ} 0 1 = cc in omega arith) }
+
+-- The parts of the number of up to three states below 64.
+fields : (count s t u : ℕ) → s < 64 → t < 64 → u < 64 → (code : ℕ) → code ≡ count * 2 ^ 24 + s + 2 ^ 8 * t + 2 ^ 16 * u
+    → (code / 2 ^ 24 ≡ count) × (code % 2 ^ 8 ≡ s) × (code / 2 ^ 8 % 2 ^ 8 ≡ t) × (code / 2 ^ 16 % 2 ^ 8 ≡ u)
+fields count s t u low low′ low″ code e = (omega arith, omega arith, omega arith, omega arith)
+
+states-back : (k : ℕ) (states : List ℕ) → k ≤ 3 → Named capacity k states → statesDecoded (statesNumber states) ≡ states
+unfolding statesDecoded statesNumber
+states-back k states few nothing = refl
+states-back k states few (state {s = s} low nothing) =
+    let p = fields 1 s 0 0 low (omega arith) (omega arith) (statesNumber (s ∷ [])) refl in rw (p .0, p .1)
+states-back k states few (state {s = s} low (state {s = t} low′ nothing)) =
+    let p = fields 2 s t 0 low low′ (omega arith) (statesNumber (s ∷ t ∷ [])) refl in rw (p .0, p .1, p .2)
+states-back k states few (state {s = s} low (state {s = t} low′ (state {s = u} low″ nothing))) =
+    let p = fields 3 s t u low low′ low″ (statesNumber (s ∷ t ∷ u ∷ [])) refl in rw (p .0, p .1, p .2, p .3)
+states-back k states few (state low (state low′ (state low″ (state low‴ more)))) = absurd (omega arith)
+
+-- The states of every verdict of the check can be recovered, whatever the files are.
+pub states-decoded : (hb pb : List ℕ) (words : ℕ)
+    → statesDecoded (statesNumber (statesOf (answer hb pb words .verdict))) ≡ statesOf (answer hb pb words .verdict)
+unfolding statesOf
+states-decoded hb pb words = by (answer hb pb words .verdict) (names-states hb pb words)
+  where
+    by : (v : Verdict) → NamesStates v → statesDecoded (statesNumber (statesOf v)) ≡ statesOf v
+    by (Accepted n) p = states-back 0 (statesOf (Accepted n)) (omega arith) nothing
+    by (Refused f) p = states-back (statesNamed (f .number)) (statesOf (Refused f)) (few-named (f .number)) p

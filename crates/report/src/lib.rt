@@ -3,11 +3,14 @@ ghost use mathlib.Core.Path.{_≡_};
 ghost use Prim.Native.Nat.{_+_, _≤_};
 ghost use mathlib.Core.List.{_++_};
 ghost use lib.ListN.{length};
+ghost use Rattle.search.specs.Named.{listed};
 ghost use Rattle.report.specs.Code.{codeOf};
+ghost use Rattle.report.specs.States.{statesOf, statesNumber};
 ghost use Rattle.report.specs.Line.{decimal, placeText, verdictText, lineInto, lineLength};
 ghost use Rattle.report.specs.Put.{Put};
 use checker::Place;
 use checker::Verdict;
+use search::Named;
 
 pub mod root;
 
@@ -15,6 +18,13 @@ pub mod root;
 const NUMBERS: u64 = 2147483648;
 
 const PLACES: u64 = 4294967296;
+
+// What the number of states, the second and the third of them count in the number for a host.
+const COUNT: u64 = 16777216;
+
+const SECOND: u64 = 256;
+
+const THIRD: u64 = 65536;
 
 // So many bytes hold every line.
 pub const LINE_BYTES: usize = 64;
@@ -32,6 +42,31 @@ pub fn code_of(v: Verdict) -> u64
                 Place::Bit(i) => number * PLACES + i as u64 % PLACES,
                 Place::Node(k) => (number + 1) * PLACES + k as u64 % PLACES,
             }
+        }
+    }
+}
+
+// Up to three states as one number: how many, and each in 8 bits.
+fn named_code(states: Named) -> u64
+    ensures { λ r. ⌜ r ≡ statesNumber (listed states) ⌝ }
+{
+    match states {
+        Named::Nothing => 0,
+        Named::One(s) => COUNT + s as u64,
+        Named::Two(s, t) => 2 * COUNT + s as u64 + SECOND * t as u64,
+        Named::Three(s, t, u) => 3 * COUNT + s as u64 + SECOND * t as u64 + THIRD * u as u64,
+    }
+}
+
+// The states that a refusal names as one number, for a host that calls over the C interface.
+pub fn states_code(v: Verdict) -> u64
+    ensures { λ r. ⌜ r ≡ statesNumber (statesOf v) ⌝ }
+{
+    match v {
+        Verdict::Accepted(_steps) => 0,
+        Verdict::Refused(fault) => {
+            let states = fault.states;
+            named_code(states)
         }
     }
 }

@@ -1,10 +1,11 @@
--- The number is the code of the check's verdict, which it determines (`answer-decoded`); so the check's promise is that of what is decoded.
+-- The number is the code of the check's verdict, which it determines but for the states (`answer-decoded`); so the check's promise is that
+-- of what is decoded.
 use mathlib.Core.Path.{_≡_, sym, _∙_, ap, subst}
 use borrow.Author.Needs.{needs}
 use lib.ListN.{length}
 use Rattle.checker.specs.Verdicts.{answer, AcceptedIsSound}
-use Rattle.report.specs.Code.{codeOf, decoded}
-use Rattle.report.proofs.Decoding.{answer-decoded}
+use Rattle.report.specs.Code.{codeOf, withoutStates, decoded}
+use Rattle.report.proofs.Decoding.{answer-decoded, accepted-alike}
 use Rattle.host.proofs.handover_check.Statement.{statement}
 use Rattle.host.proofs.handover_check.Tie as tie
 
@@ -15,8 +16,9 @@ returns c =
     let v = answer (a .handler .now) (a .proof .now) (length (a .work .now)) .verdict in
     let checked : k .result ≡ v = k .ensures .0 in
     let number = c .code-of .ensures ∙ ap codeOf checked in
-    let verdict : decoded (c .code-of .result) ≡ v = ap decoded number ∙ answer-decoded _ _ _ in
-    (number, (verdict, (k .ensures .1 .0, subst (AcceptedIsSound (a .handler .now) (a .proof .now)) (checked ∙ sym verdict) (k .ensures .1 .1))))
+    let verdict : decoded (c .code-of .result) ≡ withoutStates v = ap decoded number ∙ answer-decoded _ _ _ in
+    (number, (verdict, (k .ensures .1 .0, subst (AcceptedIsSound (a .handler .now) (a .proof .now)) (sym verdict)
+    (accepted-alike _ _ v (subst (AcceptedIsSound (a .handler .now) (a .proof .now)) checked (k .ensures .1 .1))))))
 
 pub handover-check-spec : {M : Type 1} → statement M
 handover-check-spec = tie.close (tie.spec (λ c κs. search needs) (λ c κs. search needs) (λ c. search needs) returns)
