@@ -1,6 +1,7 @@
 /* check HANDLER PROOF: checks two files over the C interface and prints the line that the check program prints. On acceptance it
    also prints what a host must know of the pair: the number of states N, and the root's precondition P (a set of states), rely R,
-   guarantee G and postcondition Q (sets of pairs of states).
+   guarantee G and postcondition Q (sets of pairs of states). On refusal it prints what helps to find the fault: the states that
+   break the condition, and the first byte at the place.
 
    Exit status: 0 accepted, 1 refused, 2 no verdict (bad arguments, a file that cannot be read, output that cannot be written). */
 #include "handover.h"
@@ -84,6 +85,33 @@ static void print_root(const uint64_t *work, uint64_t root)
     print_relation("Q", work, handover_root_postcondition(root), states);
 }
 
+/* The states that a refusal names, in the order of docs/RULES.md. */
+static void print_states(uint64_t states)
+{
+    uint32_t count = handover_states_count(states);
+    printf("states:%s", count == 0 ? " none" : "");
+    for (uint32_t i = 0; i < count; i++) {
+        printf(" %" PRIu32, handover_states_at(states, i));
+    }
+    printf("\n");
+}
+
+/* The first byte at the place of a refusal, if the place is in a file. */
+static void print_place(const struct file *handler, const struct file *proof, uint64_t answer)
+{
+    uint64_t view = handover_view(handler->bytes, handler->length, proof->bytes, proof->length, handover_number(answer),
+                                  (uint32_t)handover_kind(answer), handover_place(answer));
+    bool in_proof = handover_view_file(view) == HANDOVER_PROOF_FILE;
+    const struct file *file = in_proof ? proof : handler;
+    const char *name = in_proof ? "proof" : "handler";
+    size_t index = handover_view_index(view);
+    if (index < file->length) {
+        printf("place: byte %zu of the %s file, %02X\n", index, name, file->bytes[index]);
+    } else {
+        printf("place: no byte of the %s file\n", name);
+    }
+}
+
 int main(int argc, char **argv)
 {
     /* Static, because a file and the work words take 24 KiB; each is an object of its own, so none overlaps another. */
@@ -102,6 +130,9 @@ int main(int argc, char **argv)
     if (handover_accepted(answer)) {
         /* Not 0: both files of an accepted pair are well-formed. */
         print_root(work, handover_root(handler.bytes, handler.length, proof.bytes, proof.length));
+    } else {
+        print_states(handover_states(handler.bytes, handler.length, proof.bytes, proof.length, work, HANDOVER_WORK_WORDS));
+        print_place(&handler, &proof, answer);
     }
     if (fflush(stdout) != 0 || ferror(stdout) != 0) {
         fprintf(stderr, "check: cannot write: %s\n", strerror(errno));

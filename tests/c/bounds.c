@@ -1,4 +1,4 @@
-/* bounds FILE: the two calls read and write nothing outside their buffers, over the pairs of a file (pairs.h).
+/* bounds FILE: the four calls read and write nothing outside their buffers, over the pairs of a file (pairs.h).
 
    The files and the work words are put right before a page that cannot be accessed, and then right after one, so that an access
    one byte outside ends the program by a signal. The answers and the words must be those of a call with ordinary buffers, and the
@@ -29,21 +29,77 @@ static uint8_t *placed(uint8_t *room, size_t length, bool at_end)
 
 static struct pair pair;
 static uint64_t plain_work[HANDOVER_WORK_WORDS];
+static uint64_t plain_states_work[HANDOVER_WORK_WORDS];
 static uint8_t *rooms[3];
 
-/* Whether both calls do with guarded buffers what they do with ordinary ones. */
-static bool same_at(bool at_end, uint64_t answer, uint64_t root)
+/* Places that are asked for with each pair, besides that of its refusal: in the files and just past them, nodes and bits. */
+enum { PLACES = 7 };
+
+/* What the calls answer. */
+struct answers {
+    uint64_t check;
+    uint64_t root;
+    uint64_t states;
+    uint64_t views[PLACES];
+};
+
+/* The views of two files, the place of a refusal first. */
+static void look(const uint8_t *handler, const uint8_t *proof, uint64_t check, uint64_t views[PLACES])
 {
+    const uint64_t handler_bits = 8 * pair.handler_len, proof_bits = 8 * pair.proof_len;
+    const struct {
+        uint32_t number;
+        uint32_t kind;
+        uint64_t place;
+    } asked[PLACES] = {
+        {handover_number(check), (uint32_t)handover_kind(check), handover_place(check)},
+        {HANDOVER_FAULT_RULE, HANDOVER_NODE, 0},
+        {HANDOVER_FAULT_RULE, HANDOVER_NODE, 127},
+        {HANDOVER_FAULT_HANDLER_FILL, HANDOVER_BIT, handler_bits - 1},
+        {HANDOVER_FAULT_HANDLER_FILL, HANDOVER_BIT, handler_bits},
+        {HANDOVER_FAULT_PROOF_FILL, HANDOVER_BIT, proof_bits - 1},
+        {HANDOVER_FAULT_PROOF_FILL, HANDOVER_BIT, proof_bits},
+    };
+    for (int i = 0; i < PLACES; i++) {
+        views[i] = handover_view(handler, pair.handler_len, proof, pair.proof_len, asked[i].number, asked[i].kind,
+                                 asked[i].place);
+    }
+}
+
+/* Whether the calls do with guarded buffers what they do with ordinary ones. */
+static bool same_at(bool at_end, const struct answers *known)
+{
+    uint64_t views[PLACES];
     uint8_t *handler = placed(rooms[0], pair.handler_len, at_end);
     uint8_t *proof = placed(rooms[1], pair.proof_len, at_end);
     uint64_t *work = (uint64_t *)(void *)placed(rooms[2], sizeof plain_work, at_end);
     memcpy(handler, pair.handler, pair.handler_len);
     memcpy(proof, pair.proof, pair.proof_len);
+    look(handler, proof, known->check, views);
     memset(work, 0x77, sizeof plain_work);
-    bool same = handover_root(handler, pair.handler_len, proof, pair.proof_len) == root
-        && handover_check(handler, pair.handler_len, proof, pair.proof_len, work, HANDOVER_WORK_WORDS) == answer;
-    return same && memcmp(work, plain_work, sizeof plain_work) == 0 && memcmp(handler, pair.handler, pair.handler_len) == 0
-        && memcmp(proof, pair.proof, pair.proof_len) == 0;
+    bool same = memcmp(views, known->views, sizeof views) == 0
+        && handover_root(handler, pair.handler_len, proof, pair.proof_len) == known->root
+        && handover_check(handler, pair.handler_len, proof, pair.proof_len, work, HANDOVER_WORK_WORDS) == known->check
+        && memcmp(work, plain_work, sizeof plain_work) == 0;
+    memset(work, 0x77, sizeof plain_work);
+    same = same
+        && handover_states(handler, pair.handler_len, proof, pair.proof_len, work, HANDOVER_WORK_WORDS) == known->states
+        && memcmp(work, plain_work, sizeof plain_work) == 0;
+    return same && memcmp(handler, pair.handler, pair.handler_len) == 0 && memcmp(proof, pair.proof, pair.proof_len) == 0;
+}
+
+/* The answers with ordinary buffers. The check and the states must leave the same words. */
+static struct answers answers_of_pair(void)
+{
+    struct answers known;
+    memset(plain_work, 0x77, sizeof plain_work);
+    memset(plain_states_work, 0x77, sizeof plain_states_work);
+    known.root = handover_root(pair.handler, pair.handler_len, pair.proof, pair.proof_len);
+    known.check = handover_check(pair.handler, pair.handler_len, pair.proof, pair.proof_len, plain_work, HANDOVER_WORK_WORDS);
+    known.states =
+        handover_states(pair.handler, pair.handler_len, pair.proof, pair.proof_len, plain_states_work, HANDOVER_WORK_WORDS);
+    look(pair.handler, pair.proof, known.check, known.views);
+    return known;
 }
 
 int main(int argc, char **argv)
@@ -57,11 +113,9 @@ int main(int argc, char **argv)
         rooms[i] = guarded();
     }
     for (; next_pair(file, &pair); pairs++) {
-        memset(plain_work, 0x77, sizeof plain_work);
-        uint64_t root = handover_root(pair.handler, pair.handler_len, pair.proof, pair.proof_len);
-        uint64_t answer =
-            handover_check(pair.handler, pair.handler_len, pair.proof, pair.proof_len, plain_work, HANDOVER_WORK_WORDS);
-        if (!same_at(true, answer, root) || !same_at(false, answer, root)) {
+        struct answers known = answers_of_pair();
+        bool same = memcmp(plain_work, plain_states_work, sizeof plain_work) == 0;
+        if (!same || !same_at(true, &known) || !same_at(false, &known)) {
             printf("bounds: pair %zu differs\n", pairs);
             return 1;
         }

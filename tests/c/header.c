@@ -23,7 +23,14 @@ static const uint8_t proof[] = {0x08, 0xF0, 0x45, 0x20, 0x02, 0x40};
 /* The same with the empty relation 0 as G, which condition 43 refuses. */
 static const uint8_t refused[] = {0x08, 0xF0, 0x45, 0x20, 0x00, 0x40};
 
+/* One variable of size 2, `while true do nil`, with every table empty but W. Node 0 begins at bit 20, node 1 at bit 47. */
+static const uint8_t loop[] = {0x22, 0xAC, 0x00};
+static const uint8_t order[] = {0x08, 0x80, 0x2A, 0x00, 0x00, 0x02, 0x00, 0x00, 0x00};   /* W {(1,0)} */
+static const uint8_t self[] = {0x08, 0x80, 0x1A, 0x00, 0x00, 0x02, 0x00, 0x00, 0x00};    /* W {(1,1)} */
+static const uint8_t toggle[] = {0x08, 0x80, 0x6A, 0x00, 0x00, 0x02, 0x00, 0x00, 0x00};  /* W {(0,1), (1,0)} */
+
 static uint64_t work[HANDOVER_WORK_WORDS];
+static uint64_t other_work[HANDOVER_WORK_WORDS];
 static uint8_t longest[HANDOVER_MOST_BYTES + 1];
 
 /* Every fault number, in the order of the header. */
@@ -33,13 +40,13 @@ static const enum handover_fault faults[] = {
     HANDOVER_FAULT_VARIABLE, HANDOVER_FAULT_KINDS, HANDOVER_FAULT_HANDLER_LIMIT, HANDOVER_FAULT_HANDLER_FILL,
     HANDOVER_FAULT_PROOF_SHORT, HANDOVER_FAULT_TABLE_COUNT, HANDOVER_FAULT_RULE_CODE, HANDOVER_FAULT_TABLE,
     HANDOVER_FAULT_PROOF_LIMIT, HANDOVER_FAULT_PROOF_FILL, HANDOVER_FAULT_RULE, HANDOVER_FAULT_P_UNSTABLE,
-    HANDOVER_FAULT_Q_BEFORE, HANDOVER_FAULT_Q_AFTER, HANDOVER_FAULT_CHILD_TABLES, HANDOVER_FAULT_SKIP_Q,
-    HANDOVER_FAULT_ASSIGNMENT_RANGE, HANDOVER_FAULT_ASSIGNMENT_MOVED, HANDOVER_FAULT_ASSIGNMENT_Q,
-    HANDOVER_FAULT_ASSIGNMENT_G, HANDOVER_FAULT_IF_MOVED, HANDOVER_FAULT_IF_Q, HANDOVER_FAULT_WHILE_MOVED,
-    HANDOVER_FAULT_WHILE_W, HANDOVER_FAULT_WHILE_K, HANDOVER_FAULT_WHILE_K_UNSTABLE, HANDOVER_FAULT_WHILE_TEST,
-    HANDOVER_FAULT_WHILE_RELY, HANDOVER_FAULT_WHILE_Q, HANDOVER_FAULT_SEQUENCE_P, HANDOVER_FAULT_SEQUENCE_Q,
-    HANDOVER_FAULT_PARALLEL_G, HANDOVER_FAULT_PARALLEL_Q, HANDOVER_FAULT_WEAKEN_P, HANDOVER_FAULT_WEAKEN_R,
-    HANDOVER_FAULT_WEAKEN_G, HANDOVER_FAULT_WEAKEN_Q, HANDOVER_FAULT_STEPS,
+    HANDOVER_FAULT_Q_BEFORE, HANDOVER_FAULT_Q_AFTER, HANDOVER_FAULT_CHILD_P, HANDOVER_FAULT_SKIP_Q, HANDOVER_FAULT_CHILD_R,
+    HANDOVER_FAULT_CHILD_G, HANDOVER_FAULT_CHILD_Q, HANDOVER_FAULT_ASSIGNMENT_RANGE, HANDOVER_FAULT_ASSIGNMENT_MOVED,
+    HANDOVER_FAULT_ASSIGNMENT_Q, HANDOVER_FAULT_ASSIGNMENT_G, HANDOVER_FAULT_IF_MOVED, HANDOVER_FAULT_IF_Q,
+    HANDOVER_FAULT_WHILE_MOVED, HANDOVER_FAULT_WHILE_W_SELF, HANDOVER_FAULT_WHILE_K, HANDOVER_FAULT_WHILE_K_UNSTABLE,
+    HANDOVER_FAULT_WHILE_TEST, HANDOVER_FAULT_WHILE_RELY, HANDOVER_FAULT_WHILE_Q, HANDOVER_FAULT_WHILE_W_GAP,
+    HANDOVER_FAULT_SEQUENCE_P, HANDOVER_FAULT_SEQUENCE_Q, HANDOVER_FAULT_PARALLEL_G, HANDOVER_FAULT_PARALLEL_Q,
+    HANDOVER_FAULT_WEAKEN_P, HANDOVER_FAULT_WEAKEN_R, HANDOVER_FAULT_WEAKEN_G, HANDOVER_FAULT_WEAKEN_Q, HANDOVER_FAULT_STEPS,
 };
 
 /* The numbers rise, and each comes back out of an answer that has it, with either kind of place. */
@@ -118,6 +125,113 @@ static void calls(void)
     same("node 0", handover_place(answer), 0);
 }
 
+/* The states of a call with so many work words; the words end as after the check. */
+static uint64_t states_of(const uint8_t *handler_file, const uint8_t *proof_file, size_t proof_len, size_t words)
+{
+    memset(work, 0xFF, sizeof work);
+    memset(other_work, 0xFF, sizeof other_work);
+    handover_check(handler_file, sizeof handler, proof_file, proof_len, other_work, words);
+    uint64_t found = handover_states(handler_file, sizeof handler, proof_file, proof_len, work, words);
+    same("words after the states", memcmp(work, other_work, sizeof work) == 0, 1);
+    return found;
+}
+
+/* States put together by hand at their limits, and those of refused pairs and of an accepted one. */
+static void states(void)
+{
+    uint64_t three = UINT64_C(3) << 24 | 63 | 1 << 8 | 62 << 16;
+    same("count of none", handover_states_count(0), 0);
+    same("none of none", handover_states_at(0, 0), HANDOVER_MOST_STATES);
+    same("count of three", handover_states_count(three), 3);
+    same("first of three", handover_states_at(three, 0), 63);
+    same("second of three", handover_states_at(three, 1), 1);
+    same("third of three", handover_states_at(three, 2), 62);
+    same("fourth of three", handover_states_at(three, 3), HANDOVER_MOST_STATES);
+    same("state far past the count", handover_states_at(three, UINT32_MAX), HANDOVER_MOST_STATES);
+    same("states of 43", states_of(handler, refused, sizeof refused, HANDOVER_WORK_WORDS), UINT64_C(2) << 24 | 1 << 8);
+    same("states of 51", states_of(loop, self, sizeof self, HANDOVER_WORK_WORDS), UINT64_C(1) << 24 | 1);
+    same("states of 57", states_of(loop, toggle, sizeof toggle, HANDOVER_WORK_WORDS), UINT64_C(3) << 24 | 1 << 8);
+    same("states of 30", states_of(handler, order, sizeof order, HANDOVER_WORK_WORDS), 0);
+    same("states of 20", states_of(handler, proof, 0, HANDOVER_WORK_WORDS), 0);
+    same("states of 1", states_of(handler, refused, sizeof refused, HANDOVER_WORK_WORDS - 1), 0);
+    same("states of 2", states_of(handler, longest, sizeof longest, HANDOVER_WORK_WORDS), 0);
+    same("states of an accepted pair", states_of(handler, proof, sizeof proof, HANDOVER_WORK_WORDS), 0);
+    same("states of an accepted loop", states_of(loop, order, sizeof order, HANDOVER_WORK_WORDS), 0);
+}
+
+/* The view of `loop` and `order`, both well-formed, in one number. */
+static uint64_t loop_view(uint32_t number, uint32_t kind, uint64_t place)
+{
+    return handover_view(loop, sizeof loop, order, sizeof order, number, kind, place);
+}
+
+/* Whether a check can give the number, by the list above. */
+static bool known(uint32_t number)
+{
+    for (size_t i = 1; i < sizeof faults / sizeof faults[0]; i++) {
+        if ((uint32_t)faults[i] == number) {
+            return true;
+        }
+    }
+    return false;
+}
+
+/* The file and the first byte for every number and kind: at place 9, a bit of byte 1, and no node; and at place 1. */
+static void views_of_numbers(void)
+{
+    const uint64_t in_proof = UINT64_C(1) << 32;
+    for (uint32_t number = 0; number < 200; number++) {
+        bool of_handler = known(number) && number >= 10 && number < 20;
+        bool of_proof = known(number) && number >= 20 && number < 30;
+        bool of_node = known(number) && number >= 30;
+        same("bit 9", loop_view(number, HANDOVER_BIT, 9), of_handler ? 1 : of_proof ? in_proof + 1 : sizeof loop);
+        same("node 9", loop_view(number, HANDOVER_NODE, 9), of_node ? in_proof + sizeof order : sizeof loop);
+        same("node 1", loop_view(number, HANDOVER_NODE, 1), of_node ? in_proof + 5 : sizeof loop);
+        same("kind 2", loop_view(number, 2, 1), sizeof loop);
+        same("the largest kind", loop_view(number, UINT32_MAX, 1), sizeof loop);
+    }
+    same("the largest number", loop_view(UINT32_MAX, HANDOVER_BIT, 0), sizeof loop);
+    same("a number over 2^31", loop_view(UINT32_C(0x80000000) + 10, HANDOVER_BIT, 0), sizeof loop);
+}
+
+/* Places at their limits, in files that are well-formed, ill-formed and too long. */
+static void views_of_places(void)
+{
+    const uint64_t in_proof = UINT64_C(1) << 32;
+    same("node 0", loop_view(57, HANDOVER_NODE, 0), in_proof + 2);
+    same("node 2", loop_view(57, HANDOVER_NODE, 2), in_proof + sizeof order);
+    same("node 2^32", loop_view(57, HANDOVER_NODE, UINT64_C(1) << 32), in_proof + sizeof order);
+    same("node 2^32 + 1", loop_view(57, HANDOVER_NODE, (UINT64_C(1) << 32) + 1), in_proof + sizeof order);
+    same("the last bit", loop_view(18, HANDOVER_BIT, 8 * sizeof loop - 1), sizeof loop - 1);
+    same("the bit after it", loop_view(10, HANDOVER_BIT, 8 * sizeof loop), sizeof loop);
+    same("the last bit of the proof", loop_view(25, HANDOVER_BIT, 8 * sizeof order - 1), in_proof + sizeof order - 1);
+    same("the bit after that", loop_view(20, HANDOVER_BIT, 8 * sizeof order), in_proof + sizeof order);
+    same("bit 2^35", loop_view(18, HANDOVER_BIT, UINT64_C(1) << 35), sizeof loop);
+    same("bit 2^64 - 1", loop_view(25, HANDOVER_BIT, UINT64_MAX), in_proof + sizeof order);
+    same("node, no handler", handover_view(loop, 0, order, sizeof order, 30, HANDOVER_NODE, 0), in_proof + sizeof order);
+    same("node, no proof", handover_view(loop, sizeof loop, order, 0, 30, HANDOVER_NODE, 0), in_proof);
+    same("bit, no files", handover_view(loop, 0, order, 0, 10, HANDOVER_BIT, 0), 0);
+    same("node, too long a handler", handover_view(longest, sizeof longest, order, sizeof order, 30, HANDOVER_NODE, 0),
+         in_proof + sizeof order);
+    same("node, too long a proof", handover_view(loop, sizeof loop, longest, sizeof longest, 30, HANDOVER_NODE, 0),
+         in_proof + sizeof longest);
+    same("bit, too long a handler", handover_view(longest, sizeof longest, order, 0, 18, HANDOVER_BIT, 8 * HANDOVER_MOST_BYTES),
+         HANDOVER_MOST_BYTES);
+    same("bit, one file twice", handover_view(order, sizeof order, order, sizeof order, 25, HANDOVER_BIT, 17), in_proof + 2);
+}
+
+/* Views put together by hand, and taken apart. */
+static void views_apart(void)
+{
+    const uint64_t in_proof = UINT64_C(1) << 32;
+    same("the handler file", (uint64_t)handover_view_file(UINT32_MAX), HANDOVER_HANDLER_FILE);
+    same("the proof file", (uint64_t)handover_view_file(in_proof), HANDOVER_PROOF_FILE);
+    same("the proof file at its end", (uint64_t)handover_view_file(in_proof + UINT32_MAX), HANDOVER_PROOF_FILE);
+    same("index 0", handover_view_index(in_proof), 0);
+    same("the largest index", handover_view_index(UINT32_MAX), UINT32_MAX);
+    same("the same in the proof", handover_view_index(in_proof + UINT32_MAX), UINT32_MAX);
+}
+
 int main(void)
 {
     fault_numbers();
@@ -125,5 +239,9 @@ int main(void)
     roots();
     tables();
     calls();
+    states();
+    views_of_numbers();
+    views_of_places();
+    views_apart();
     return failures == 0 ? 0 : 1;
 }

@@ -1,4 +1,4 @@
-/* stack FILE: how much stack the two calls take at most, over the pairs of a file (pairs.h).
+/* stack FILE: how much stack each of the four calls takes at most, over the pairs of a file (pairs.h).
 
    Every call is made in a thread of its own whose stack was painted beforehand. What is counted reaches from the frame that makes
    the call down to the lowest byte that is no longer paint. A byte that happens to be written in the colour of the paint is not
@@ -34,6 +34,29 @@ static void *call_root(void *unused)
 {
     frame = (uint8_t *)__builtin_frame_address(0);
     answer = handover_root(pair.handler, pair.handler_len, pair.proof, pair.proof_len);
+    return unused;
+}
+
+static void *call_states(void *unused)
+{
+    frame = (uint8_t *)__builtin_frame_address(0);
+    answer = handover_states(pair.handler, pair.handler_len, pair.proof, pair.proof_len, work, HANDOVER_WORK_WORDS);
+    return unused;
+}
+
+/* A node past the last one, so that all nodes are read. */
+static void *call_view(void *unused)
+{
+    frame = (uint8_t *)__builtin_frame_address(0);
+    answer = handover_view(pair.handler, pair.handler_len, pair.proof, pair.proof_len, HANDOVER_FAULT_RULE, HANDOVER_NODE, 127);
+    return unused;
+}
+
+/* The root, so that the search ends at once. */
+static void *call_view_root(void *unused)
+{
+    frame = (uint8_t *)__builtin_frame_address(0);
+    answer = handover_view(pair.handler, pair.handler_len, pair.proof, pair.proof_len, HANDOVER_FAULT_RULE, HANDOVER_NODE, 0);
     return unused;
 }
 
@@ -75,34 +98,51 @@ static size_t most_of(void *(*call)(void *))
     return one > other ? one : other;
 }
 
-/* The largest figures so far. */
-struct most {
-    size_t pairs;
-    size_t accepted;
-    size_t check;
-    size_t root;
+/* The calls, and the largest figure of each so far. */
+struct measured {
+    const char *name;
+    void *(*call)(void *);
+    size_t most;
 };
 
-static void measure(const char *name, struct most *most)
+static struct measured calls[] = {
+    {"handover_check", call_check, 0},
+    {"handover_root", call_root, 0},
+    {"handover_states", call_states, 0},
+    {"handover_view", call_view, 0},
+    {"handover_view of the root", call_view_root, 0},
+};
+
+enum { CALLS = sizeof calls / sizeof calls[0] };
+
+/* How many pairs there are, how many of them are accepted, and for how many states are named. */
+struct counts {
+    size_t pairs;
+    size_t accepted;
+    size_t with_states;
+};
+
+static void measure(const char *name, struct counts *counts)
 {
     FILE *file = fopen(name, "rb");
     if (file == NULL) {
         give_up("the file of pairs cannot be opened");
     }
-    while (next_pair(file, &pair)) {
-        size_t root = most_of(call_root);
-        size_t check = most_of(call_check);
-        most->pairs++;
-        most->accepted += handover_accepted(answer);
-        most->root = root > most->root ? root : most->root;
-        most->check = check > most->check ? check : most->check;
+    for (; next_pair(file, &pair); counts->pairs++) {
+        for (int i = 0; i < CALLS; i++) {
+            size_t bytes = most_of(calls[i].call);
+            calls[i].most = bytes > calls[i].most ? bytes : calls[i].most;
+            counts->accepted += calls[i].call == call_check && handover_accepted(answer);
+            counts->with_states += calls[i].call == call_states && answer != 0;
+        }
     }
     fclose(file);
 }
 
 int main(int argc, char **argv)
 {
-    struct most most = {0, 0, 0, 0};
+    struct counts counts = {0, 0, 0};
+    bool enough = true;
     if (argc != 2) {
         give_up("usage: stack FILE");
     }
@@ -111,12 +151,19 @@ int main(int argc, char **argv)
         give_up("no memory");
     }
     stack = (uint8_t *)memory;
-    measure(argv[1], &most);
+    measure(argv[1], &counts);
     size_t nothing = most_of(call_nothing);
-    if (most.accepted == 0 || most.accepted == most.pairs || most.check <= nothing || most.root <= nothing) {
+    if (counts.accepted == 0 || counts.accepted == counts.pairs || counts.with_states == 0) {
         give_up("the pairs are too few to measure anything");
     }
-    printf("stack: %zu pairs, %zu accepted: handover_check %zu bytes, handover_root %zu, a thread alone %zu; allowed %d\n",
-           most.pairs, most.accepted, most.check, most.root, nothing, HANDOVER_STACK_BYTES);
-    return most.check > HANDOVER_STACK_BYTES || most.root > HANDOVER_STACK_BYTES ? 1 : 0;
+    printf("stack: %zu pairs, %zu accepted, %zu with states:", counts.pairs, counts.accepted, counts.with_states);
+    for (int i = 0; i < CALLS; i++) {
+        if (calls[i].most <= nothing) {
+            give_up("a call takes no stack");
+        }
+        printf(" %s %zu bytes,", calls[i].name, calls[i].most);
+        enough = enough && calls[i].most <= HANDOVER_STACK_BYTES;
+    }
+    printf(" a thread alone %zu; allowed %d\n", nothing, HANDOVER_STACK_BYTES);
+    return enough ? 0 : 1;
 }

@@ -2,9 +2,10 @@
 
    A handler file holds a short parallel program over a few shared variables. A proof file holds a derivation: from which states
    the program may start, which changes by others it tolerates, which changes it makes, and where it ends. handover_check decides
-   whether the derivation is right; handover_root says which of its tables the decision is about. Both are in
-   target/staticlib/libhost.a, which `rt staticlib host` writes: an archive for x86-64 and the System V calling convention that has
-   no other global symbols.
+   whether the derivation is right. Where it is, handover_root says which of its tables the decision is about. Where it is not,
+   handover_states gives the states that break a condition, and handover_view the bytes at the place of the fault. All four are
+   in target/staticlib/libhost.a, which `rt staticlib host` writes: an archive for x86-64 and the System V calling convention that
+   has no other global symbols.
 
    docs/FORMAT.md describes the two files, docs/RULES.md the rules and what acceptance promises, docs/FAULTS.md every fault number.
    examples/c has a program that uses all this.
@@ -12,7 +13,8 @@
    What the host owes, in every call:
    - No pointer is null, also where its length is 0. (Pass the address of any object then.)
    - handler and proof point to handler_len and proof_len readable bytes; work points to work_len readable and writable words.
-     Every length may be passed: if a file has more than HANDOVER_MOST_BYTES bytes, the pair is refused with number 2.
+     Every length may be passed: if a file has more than HANDOVER_MOST_BYTES bytes, the pair is refused with number 2. Only
+     handover_view wants files of fewer than 2^32 bytes, so that its answer can be taken apart.
    - work is aligned to 8 bytes, as every array of uint64_t is. The files need no alignment.
    - work overlaps neither handler nor proof: that is what `restrict` says below. Where it does, the behaviour is undefined, and the
      answer can be `accepted` for a pair that must be refused. The two files are only read, and may overlap each other.
@@ -24,7 +26,9 @@
    - It returns. No content of the files makes it run forever, or read or write outside the buffers.
    - It allocates no memory, makes no system call, and has no global variables, so nothing is kept from one call to the next. Calls
      from several threads at once are safe if each call has its own work words; they may share the files.
-   - It writes the first HANDOVER_WORK_WORDS work words at most (handover_root none), and never the files.
+   - It writes the first HANDOVER_WORK_WORDS work words at most (handover_root and handover_view none), and never the files.
+   - Its answer depends on what is passed alone: on the bytes of the files, the number of work words (not what they hold), and the
+     number, kind and place.
    - Of the C library it needs memcpy and memset, and nothing else.
    - It uses the vector registers xmm0 to xmm15 with SSE2 instructions, for moves and for integer arithmetic; there is no
      floating-point arithmetic, no x87 and no AVX. The host's memcpy and memset may use more. So code that must leave vector
@@ -44,7 +48,7 @@ extern "C" {
 #endif
 
 /* Limits. */
-#define HANDOVER_WORK_WORDS 1040                     /* work words that handover_check needs and writes */
+#define HANDOVER_WORK_WORDS 1040                     /* work words that handover_check and handover_states need and write */
 #define HANDOVER_MOST_BYTES 16384                    /* the longest handler file or proof file that is read */
 #define HANDOVER_MOST_STEPS UINT32_C(4294967295)     /* the largest step number that is accepted */
 #define HANDOVER_MOST_STATES 64                      /* the largest N, the number of states */
@@ -58,7 +62,14 @@ enum handover_place_kind {
     HANDOVER_NODE = 1  /* counted from 0 in the order of the proof file */
 };
 
-/* The numbers of faults. docs/FAULTS.md says of each what it means and how to mend it. */
+/* One of the two files. */
+enum handover_file {
+    HANDOVER_HANDLER_FILE = 0,
+    HANDOVER_PROOF_FILE = 1
+};
+
+/* The numbers of faults. docs/FAULTS.md says of each what it means and how to mend it. At one node, 36, 37 and 38 are looked for
+   directly after 34, and 57 directly after 51. [s], [s, t] .. are the states that handover_states gives. */
 enum handover_fault {
     HANDOVER_FAULT_NONE = 0,               /* accepted */
 
@@ -87,28 +98,32 @@ enum handover_fault {
 
     /* Caused by the designer of the proof file; the place is a node. */
     HANDOVER_FAULT_RULE = 30,              /* the rule is not that of the statement */
-    HANDOVER_FAULT_P_UNSTABLE = 31,        /* others can leave P */
-    HANDOVER_FAULT_Q_BEFORE = 32,          /* changes by others before the statement lead outside Q */
-    HANDOVER_FAULT_Q_AFTER = 33,           /* changes by others after the statement lead outside Q */
-    HANDOVER_FAULT_CHILD_TABLES = 34,      /* a child's tables are not those that the rule gives it */
-    HANDOVER_FAULT_SKIP_Q = 35,            /* skip: a state of P without (s,s) in Q */
-    HANDOVER_FAULT_ASSIGNMENT_RANGE = 40,  /* assignment: a value out of range */
+    HANDOVER_FAULT_P_UNSTABLE = 31,        /* others can leave P [s, t] */
+    HANDOVER_FAULT_Q_BEFORE = 32,          /* changes by others before the statement lead outside Q [s, t, u] */
+    HANDOVER_FAULT_Q_AFTER = 33,           /* changes by others after the statement lead outside Q [s, t, u] */
+    HANDOVER_FAULT_CHILD_P = 34,           /* a child's P is not the one that the rule gives it */
+    HANDOVER_FAULT_SKIP_Q = 35,            /* skip: a state of P without (s,s) in Q [s] */
+    HANDOVER_FAULT_CHILD_R = 36,           /* a child's R is not the one that the rule gives it */
+    HANDOVER_FAULT_CHILD_G = 37,           /* a child's G is not the one that the rule gives it */
+    HANDOVER_FAULT_CHILD_Q = 38,           /* a child's Q is not the one that the rule gives it */
+    HANDOVER_FAULT_ASSIGNMENT_RANGE = 40,  /* assignment: a value out of range [s] */
     HANDOVER_FAULT_ASSIGNMENT_MOVED = 41,  /* assignment: others change a variable of the expression */
-    HANDOVER_FAULT_ASSIGNMENT_Q = 42,      /* assignment: the store is not in Q */
-    HANDOVER_FAULT_ASSIGNMENT_G = 43,      /* assignment: the store is not in G */
+    HANDOVER_FAULT_ASSIGNMENT_Q = 42,      /* assignment: the store is not in Q [s, s'] */
+    HANDOVER_FAULT_ASSIGNMENT_G = 43,      /* assignment: the store is not in G [s, s'] */
     HANDOVER_FAULT_IF_MOVED = 45,          /* if: others change a variable of the test */
-    HANDOVER_FAULT_IF_Q = 46,              /* if: a state of P with a false test, without (s,s) in Q */
+    HANDOVER_FAULT_IF_Q = 46,              /* if: a state of P with a false test, without (s,s) in Q [s] */
     HANDOVER_FAULT_WHILE_MOVED = 50,       /* while: the test reads more than once what others change */
-    HANDOVER_FAULT_WHILE_W = 51,           /* while: W is not transitive or has a pair (s,s) */
-    HANDOVER_FAULT_WHILE_K = 52,           /* while: a state of P with a true test is not in K */
-    HANDOVER_FAULT_WHILE_K_UNSTABLE = 53,  /* while: others can leave K */
-    HANDOVER_FAULT_WHILE_TEST = 54,        /* while: others can make a false test true */
-    HANDOVER_FAULT_WHILE_RELY = 55,        /* while: others change the state outside W */
-    HANDOVER_FAULT_WHILE_Q = 56,           /* while: the loop can end outside Q */
-    HANDOVER_FAULT_SEQUENCE_P = 60,        /* sequence: the left part can end outside the right part's P */
-    HANDOVER_FAULT_SEQUENCE_Q = 61,        /* sequence: the left and then the right part lead outside Q */
+    HANDOVER_FAULT_WHILE_W_SELF = 51,      /* while: W has a pair (s,s) [s] */
+    HANDOVER_FAULT_WHILE_K = 52,           /* while: a state of P with a true test is not in K [s] */
+    HANDOVER_FAULT_WHILE_K_UNSTABLE = 53,  /* while: others can leave K [s, t] */
+    HANDOVER_FAULT_WHILE_TEST = 54,        /* while: others can make a false test true [s, t] */
+    HANDOVER_FAULT_WHILE_RELY = 55,        /* while: others change the state outside W [s, t] */
+    HANDOVER_FAULT_WHILE_Q = 56,           /* while: the loop can end outside Q [s, t] */
+    HANDOVER_FAULT_WHILE_W_GAP = 57,       /* while: W is not transitive: (s,t) and (t,u), but not (s,u) [s, t, u] */
+    HANDOVER_FAULT_SEQUENCE_P = 60,        /* sequence: the left part can end outside the right part's P [s, t] */
+    HANDOVER_FAULT_SEQUENCE_Q = 61,        /* sequence: the left and then the right part lead outside Q [s, t, u] */
     HANDOVER_FAULT_PARALLEL_G = 65,        /* parallel: a child's G is not within G */
-    HANDOVER_FAULT_PARALLEL_Q = 66,        /* parallel: both children can end outside Q */
+    HANDOVER_FAULT_PARALLEL_Q = 66,        /* parallel: both children can end outside Q [s, t] */
     HANDOVER_FAULT_WEAKEN_P = 70,          /* weaken: P is not within the child's P */
     HANDOVER_FAULT_WEAKEN_R = 71,          /* weaken: R is not within the child's R */
     HANDOVER_FAULT_WEAKEN_G = 72,          /* weaken: the child's G is not within G */
@@ -140,6 +155,40 @@ uint64_t handover_check(const uint8_t *HANDOVER_RESTRICT handler, size_t handler
    longer than HANDOVER_MOST_BYTES, or in which handover_check finds a fault with a number from 10 to 25.
    It needs no work words, writes nothing, and looks at no condition: it also answers for a pair that is refused with 30 to 80. */
 uint64_t handover_root(const uint8_t *handler, size_t handler_len, const uint8_t *proof, size_t proof_len);
+
+/* The states that break the condition for which handover_check refuses the pair. It makes the same check once more, and leaves the
+   work words as handover_check does, in every case; with the same arguments both speak of the same fault.
+   The answer is count * 2^24 + first + 2^8 second + 2^16 third, where a state that is not named counts as 0:
+   - for the numbers that have states in enum handover_fault, these, in that order; every state is below N, and count is 1 to 3, so
+     that the answer is not 0;
+   - for every other number, and for an accepted pair, 0.
+   They are the least states that break the condition: by the first, then by the second, then by the third. Other states may break
+   it too. The same state can be named twice, for example as s and u. docs/RULES.md has the conditions in which they are named. */
+uint64_t handover_states(const uint8_t *HANDOVER_RESTRICT handler, size_t handler_len,
+                         const uint8_t *HANDOVER_RESTRICT proof, size_t proof_len,
+                         uint64_t *HANDOVER_RESTRICT work, size_t work_len);
+
+/* Where the place of a fault is in the files: the file, and the index of the byte from which on it is shown, to the end of the file.
+   number, kind (of enum handover_place_kind) and place are those of a refusal of these two files. But every value may be passed:
+
+       number                                     kind     file       first byte shown
+       10 to 18                                   a bit    handler    the byte that holds bit `place`
+       20 to 25                                   a bit    proof      the byte that holds bit `place`
+       30 to 38, 40 to 43, 45, 46, 50 to 57,      a node   proof      the byte in which the rule code of node `place` begins
+       60, 61, 65, 66, 70 to 73, 80
+       every other combination, among them 1      any      handler    none
+       and 2, and every kind but these two
+
+   The answer is file * 2^32 + the index of that byte, and where no byte is shown, file * 2^32 + the length of that file:
+   - where the row above says so;
+   - where the file does not have the bit: place is 8 times its length or more. So it is with 10 and 20, whose place is the end;
+   - where the derivation does not have the node, however large place is;
+   - for every node if either file is ill-formed: longer than HANDOVER_MOST_BYTES, or with a fault from 10 to 25.
+   A bit is shown whatever else is wrong with the files, and in a file that is longer than HANDOVER_MOST_BYTES too.
+   If the length of a file is 2^32 or more, the answer is still this sum, but it does not determine file and index.
+   It needs no work words, writes nothing, and looks at no condition. */
+uint64_t handover_view(const uint8_t *handler, size_t handler_len, const uint8_t *proof, size_t proof_len, uint32_t number,
+                       uint32_t kind, uint64_t place);
 
 /* Taking an answer of handover_check apart. */
 
@@ -177,6 +226,29 @@ static inline uint32_t handover_root_guarantee(uint64_t root) { return (uint32_t
 
 /* The number of the relation Q: from which start the handler may end at which state. */
 static inline uint32_t handover_root_postcondition(uint64_t root) { return (uint32_t)(root >> 32 & 0xFF); }
+
+/* Taking an answer of handover_states apart. */
+
+/* How many states are named: 0 to 3. */
+static inline uint32_t handover_states_count(uint64_t states) { return (uint32_t)(states >> 24); }
+
+/* The state named at position i, from 0, with i below the count: for 42 and 43, s and then s'; else s, then t, then u. Where i is
+   not below the count, HANDOVER_MOST_STATES, which is no state. */
+static inline uint32_t handover_states_at(uint64_t states, uint32_t i)
+{
+    return i < handover_states_count(states) ? (uint32_t)(states >> 8 * i & 0xFF) : HANDOVER_MOST_STATES;
+}
+
+/* Taking an answer of handover_view apart, for files of fewer than 2^32 bytes. */
+
+/* The file whose bytes are shown. */
+static inline enum handover_file handover_view_file(uint64_t view)
+{
+    return view >> 32 == 1 ? HANDOVER_PROOF_FILE : HANDOVER_HANDLER_FILE;
+}
+
+/* The index of the first byte shown; the length of the file if none is. */
+static inline size_t handover_view_index(uint64_t view) { return (size_t)(view & UINT32_MAX); }
 
 /* Where the tables are in the work words after acceptance. Sets and relations are numbered from 0, as in the proof file. */
 
