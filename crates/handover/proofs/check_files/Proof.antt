@@ -13,16 +13,16 @@ array-share-prefix-handler c =
     let r = n .before .before .before .read-file in
     omega (arith, ap amount (n .n .given .1), r .ensures, r .kept .1 .0)
 
-slice-aggregate-check : tie.Need-slice-aggregate-check
-slice-aggregate-check c = sym (length-take-le _ _ (array-share-prefix-handler (c .before)))
+slice-aggregate-judge : tie.Need-slice-aggregate-judge
+slice-aggregate-judge c = sym (length-take-le _ _ (array-share-prefix-handler (c .before)))
 
 array-share-prefix-proof : tie.Need-array-share-prefix-proof
 array-share-prefix-proof c =
     let r = c .before .before .before .before .before .read-file2 in
     omega (arith, ap amount (c .before .before .m .given .1), r .ensures, r .kept .1 .0)
 
-slice-aggregate-check-2 : tie.Need-slice-aggregate-check-2
-slice-aggregate-check-2 c = sym (length-take-le _ _ (array-share-prefix-proof (c .before)))
+slice-aggregate-judge-2 : tie.Need-slice-aggregate-judge-2
+slice-aggregate-judge-2 c = sym (length-take-le _ _ (array-share-prefix-proof (c .before)))
 
 pub check-files-spec : {M : Type 1} → statement M
 check-files-spec =
@@ -31,7 +31,7 @@ check-files-spec =
     (λ c. search needs) (λ c κs. search needs) (λ c. search needs) (λ c. search needs) (λ c. search needs) (λ c. search needs)
     (λ c κs. search needs) (λ c. search needs) (λ c. search needs) (λ c. search needs)
     array-share-prefix-handler
-    slice-aggregate-check
+    slice-aggregate-judge
     array-share-prefix-proof
-    slice-aggregate-check-2
-    (λ c. search needs) (λ c κs. search needs) (λ c κs. search needs) (λ c. search needs))
+    slice-aggregate-judge-2
+    (λ c κs. search needs) (λ c. search needs))
