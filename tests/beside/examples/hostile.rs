@@ -1,5 +1,5 @@
 //! Writes pairs that are as deep and as large as files can be to standard output, for
-//! tests/c/stack.c; also the samples, generated pairs and damaged ones.
+//! tests/c/stack.c and bounds.c; also the samples, generated pairs and damaged ones.
 //!
 //! A pair is the length of the handler and that of the proof, each as four bytes with the least
 //! significant first, and then both files.
@@ -24,11 +24,12 @@ const SIZES: [&[usize]; 3] = [&[8, 8], &[16, 4], &[2, 2, 4, 4]];
 fn main() -> std::io::Result<()> {
     let mut random = Random::new(0x5AC7);
     let mut files = samples()?;
-    files.extend(deep_expressions());
-    files.extend(deep_statements(&mut random));
-    files.extend(deep_derivations());
+    let mut pairs = deep_expressions();
+    pairs.extend(deep_statements(&mut random));
+    pairs.extend(deep_derivations());
+    pairs.extend((0..200).map(|_| accepted(&mut random, Scale::FULL)));
+    files.extend(pairs.into_iter().flat_map(|pair| with_damage(&mut random, pair)));
     files.extend(endless());
-    files.extend(generated(&mut random));
     let mut output = std::io::stdout().lock();
     for (handler, proof) in files {
         for file in [&handler, &proof] {
@@ -69,7 +70,7 @@ fn chain(operation: Operation, leaves: usize, side: usize, leaf: &Expression) ->
 }
 
 /// Expressions of up to 31 nodes, the deepest there are, each in a store, an if and a while.
-fn deep_expressions() -> Vec<Files> {
+fn deep_expressions() -> Vec<Pair> {
     let mut all = Vec::new();
     for sizes in SIZES {
         for side in 0..3 {
@@ -92,18 +93,18 @@ fn deep_expressions() -> Vec<Files> {
 }
 
 /// The statement derived from every state with nobody else about, or else with an empty P.
-fn derived(sizes: &[usize], statement: Statement) -> Files {
+fn derived(sizes: &[usize], statement: Statement) -> Pair {
     let space = Space::new(sizes);
     let demand = Demand { p: space.all(), r: &Relation::none(), coarse: false };
     let Some(root) = least(&space, &statement, demand) else {
-        return files(vacuous::pair(sizes, statement));
+        return vacuous::pair(sizes, statement);
     };
     let handler = Handler { space, statement: statement.clone() };
-    files(Pair::new(handler, root).unwrap_or_else(|| vacuous::pair(sizes, statement)))
+    Pair::new(handler, root).unwrap_or_else(|| vacuous::pair(sizes, statement))
 }
 
 /// Statements of 16 levels with an expression of 31 nodes at each, and random ones.
-fn deep_statements(random: &mut Random) -> Vec<Files> {
+fn deep_statements(random: &mut Random) -> Vec<Pair> {
     let mut all = Vec::new();
     let test = |side| {
         let reads = chain(Operation::Add, 15, side, &read(0));
@@ -120,7 +121,7 @@ fn deep_statements(random: &mut Random) -> Vec<Files> {
                 4 => when(test(side), part),
                 _ => repeat(test(side), part),
             });
-            all.push(files(vacuous::pair(sizes, statement.clone())));
+            all.push(vacuous::pair(sizes, statement.clone()));
             // Deriving nested parallels takes a second for each.
             if !(2..=3).contains(&kind) {
                 all.push(derived(sizes, statement));
@@ -128,13 +129,13 @@ fn deep_statements(random: &mut Random) -> Vec<Files> {
         }
     }
     for _ in 0..100 {
-        all.push(files(vacuous::pair(&[8, 8], programs::deep(random, 16))));
+        all.push(vacuous::pair(&[8, 8], programs::deep(random, 16)));
     }
     all
 }
 
 /// 24 levels of nodes, and 127 nodes, over 64 states.
-fn deep_derivations() -> Vec<Files> {
+fn deep_derivations() -> Vec<Pair> {
     let mut all = Vec::new();
     for sizes in SIZES {
         let every = Relation::of_rows([StateSet::first(64); 64]);
@@ -146,12 +147,12 @@ fn deep_derivations() -> Vec<Files> {
                     root = root.under_weaken();
                 }
                 let handler = Handler { space: Space::new(sizes), statement: statement.clone() };
-                all.push(files(Pair::new(handler, root).expect("24 levels fit")));
+                all.push(Pair::new(handler, root).expect("24 levels fit"));
             }
         }
         let flat = vacuous::pair(sizes, programs::in_order(vec![Statement::Nil; 32]));
         let root = flat.derivation.doubled().under_weaken();
-        all.push(files(Pair::new(flat.handler, root).expect("127 nodes fit")));
+        all.push(Pair::new(flat.handler, root).expect("127 nodes fit"));
     }
     all
 }
@@ -195,13 +196,9 @@ fn endless() -> Vec<Files> {
     all
 }
 
-/// Accepted pairs at full scale, and four damaged versions of each.
-fn generated(random: &mut Random) -> Vec<Files> {
-    let mut all = Vec::new();
-    for _ in 0..200 {
-        let pair = accepted(random, Scale::FULL);
-        all.extend((0..4).map(|_| damaged(random, &pair)));
-        all.push(files(pair));
-    }
+/// The pair and four damaged versions, so that refusals at the deepest places are among them.
+fn with_damage(random: &mut Random, pair: Pair) -> Vec<Files> {
+    let mut all: Vec<Files> = (0..4).map(|_| damaged(random, &pair)).collect();
+    all.push(files(pair));
     all
 }

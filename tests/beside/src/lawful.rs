@@ -3,10 +3,21 @@
 use reference::{Place, Verdict, TABLE_WORDS};
 
 /// The numbers that a refusal can have.
-pub const NUMBERS: [u32; 45] = [
-    1, 2, 10, 11, 12, 13, 14, 15, 16, 17, 18, 20, 21, 22, 23, 24, 25, 30, 31, 32, 33, 34, 35, 40,
-    41, 42, 43, 45, 46, 50, 51, 52, 53, 54, 55, 56, 60, 61, 65, 66, 70, 71, 72, 73, 80,
+pub const NUMBERS: [u32; 49] = [
+    1, 2, 10, 11, 12, 13, 14, 15, 16, 17, 18, 20, 21, 22, 23, 24, 25, 30, 31, 32, 33, 34, 35, 36,
+    37, 38, 40, 41, 42, 43, 45, 46, 50, 51, 52, 53, 54, 55, 56, 57, 60, 61, 65, 66, 70, 71, 72, 73,
+    80,
 ];
+
+/// How many states a refusal of this number names.
+pub fn states_named(number: u32) -> u64 {
+    match number {
+        35 | 40 | 46 | 51 | 52 => 1,
+        31 | 42 | 43 | 53..=56 | 60 | 66 => 2,
+        32 | 33 | 57 | 61 => 3,
+        _ => 0,
+    }
+}
 
 /// Whether a call may end so, with the reason where it may not.
 pub fn call(
@@ -34,6 +45,22 @@ pub fn call(
     Ok(())
 }
 
+/// Whether the number that stands for the states holds as many as the verdict names, each of
+/// them a state of the handler, and nothing else.
+pub fn states(handler: &[u8], verdict: Verdict, states: u64) -> Result<(), String> {
+    let count = states_named(crate::number(verdict));
+    let named = |index: u64| (states >> (8 * index) & 0xFF) as usize;
+    let fits = (0..3).all(|index| match index < count {
+        true => named(index) < state_count(handler),
+        false => named(index) == 0,
+    });
+    if fits && states >> 24 == count {
+        Ok(())
+    } else {
+        Err(format!("{states:X} does not stand for {count} states"))
+    }
+}
+
 /// Whether the number exists and its place is of the right sort.
 fn refusal(number: u32, place: Place, handler: usize, proof: usize) -> Result<(), String> {
     let fits = match (number, place) {
@@ -56,8 +83,7 @@ fn refusal(number: u32, place: Place, handler: usize, proof: usize) -> Result<()
 
 /// Whether the words are the tables, each bit taken straight from the proof file.
 fn tables(handler: &[u8], proof: &[u8], words: &[u64]) -> Result<(), String> {
-    let sizes = (0..number(handler, 0, 3)).map(|variable| number(handler, 3 + 5 * variable, 5));
-    let states: usize = sizes.product();
+    let states = state_count(handler);
     let (sets, relations) = (number(proof, 0, 5), number(proof, 5, 5));
     let row = |index: usize| -> u64 {
         let first = 10 + index * states;
@@ -84,6 +110,11 @@ fn tables(handler: &[u8], proof: &[u8], words: &[u64]) -> Result<(), String> {
         }
     }
     Ok(())
+}
+
+/// N, straight from the handler file.
+fn state_count(handler: &[u8]) -> usize {
+    (0..number(handler, 0, 3)).map(|variable| number(handler, 3 + 5 * variable, 5)).product()
 }
 
 /// The bits from `first` on as a number, most significant first.

@@ -5,12 +5,19 @@ pub mod lawful;
 #[cfg(feature = "proved")]
 pub mod proved;
 
+use reference::view::{BIT, NODE};
 use reference::{Place, Verdict};
+
+/// The two files of the worked example of docs/FORMAT.md.
+pub const HANDLER: [u8; 3] = [0x22, 0x20, 0x02];
+pub const PROOF: [u8; 6] = [0x08, 0xF0, 0x45, 0x20, 0x02, 0x40];
 
 /// Something that decides two files and leaves tables in the work words.
 pub trait Checker {
     fn name(&self) -> &'static str;
     fn check(&self, handler: &[u8], proof: &[u8], work: &mut [u64]) -> Verdict;
+    /// The states that the check's refusal names, packed; none where the checker cannot say.
+    fn states(&self, handler: &[u8], proof: &[u8], work: &mut [u64]) -> Option<u64>;
 }
 
 /// The checker of the crate `reference`.
@@ -24,6 +31,18 @@ impl Checker for Reference {
     fn check(&self, handler: &[u8], proof: &[u8], work: &mut [u64]) -> Verdict {
         reference::check(handler, proof, work)
     }
+
+    fn states(&self, handler: &[u8], proof: &[u8], work: &mut [u64]) -> Option<u64> {
+        Some(reference::named_states(handler, proof, work))
+    }
+}
+
+/// The verdict on two files and the states that it names: count × 2^24 + first + 2^8 × second +
+/// 2^16 × third, 0 for none.
+#[derive(Clone, Copy, PartialEq, Eq, Debug)]
+pub struct Judgement {
+    pub verdict: Verdict,
+    pub states: u64,
 }
 
 /// Every checker of this build, the reference first.
@@ -40,32 +59,58 @@ pub fn checkers() -> Vec<Box<dyn Checker>> {
 /// The words of a call beyond the tables, which no call may change.
 pub const SPARE_WORDS: usize = 8;
 
-/// Decides two files by every checker, with room for the tables and a few words more.
+/// The verdict of every checker on two files, with room for the tables and a few words more.
 pub fn judge(handler: &[u8], proof: &[u8]) -> Verdict {
+    judge_states(handler, proof).verdict
+}
+
+/// As `judge`, with the states.
+pub fn judge_states(handler: &[u8], proof: &[u8]) -> Judgement {
     judge_with(handler, proof, reference::TABLE_WORDS + SPARE_WORDS)
 }
 
 /// Decides two files by every checker with so many work words, and panics where a checker
-/// breaks what holds of every call, or where two differ in the verdict or in any word.
-pub fn judge_with(handler: &[u8], proof: &[u8], words: usize) -> Verdict {
+/// breaks what holds of every call, or where two differ in the verdict, the states or any word.
+pub fn judge_with(handler: &[u8], proof: &[u8], words: usize) -> Judgement {
     let before: Vec<u64> = (0..words as u64).map(mark).collect();
-    let mut first: Option<(Verdict, Vec<u64>)> = None;
-    for checker in checkers() {
-        let mut work = before.clone();
-        let verdict = checker.check(handler, proof, &mut work);
-        let files = || format!("{}: handler {handler:02X?} proof {proof:02X?}", checker.name());
-        if let Err(why) = lawful::call(handler, proof, &before, verdict, &work) {
-            panic!("{why}: {verdict:?} {}", files());
-        }
-        match &first {
-            None => first = Some((verdict, work)),
-            Some((known, words)) => {
-                assert_eq!(verdict, *known, "{}", files());
-                assert!(work == *words, "work words differ: {}", files());
-            }
-        }
+    let known = alone(&Reference, handler, proof, &before);
+    for checker in checkers().into_iter().skip(1) {
+        let found = alone(&*checker, handler, proof, &before);
+        let files = || in_full(checker.name(), handler, proof);
+        assert_eq!(found.verdict, known.verdict, "{}", files());
+        assert_eq!(found.states.or(known.states), known.states, "states: {}", files());
+        assert!(found.work == known.work, "work words: {}", files());
     }
-    first.expect("the reference is always there").0
+    let states = known.states.expect("the reference names them");
+    Judgement { verdict: known.verdict, states }
+}
+
+/// What one checker says of two files, and the work words after it.
+struct Outcome {
+    verdict: Verdict,
+    states: Option<u64>,
+    work: Vec<u64>,
+}
+
+/// The outcome of one checker. Panics where it breaks what holds of every call, or where the call
+/// for the states leaves other words than the check.
+fn alone(checker: &dyn Checker, handler: &[u8], proof: &[u8], before: &[u64]) -> Outcome {
+    let (mut work, mut again) = (before.to_vec(), before.to_vec());
+    let verdict = checker.check(handler, proof, &mut work);
+    let states = checker.states(handler, proof, &mut again);
+    let call = lawful::call(handler, proof, before, verdict, &work);
+    let named = states.map_or(Ok(()), |states| lawful::states(handler, verdict, states));
+    let files = || in_full(checker.name(), handler, proof);
+    if let Err(why) = call.and(named) {
+        panic!("{why}: {verdict:?} {}", files());
+    }
+    assert!(states.is_none() || again == work, "work words after the states: {}", files());
+    Outcome { verdict, states, work }
+}
+
+/// What is compared, with both files.
+fn in_full(what: &str, handler: &[u8], proof: &[u8]) -> String {
+    format!("{what}: handler {handler:02X?} proof {proof:02X?}")
 }
 
 /// N and the numbers of the root's tables by every checker. Panics where two differ, or where a
@@ -73,16 +118,46 @@ pub fn judge_with(handler: &[u8], proof: &[u8], words: usize) -> Verdict {
 pub fn judge_root(handler: &[u8], proof: &[u8]) -> u64 {
     let known = reference::root(handler, proof);
     #[cfg(feature = "proved")]
+    assert_eq!(lent(handler, proof, proved::root), known, "{}", in_full("root", handler, proof));
+    known
+}
+
+/// The file and the byte that a number and a place lead to, by every checker. Panics as
+/// `judge_root` does, and where there is no such file or byte.
+pub fn judge_view(handler: &[u8], proof: &[u8], number: u32, kind: u32, place: u64) -> u64 {
+    let known = reference::view(handler, proof, number, kind, place);
+    let files = || in_full(&format!("view {number} {kind} {place}"), handler, proof);
+    let length = [handler, proof].get((known >> 32) as usize).map(|file| file.len() as u64);
+    let index = known & u64::from(u32::MAX);
+    assert!(length.is_some_and(|length| index <= length), "{known:X} {}", files());
+    #[cfg(feature = "proved")]
     {
-        let margin = [0xB6; 5];
-        let before = [&margin[..], handler, &margin, proof, &margin].concat();
-        let memory = before.clone();
-        let (first, rest) = memory[margin.len()..].split_at(handler.len());
-        let found = proved::root(first, &rest[margin.len()..][..proof.len()]);
-        assert_eq!(found, known, "handler {handler:02X?} proof {proof:02X?}");
-        assert!(memory == before, "bytes changed: handler {handler:02X?} proof {proof:02X?}");
+        let view = |handler: &[u8], proof: &[u8]| proved::view(handler, proof, number, kind, place);
+        assert_eq!(lent(handler, proof, view), known, "{}", files());
     }
     known
+}
+
+/// The view of the number and the place of a refusal; an accepted pair has none.
+pub fn judge_view_of(handler: &[u8], proof: &[u8], verdict: Verdict) -> Option<u64> {
+    let Verdict::Refused { number, place } = verdict else { return None };
+    let (kind, place) = match place {
+        Place::Bit(bit) => (BIT, bit),
+        Place::Node(node) => (NODE, node),
+    };
+    Some(judge_view(handler, proof, number, kind, u64::from(place)))
+}
+
+/// A call that only reads, with both files between other bytes, none of which may change.
+#[cfg(feature = "proved")]
+fn lent(handler: &[u8], proof: &[u8], call: impl Fn(&[u8], &[u8]) -> u64) -> u64 {
+    let margin = [0xB6; 5];
+    let before = [&margin[..], handler, &margin, proof, &margin].concat();
+    let memory = before.clone();
+    let (first, rest) = memory[margin.len()..].split_at(handler.len());
+    let answer = call(first, &rest[margin.len()..][..proof.len()]);
+    assert!(memory == before, "{}", in_full("bytes have changed", handler, proof));
+    answer
 }
 
 /// A refusal at a bit.

@@ -13,11 +13,30 @@ extern "C" {
         work_len: usize,
     ) -> u64;
 
+    fn handover_states(
+        handler: *const u8,
+        handler_len: usize,
+        proof: *const u8,
+        proof_len: usize,
+        work: *mut u64,
+        work_len: usize,
+    ) -> u64;
+
     fn handover_root(
         handler: *const u8,
         handler_len: usize,
         proof: *const u8,
         proof_len: usize,
+    ) -> u64;
+
+    fn handover_view(
+        handler: *const u8,
+        handler_len: usize,
+        proof: *const u8,
+        proof_len: usize,
+        number: u32,
+        kind: u32,
+        place: u64,
     ) -> u64;
 }
 
@@ -33,18 +52,23 @@ extern "C" {
     ) -> u64;
 }
 
-/// A library that is linked, by its function.
+/// A function of a library that takes two files and work words.
+type Call = unsafe extern "C" fn(*const u8, usize, *const u8, usize, *mut u64, usize) -> u64;
+
+/// A library that is linked, by its functions; that of an earlier checkout may lack `states`.
 pub struct Proved {
     name: &'static str,
-    function: unsafe extern "C" fn(*const u8, usize, *const u8, usize, *mut u64, usize) -> u64,
+    check: Call,
+    states: Option<Call>,
 }
 
 /// The library of this checkout.
-pub const PROVED: Proved = Proved { name: "proved", function: handover_check };
+pub const PROVED: Proved =
+    Proved { name: "proved", check: handover_check, states: Some(handover_states) };
 
 /// The library of an earlier checkout, which `tools/former` puts beside this one's.
 #[cfg(feature = "former")]
-pub const FORMER: Proved = Proved { name: "former", function: former_check };
+pub const FORMER: Proved = Proved { name: "former", check: former_check, states: None };
 
 impl Checker for Proved {
     fn name(&self) -> &'static str {
@@ -52,19 +76,26 @@ impl Checker for Proved {
     }
 
     fn check(&self, handler: &[u8], proof: &[u8], work: &mut [u64]) -> Verdict {
-        // SAFETY: each pointer comes from a slice with the length beside it, and is not null
-        // even where the slice is empty; only `work` is written, and nothing else holds it.
-        let answer = unsafe {
-            (self.function)(
-                handler.as_ptr(),
-                handler.len(),
-                proof.as_ptr(),
-                proof.len(),
-                work.as_mut_ptr(),
-                work.len(),
-            )
-        };
-        answer::verdict(answer)
+        answer::verdict(call(self.check, handler, proof, work))
+    }
+
+    fn states(&self, handler: &[u8], proof: &[u8], work: &mut [u64]) -> Option<u64> {
+        self.states.map(|function| call(function, handler, proof, work))
+    }
+}
+
+fn call(function: Call, handler: &[u8], proof: &[u8], work: &mut [u64]) -> u64 {
+    // SAFETY: each pointer comes from a slice with the length beside it, and is not null even
+    // where the slice is empty; only `work` is written, and nothing else holds it.
+    unsafe {
+        function(
+            handler.as_ptr(),
+            handler.len(),
+            proof.as_ptr(),
+            proof.len(),
+            work.as_mut_ptr(),
+            work.len(),
+        )
     }
 }
 
@@ -72,4 +103,12 @@ impl Checker for Proved {
 pub fn root(handler: &[u8], proof: &[u8]) -> u64 {
     // SAFETY: as above, and nothing is written.
     unsafe { handover_root(handler.as_ptr(), handler.len(), proof.as_ptr(), proof.len()) }
+}
+
+/// The file and the byte that a number and a place lead to, by the library of this checkout.
+pub fn view(handler: &[u8], proof: &[u8], number: u32, kind: u32, place: u64) -> u64 {
+    let (handler, handler_len) = (handler.as_ptr(), handler.len());
+    let (proof, proof_len) = (proof.as_ptr(), proof.len());
+    // SAFETY: as above, and nothing is written.
+    unsafe { handover_view(handler, handler_len, proof, proof_len, number, kind, place) }
 }

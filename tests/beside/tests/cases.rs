@@ -1,7 +1,7 @@
 //! The worked example and its damage, the step numbers of docs/RULES.md, and what is at the
 //! limits. The cases called marked are those of the theorem `twelve` of the crate `report`.
 
-use beside::{at_bit, at_node, judge, judge_with};
+use beside::{at_bit, at_node, judge, judge_with, HANDLER, PROOF};
 use generate::author::operate;
 use generate::derivation::Derivation;
 use generate::pack::{self, What};
@@ -12,9 +12,6 @@ use generate::vacuous;
 use reference::language::{Expression, Operation, Statement};
 use reference::states::{Relation, StateSet};
 use reference::{Verdict, LONGEST_FILE, TABLE_WORDS};
-
-const HANDLER: [u8; 3] = [0x22, 0x20, 0x02];
-const PROOF: [u8; 6] = [0x08, 0xF0, 0x45, 0x20, 0x02, 0x40];
 
 fn judge_pair(pair: &Pair) -> Verdict {
     judge(&pair.handler_file.bytes, &pair.proof_file.bytes)
@@ -80,11 +77,12 @@ fn the_marked_test() {
 
 #[test]
 fn work_words() {
-    assert_eq!(judge_with(&HANDLER, &PROOF, 1040), Verdict::Accepted(1));
-    assert_eq!(judge_with(&HANDLER, &PROOF, 1041), Verdict::Accepted(1));
-    assert_eq!(judge_with(&HANDLER, &PROOF, 1039), at_bit(1, 0));
-    assert_eq!(judge_with(&HANDLER, &PROOF, 0), at_bit(1, 0));
-    assert_eq!(judge_with(&[0; LONGEST_FILE + 1], &PROOF, 1039), at_bit(1, 0));
+    let with = |handler: &[u8], words| judge_with(handler, &PROOF, words).verdict;
+    assert_eq!(with(&HANDLER, 1040), Verdict::Accepted(1));
+    assert_eq!(with(&HANDLER, 1041), Verdict::Accepted(1));
+    assert_eq!(with(&HANDLER, 1039), at_bit(1, 0));
+    assert_eq!(with(&HANDLER, 0), at_bit(1, 0));
+    assert_eq!(with(&[0; LONGEST_FILE + 1], 1039), at_bit(1, 0));
 }
 
 #[test]

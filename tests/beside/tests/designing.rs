@@ -1,6 +1,6 @@
 //! Checks what docs/DESIGNING.md and docs/FAULTS.md state: each claim names a pair, and the line
-//! before it is the pair's verdict; each block gives a pair's tables; each search says how many of
-//! the pairs that it tries are accepted.
+//! before it is the pair's verdict, or the states that come with it; each block gives a pair's
+//! tables; each search says how many of the pairs that it tries are accepted.
 
 #[path = "designing/limits.rs"]
 mod limits;
@@ -67,6 +67,18 @@ fn claims_are_verdicts() {
         for (_, line) in stated.iter().filter(|(name, _)| name == claim.name) {
             assert_eq!(*line, verdict, "claim {}", claim.name);
         }
+    }
+}
+
+/// Where a page gives the states of a claim's refusal, they are these.
+#[test]
+fn states_are_named() {
+    let claims = claims();
+    let stated = stated("states");
+    assert!(!stated.is_empty());
+    for (name, states) in stated {
+        let claim = claims.iter().find(|claim| claim.name == name).expect("a claim");
+        assert_eq!(states, claim.states(), "claim {name}");
     }
 }
 

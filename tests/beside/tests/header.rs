@@ -1,6 +1,7 @@
-//! The numbers of the C header are those that a refusal can have, and its limits the reference's.
+//! The numbers of the C header are those that a refusal can have, each with its states, and its
+//! limits the reference's.
 
-use beside::lawful::NUMBERS;
+use beside::lawful::{states_named, NUMBERS};
 use reference::handler_file::MOST_STATES;
 use reference::{LONGEST_FILE, TABLE_WORDS};
 
@@ -13,16 +14,31 @@ fn limit(name: &str) -> usize {
     line.and_then(|words| words[2].parse().ok()).unwrap_or_else(|| panic!("no {name}"))
 }
 
+/// The numbers of the faults, each with the comment after it.
+fn faults() -> Vec<(u32, &'static str)> {
+    let rest = |line: &'static str| {
+        let (_, rest) = line.trim().strip_prefix("HANDOVER_FAULT_")?.split_once(" = ")?;
+        let number = rest.split([',', ' ']).next().and_then(|number| number.parse().ok());
+        Some((number.expect("a number follows"), rest))
+    };
+    HEADER.lines().filter_map(rest).collect()
+}
+
 #[test]
 fn fault_numbers() {
-    let mut numbers: Vec<u32> = HEADER
-        .lines()
-        .filter_map(|line| line.trim().strip_prefix("HANDOVER_FAULT_")?.split_once(" = "))
-        .map(|(_, value)| value.split([',', ' ']).next().and_then(|n| n.parse().ok()))
-        .map(|value| value.expect("a number follows"))
-        .collect();
+    let mut numbers: Vec<u32> = faults().into_iter().map(|(number, _)| number).collect();
     assert_eq!(numbers.remove(0), 0, "acceptance has the number 0");
     assert_eq!(numbers, NUMBERS);
+}
+
+/// The comment of a number that comes with states ends with them, as in `[s, t]`.
+#[test]
+fn states_of_the_faults() {
+    for (number, comment) in faults() {
+        let states = comment.strip_suffix("] */").and_then(|text| text.rsplit('[').next());
+        let count = states.map_or(0, |states| states.split(", ").count() as u64);
+        assert_eq!(count, states_named(number), "{number}: {comment}");
+    }
 }
 
 #[test]

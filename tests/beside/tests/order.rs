@@ -1,11 +1,7 @@
 //! The order of faults within a file, and their places, field by field.
 
-use beside::{at_bit, at_node, judge};
+use beside::{at_bit, at_node, judge, HANDLER, PROOF};
 use generate::pack::{Packer, What};
-
-/// The worked example of docs/FORMAT.md.
-const HANDLER: [u8; 3] = [0x22, 0x20, 0x02];
-const PROOF: [u8; 6] = [0x08, 0xF0, 0x45, 0x20, 0x02, 0x40];
 
 /// Puts fields of the given widths one behind the other.
 fn packed(fields: &[(u64, usize)]) -> Vec<u8> {

@@ -1,9 +1,10 @@
-//! docs/FORMAT.md and docs/RULES.md: the worked example is true, and every number has an entry.
+//! docs/FORMAT.md and docs/RULES.md: the worked example is true, and every number has an entry,
+//! with its states as docs/FAULTS.md has them too.
 
 use std::collections::BTreeSet;
 
-use beside::lawful::NUMBERS;
-use beside::{judge, line, page};
+use beside::lawful::{states_named, NUMBERS};
+use beside::{judge, judge_view_of, line, page};
 use reference::TABLE_WORDS;
 
 /// A table of a page, with the heading of its section.
@@ -108,13 +109,30 @@ fn the_lines_of_the_example_are_true() {
         let table = tables.iter().find(|table| table.has(file) && table.has("line")).expect(file);
         let files: Vec<Vec<u8>> = table.column(file).iter().map(|cell| bytes(cell)).collect();
         assert_eq!(files[0], *sample, "the first row is the pair itself");
-        for (changed, expected) in files.iter().zip(table.column("line")) {
-            let verdict = match file {
-                "handler.bin" => judge(changed, &proof),
-                _ => judge(&handler, changed),
+        let rows = files.iter().zip(table.column("line")).zip(table.column("shown"));
+        for ((changed, expected), shown) in rows {
+            let (handler, proof) = match file {
+                "handler.bin" => (changed, &proof),
+                _ => (&handler, changed),
             };
+            let verdict = judge(handler, proof);
             assert_eq!(line(verdict), expected, "{file} {changed:02X?}");
+            let view = judge_view_of(handler, proof, verdict);
+            let seen = view.map_or("–".into(), |view| seen(view, [handler, proof], changed));
+            assert_eq!(seen, shown, "{file} {changed:02X?}");
         }
+    }
+}
+
+/// The bytes that a view of one of two files shows, as the page writes them. They are those of the
+/// file that was changed.
+fn seen(view: u64, files: [&Vec<u8>; 2], changed: &[u8]) -> String {
+    let file = files[(view >> 32) as usize];
+    assert_eq!(file, changed, "the other file is shown");
+    let digits = |byte: &u8| format!("{byte:02X}");
+    match &file[(view & u64::from(u32::MAX)) as usize..] {
+        [] => "no bytes".into(),
+        bytes => bytes.iter().map(digits).collect::<Vec<_>>().join(" "),
     }
 }
 
@@ -134,17 +152,42 @@ fn the_work_words_of_the_example_are_true() {
     assert_eq!(listed, left);
 }
 
-/// The numbers that have a row in the tables of a page or of a section.
-fn entries<'a>(tables: impl Iterator<Item = &'a Table>) -> BTreeSet<usize> {
+/// The numbers that have a row in the tables of a page or of a section, in order.
+fn entries<'a>(tables: impl Iterator<Item = &'a Table>) -> Vec<usize> {
     tables.filter(|table| table.has("number")).flat_map(|table| table.numbers("number")).collect()
 }
 
 #[test]
 fn every_number_has_an_entry() {
     let numbers = NUMBERS.map(|number| number as usize);
-    let (reading, conditions) = numbers.into_iter().partition(|number| *number < 30);
-    assert_eq!(entries(tables(&page("FORMAT.md")).iter()), reading);
-    assert_eq!(entries(tables(&page("RULES.md")).iter()), conditions);
+    let (reading, conditions): (BTreeSet<usize>, BTreeSet<usize>) =
+        numbers.into_iter().partition(|number| *number < 30);
+    let of_page = |name: &str| entries(tables(&page(name)).iter()).into_iter().collect();
+    assert_eq!(reading, of_page("FORMAT.md"));
+    assert_eq!(conditions, of_page("RULES.md"));
+}
+
+/// The states of a number, as the pages write them.
+fn states_in_words(number: u32) -> &'static str {
+    match (states_named(number), number) {
+        (0, _) => "none",
+        (1, _) => "s",
+        (2, 42 | 43) => "s, s'",
+        (2, _) => "s, t",
+        _ => "s, t, u",
+    }
+}
+
+#[test]
+fn every_row_has_the_states_of_its_number() {
+    for name in ["RULES.md", "FAULTS.md"] {
+        for table in tables(&page(name)).iter().filter(|table| table.has("number")) {
+            for (number, states) in table.numbers("number").iter().zip(table.column("states")) {
+                let expected = states_in_words(*number as u32);
+                assert_eq!(states.replace('′', "'"), expected, "{name}, {number}");
+            }
+        }
+    }
 }
 
 #[test]
@@ -161,9 +204,8 @@ fn the_order_of_each_rule_has_its_conditions() {
         let digits = |part: &str| part.chars().filter(char::is_ascii_digit).collect::<String>();
         let asked: Vec<usize> =
             order.split(',').map(|part| digits(part).parse().expect(part)).collect();
-        let mut expected = of_section("Conditions on every node");
-        expected.extend(of_section(heading));
-        assert_eq!(asked, expected.into_iter().collect::<Vec<usize>>(), "{heading}");
+        let expected = [of_section("Conditions on every node"), of_section(heading)].concat();
+        assert_eq!(asked, expected, "{heading}");
         rules += 1;
     }
     assert_eq!(rules, 7);

@@ -3,7 +3,8 @@
 //!
 //! `HANDOVER_COMPARISONS` asks for more than the default, `HANDOVER_SEED` for others.
 
-use beside::{judge, judge_root, number, setting};
+use beside::lawful::NUMBERS;
+use beside::{judge, judge_root, number, setting, HANDLER, PROOF};
 use generate::construct;
 use generate::damage::damaged;
 use generate::pack::{self, What};
@@ -15,17 +16,10 @@ use reference::language::Statement;
 use reference::LONGEST_FILE;
 use std::collections::BTreeMap;
 
-const HANDLER: [u8; 3] = [0x22, 0x20, 0x02];
-const PROOF: [u8; 6] = [0x08, 0xF0, 0x45, 0x20, 0x02, 0x40];
-
-/// A pair occurs with each of these numbers of files that can be read: 0 is acceptance.
-const ANSWERED: [u32; 29] = [
-    0, 30, 31, 32, 33, 34, 35, 40, 41, 42, 43, 45, 46, 50, 51, 52, 53, 54, 55, 56, 60, 61, 65, 66,
-    70, 71, 72, 73, 80,
-];
-
-/// And with each of these, of files that cannot be read.
-const ILL_FORMED: [u32; 16] = [2, 10, 11, 12, 13, 14, 15, 16, 17, 18, 20, 21, 22, 23, 24, 25];
+/// The numbers of files that cannot be read.
+fn ill_formed(number: u32) -> bool {
+    number == 2 || (10..=25).contains(&number)
+}
 
 fn root_of(states: u64, p: u64, r: u64, g: u64, q: u64) -> u64 {
     states + (p << 8) + (r << 16) + (g << 24) + (q << 32)
@@ -92,7 +86,7 @@ fn compare(handler: &[u8], proof: &[u8], known: Option<u64>, counts: &mut BTreeM
     let mut work = [0; reference::TABLE_WORDS];
     let verdict = number(reference::check(handler, proof, &mut work));
     let root = judge_root(handler, proof);
-    assert_eq!(root == 0, ILL_FORMED.contains(&verdict), "{verdict}: {handler:02X?} {proof:02X?}");
+    assert_eq!(root == 0, ill_formed(verdict), "{verdict}: {handler:02X?} {proof:02X?}");
     assert!(known.is_none_or(|known| known == root), "{root:X}: {handler:02X?} {proof:02X?}");
     *counts.entry(verdict).or_default() += 1;
 }
@@ -143,7 +137,8 @@ fn generated_files() {
         one_pair(&mut random, &pair, &mut counts);
     }
     println!("{} roots: {counts:?}", counts.values().sum::<u64>());
-    let every = ANSWERED.iter().chain(&ILL_FORMED);
+    // 1 is about the work words, which this call does not have; 0 is acceptance.
+    let every = NUMBERS.iter().filter(|number| **number != 1).chain(&[0]);
     let missing: Vec<&u32> = every.filter(|number| !counts.contains_key(number)).collect();
     assert!(missing.is_empty(), "no pair had these numbers: {missing:?}");
 }

@@ -6,6 +6,7 @@ use beside::Checker;
 use generate::damage::{damaged, Files};
 use generate::pairs::{accepted, Scale};
 use generate::random::Random;
+use reference::view::NODE;
 use reference::{Verdict, TABLE_WORDS};
 use std::sync::Barrier;
 
@@ -13,18 +14,23 @@ const THREADS: usize = 8;
 const PAIRS: usize = 100;
 const ROUNDS: usize = 5;
 
-/// What a host gets from both calls for a pair.
+/// What a host gets from all calls for a pair.
 #[derive(PartialEq)]
 struct Answer {
     verdict: Verdict,
+    states: Option<u64>,
     words: Vec<u64>,
     root: u64,
+    view: u64,
 }
 
-/// Both calls, over the words that an earlier call has left.
+/// All calls, over the words that an earlier call has left. The view is that of node 0.
 fn answer((handler, proof): &Files, work: &mut [u64]) -> Answer {
     let verdict = PROVED.check(handler, proof, work);
-    Answer { verdict, words: work.to_vec(), root: proved::root(handler, proof) }
+    let states = PROVED.states(handler, proof, work);
+    let root = proved::root(handler, proof);
+    let view = proved::view(handler, proof, 30, NODE, 0);
+    Answer { verdict, states, words: work.to_vec(), root, view }
 }
 
 /// Accepted pairs and four damaged versions of each.

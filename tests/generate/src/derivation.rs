@@ -1,5 +1,7 @@
 //! Derivations whose nodes hold their tables themselves, and their numbering for a file.
 
+use crate::programs::parts;
+use reference::language::Statement;
 use reference::proof_file::{Node, Proof, Rule};
 use reference::states::{Relation, StateSet};
 
@@ -24,6 +26,16 @@ pub enum Step {
     Weaken,
 }
 
+impl Step {
+    /// The statements at hand at the node's children, where this one is at hand at the node.
+    pub fn below<'a>(&self, statement: &'a Statement) -> Vec<&'a Statement> {
+        match self {
+            Step::Weaken => vec![statement],
+            _ => parts(statement),
+        }
+    }
+}
+
 #[derive(Clone, Debug)]
 pub struct Derivation {
     pub step: Step,
@@ -32,7 +44,7 @@ pub struct Derivation {
 }
 
 impl Derivation {
-    /// Gives the node G and Q and hands on what condition 34 ties to them. The children of a
+    /// Gives the node G and Q and hands on what 37 and 38 tie to them. The children of a
     /// parallel and of a weaken keep their own: they were settled when they were made.
     pub fn settle(&mut self, g: Relation, q: Relation) {
         let (p, r) = (self.tables.p, self.tables.r.clone());

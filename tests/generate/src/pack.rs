@@ -42,6 +42,12 @@ impl Packed {
         self.fields.iter().copied().filter(|field| field.what == what).collect()
     }
 
+    /// The value of a field of at most 64 bits.
+    pub fn value(&self, field: Field) -> u64 {
+        let bit = |bit: usize| u64::from(self.bytes[bit / 8] >> (7 - bit % 8) & 1);
+        (field.bit..field.bit + field.width).fold(0, |value, place| value << 1 | bit(place))
+    }
+
     /// The bytes with another value in one field.
     pub fn with_field(&self, field: Field, value: u64) -> Vec<u8> {
         let mut bytes = self.bytes.clone();

@@ -2,6 +2,7 @@
 
 use generate::derivation::{Derivation, Step, Tables};
 use generate::pairs::{accepted, Pair, Scale};
+use generate::programs::parts;
 use generate::random::Random;
 use reference::language::Statement;
 use reference::space::Space;
@@ -87,10 +88,7 @@ fn interfered_loop(node: &Derivation) -> bool {
 fn reads_moved(node: &Derivation, statement: &Statement, space: &Space) -> bool {
     let Tables { p, r, .. } = &node.tables;
     let moved = |v: usize| p.members().any(|s| r.row(s).members().any(|t| space.differ(v, s, t)));
-    let below = match node.step {
-        Step::Weaken => vec![statement],
-        _ => parts(statement),
-    };
+    let below = node.step.below(statement);
     let here = match (&node.step, statement) {
         (Step::While { .. }, Statement::While(test, _)) => test.occurrences(&moved) > 0,
         _ => false,
@@ -104,14 +102,6 @@ fn is_parallel(statement: &Statement) -> bool {
 
 fn is_loop(statement: &Statement) -> bool {
     matches!(statement, Statement::While(..))
-}
-
-fn parts(statement: &Statement) -> Vec<&Statement> {
-    match statement {
-        Statement::Nil | Statement::Assignment(..) => vec![],
-        Statement::Sequence(left, right) | Statement::Parallel(left, right) => vec![left, right],
-        Statement::If(_, body) | Statement::While(_, body) => vec![body],
-    }
 }
 
 type Is = fn(&Statement) -> bool;

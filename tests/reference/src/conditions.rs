@@ -1,4 +1,7 @@
-//! The conditions on each node of the derivation (30 to 73), in the order of their numbers.
+//! The conditions on each node of the derivation (30 to 73), in the order in which they are asked.
+//!
+//! A condition that names states is a search for the least that break it: the first state
+//! ascends, for each of them the second, and for each pair the third.
 
 use crate::fault::Fault;
 use crate::language::{Expression, Handler, Statement};
@@ -12,15 +15,48 @@ pub fn examine(handler: &Handler, proof: &Proof) -> Result<(), Fault> {
     examiner.node(&proof.root, &handler.statement)
 }
 
-/// A condition that fails is named by its number.
-type Outcome = Result<(), u32>;
+/// A condition that fails is named by its number, with the states that it names.
+type Outcome = Result<(), (u32, Vec<usize>)>;
 
+/// A condition that names no states.
 fn must(holds: bool, number: u32) -> Outcome {
     if holds {
         Ok(())
     } else {
-        Err(number)
+        Err((number, Vec::new()))
     }
+}
+
+/// A condition that names states: it holds if none break it.
+fn unless<const COUNT: usize>(breach: Option<[usize; COUNT]>, number: u32) -> Outcome {
+    match breach {
+        None => Ok(()),
+        Some(states) => Err((number, states.to_vec())),
+    }
+}
+
+/// The least state of the set that breaks a condition.
+fn least_state(states: StateSet, breaks: impl Fn(usize) -> bool) -> Option<[usize; 1]> {
+    states.members().find(|s| breaks(*s)).map(|s| [s])
+}
+
+/// The least s of the set that has an end which breaks a condition, and the least such end.
+fn least_pair(starts: StateSet, wrong_ends: impl Fn(usize) -> StateSet) -> Option<[usize; 2]> {
+    starts.members().find_map(|s| wrong_ends(s).least().map(|t| [s, t]))
+}
+
+/// The least s, t and u with s in the set, (s,t) in `first`, (t,u) in `second` and (s,u) not in
+/// `whole`.
+fn least_chain(
+    starts: StateSet,
+    first: &Relation,
+    second: &Relation,
+    whole: &Relation,
+) -> Option<[usize; 3]> {
+    starts.members().find_map(|s| {
+        let wrong_ends = |t: usize| second.row(t).minus(whole.row(s));
+        least_pair(first.row(s), wrong_ends).map(|[t, u]| [s, t, u])
+    })
 }
 
 /// The four tables of a node.
@@ -42,7 +78,8 @@ impl<'a> Examiner<'a> {
     fn node(&mut self, node: &Node, statement: &Statement) -> Result<(), Fault> {
         let number = self.next;
         self.next += 1;
-        self.conditions(node, statement).map_err(|fault| Fault::at_node(fault, number))?;
+        self.conditions(node, statement)
+            .map_err(|(fault, states)| Fault::at_node(fault, number, states))?;
         let parts = match statement {
             _ if node.rule == Rule::Weaken => [Some(statement), None],
             Statement::Nil | Statement::Assignment(..) => [None, None],
@@ -91,19 +128,21 @@ impl<'a> Examiner<'a> {
         let mut stores = Vec::with_capacity(64);
         for s in own.p.members() {
             let end = self.space.store(s, variable, value.value(self.space.values(s)));
-            stores.push((s, end.ok_or(40u32)?));
+            stores.push([s, end.ok_or_else(|| (40, vec![s]))?]);
         }
         must(value.occurrences(&self.moved(own)) == 0, 41)?;
-        must(stores.iter().all(|(s, end)| own.q.has(*s, *end)), 42)?;
-        must(stores.iter().all(|(s, end)| s == end || own.g.has(*s, *end)), 43)
+        let mut stores = stores.into_iter();
+        unless(stores.clone().find(|[s, end]| !own.q.has(*s, *end)), 42)?;
+        unless(stores.find(|[s, end]| s != end && !own.g.has(*s, *end)), 43)
     }
 
     fn if_rule(&self, own: &Tables, body: &Tables, test: &Expression) -> Outcome {
         let holds = self.space.where_true(test);
-        let same = body.r == own.r && body.g == own.g && body.q == own.q;
-        must(body.p == own.p.meet(holds) && same, 34)?;
+        must(body.p == own.p.meet(holds), 34)?;
+        same_r_and_g(own, body)?;
+        must(body.q == own.q, 38)?;
         must(test.occurrences(&self.moved(own)) == 0, 45)?;
-        must(own.p.minus(holds).members().all(|s| own.q.has(s, s)), 46)
+        unless(least_state(own.p.minus(holds), |s| !own.q.has(s, s)), 46)
     }
 
     fn while_rule(
@@ -116,16 +155,19 @@ impl<'a> Examiner<'a> {
     ) -> Outcome {
         let holds = self.space.where_true(test);
         let fails = own.p.minus(holds);
-        let same = body.r == own.r && body.g == own.g;
-        must(body.p == own.p.meet(k) && same && *body.q == w.ending_in(own.p), 34)?;
+        must(body.p == own.p.meet(k), 34)?;
+        same_r_and_g(own, body)?;
+        must(*body.q == w.ending_in(own.p), 38)?;
         must(test.occurrences(&self.moved(own)) <= 1, 50)?;
-        must(descends(w), 51)?;
-        must(own.p.meet(holds).lies_in(k), 52)?;
-        must(own.r.image(own.p.meet(k)).lies_in(k), 53)?;
-        must(own.r.image(fails).meet(holds) == StateSet::NONE, 54)?;
-        must(own.p.members().all(|s| own.r.row(s).without(s).lies_in(w.row(s))), 55)?;
+        // 51 and 57 range over all N states, P or not.
+        unless(least_state(self.space.all(), |s| w.has(s, s)), 51)?;
+        unless(least_chain(self.space.all(), w, w, w), 57)?;
+        unless(least_state(own.p.meet(holds), |s| !k.has(s)), 52)?;
+        unless(least_pair(own.p.meet(k), |s| own.r.row(s).minus(k)), 53)?;
+        unless(least_pair(fails, |s| own.r.row(s).meet(holds)), 54)?;
+        unless(least_pair(own.p, |s| own.r.row(s).without(s).minus(w.row(s))), 55)?;
         let ends = |s: usize| w.row(s).with(s).meet(fails);
-        must(own.p.members().all(|s| ends(s).lies_in(own.q.row(s))), 56)
+        unless(least_pair(own.p, |s| ends(s).minus(own.q.row(s))), 56)
     }
 
     /// Which variables the rely moves: some pair of R from a state of P differs in it.
@@ -156,30 +198,38 @@ fn fits(rule: Rule, statement: &Statement) -> bool {
 
 /// 31 to 33: interference keeps P, and Q takes it in before and after.
 fn stable(own: &Tables) -> Outcome {
-    must(own.r.image(own.p).lies_in(own.p), 31)?;
-    must(own.p.members().all(|s| own.q.image(own.r.row(s)).lies_in(own.q.row(s))), 32)?;
-    must(own.p.members().all(|s| own.r.image(own.q.row(s)).lies_in(own.q.row(s))), 33)
+    unless(least_pair(own.p, |s| own.r.row(s).minus(own.p)), 31)?;
+    unless(least_chain(own.p, own.r, own.q, own.q), 32)?;
+    unless(least_chain(own.p, own.q, own.r, own.q), 33)
+}
+
+/// 36 and 37: a child has the node's own R and G.
+fn same_r_and_g(own: &Tables, child: &Tables) -> Outcome {
+    must(child.r == own.r, 36)?;
+    must(child.g == own.g, 37)
 }
 
 fn skip(own: &Tables) -> Outcome {
-    must(own.p.members().all(|s| own.q.has(s, s)), 35)
+    unless(least_state(own.p, |s| !own.q.has(s, s)), 35)
 }
 
 fn sequence(own: &Tables, left: &Tables, right: &Tables) -> Outcome {
-    let left_same = left.p == own.p && left.r == own.r && left.g == own.g;
-    must(left_same && right.r == own.r && right.g == own.g, 34)?;
-    must(left.q.image(own.p).lies_in(right.p), 60)?;
-    must(own.p.members().all(|s| right.q.image(left.q.row(s)).lies_in(own.q.row(s))), 61)
+    must(left.p == own.p, 34)?;
+    same_r_and_g(own, left)?;
+    same_r_and_g(own, right)?;
+    unless(least_pair(own.p, |s| left.q.row(s).minus(right.p)), 60)?;
+    unless(least_chain(own.p, left.q, right.q, own.q), 61)
 }
 
 fn parallel(own: &Tables, left: &Tables, right: &Tables) -> Outcome {
-    let same_p = left.p == own.p && right.p == own.p;
-    let relies = *left.r == own.r.join(right.g) && *right.r == own.r.join(left.g);
-    must(same_p && relies, 34)?;
+    for (child, sibling) in [(left, right), (right, left)] {
+        must(child.p == own.p, 34)?;
+        must(*child.r == own.r.join(sibling.g), 36)?;
+    }
     must(left.g.lies_in(own.g) && right.g.lies_in(own.g), 65)?;
     let reach = own.r.join(left.g).join(right.g).reach();
     let both = |s: usize| left.q.row(s).meet(right.q.row(s)).meet(reach.row(s));
-    must(own.p.members().all(|s| both(s).lies_in(own.q.row(s))), 66)
+    unless(least_pair(own.p, |s| both(s).minus(own.q.row(s))), 66)
 }
 
 fn weaken(own: &Tables, child: &Tables) -> Outcome {
@@ -187,9 +237,4 @@ fn weaken(own: &Tables, child: &Tables) -> Outcome {
     must(own.r.lies_in(child.r), 71)?;
     must(child.g.lies_in(own.g), 72)?;
     must(child.q.lies_in(own.q), 73)
-}
-
-/// 51: transitive, and no state is below itself. It ranges over all states, P or not.
-fn descends(w: &Relation) -> bool {
-    (0..64).all(|s| !w.has(s, s) && w.image(w.row(s)).lies_in(w.row(s)))
 }

@@ -12,8 +12,10 @@ pub mod reader;
 pub mod space;
 pub mod states;
 pub mod step_number;
+pub mod view;
 
 pub use fault::{Fault, Place, Verdict};
+pub use view::view;
 
 use language::Handler;
 use proof_file::Proof;
@@ -29,28 +31,24 @@ pub const LONGEST_FILE: usize = 16_384;
 /// Faults of the host (1 and 2) leave `work` as it was. Every other refusal clears the table
 /// words, so that no half-read table outlives the call. Words past the tables never change.
 pub fn check(handler: &[u8], proof: &[u8], work: &mut [u64]) -> Verdict {
-    if work.len() < TABLE_WORDS {
-        return Fault::at_bit(1, 0).into();
-    }
-    if handler.len() > LONGEST_FILE || proof.len() > LONGEST_FILE {
-        return Fault::at_bit(2, 0).into();
-    }
-    work[..TABLE_WORDS].fill(0);
-    match decide(handler, proof) {
-        Ok((steps, proof)) => {
-            write_tables(&proof, work);
-            Verdict::Accepted(steps)
-        }
+    match decide(handler, proof, work) {
+        Ok(steps) => Verdict::Accepted(steps),
         Err(fault) => fault.into(),
+    }
+}
+
+/// The states that the refusal of a pair names, as one number (`Fault::named`): 0 where it names
+/// none and where the pair is accepted. `work` ends as after `check`.
+pub fn named_states(handler: &[u8], proof: &[u8], work: &mut [u64]) -> u64 {
+    match decide(handler, proof, work) {
+        Ok(_) => 0,
+        Err(fault) => fault.named(),
     }
 }
 
 /// What a host must know of a pair: N + 2^8 × P + 2^16 × R + 2^24 × G + 2^32 × Q, the numbers
 /// of the root's tables, or 0 where a file is ill-formed. No condition is looked at.
 pub fn root(handler: &[u8], proof: &[u8]) -> u64 {
-    if handler.len() > LONGEST_FILE || proof.len() > LONGEST_FILE {
-        return 0;
-    }
     let Ok((handler, proof)) = read(handler, proof) else {
         return 0;
     };
@@ -59,22 +57,31 @@ pub fn root(handler: &[u8], proof: &[u8]) -> u64 {
     bytes.iter().rev().fold(0, |number, byte| number << 8 | *byte as u64)
 }
 
-/// Both files; the proof is over the handler's states.
+/// Both files, each within its length; the proof is over the handler's states.
 fn read(handler: &[u8], proof: &[u8]) -> Result<(Handler, Proof), Fault> {
+    if handler.len() > LONGEST_FILE || proof.len() > LONGEST_FILE {
+        return Err(Fault::at_bit(2, 0));
+    }
     let handler = handler_file::read(handler)?;
     let proof = proof_file::read(proof, handler.space.states())?;
     Ok((handler, proof))
 }
 
-/// The order of faults (docs/FORMAT.md): handler file, proof file, nodes, and 80 last.
-fn decide(handler: &[u8], proof: &[u8]) -> Result<(u32, Proof), Fault> {
-    let (handler, proof) = read(handler, proof)?;
+/// The order of faults (docs/FORMAT.md): the host, handler file, proof file, nodes, and 80 last.
+fn decide(handler: &[u8], proof: &[u8], work: &mut [u64]) -> Result<u32, Fault> {
+    if work.len() < TABLE_WORDS {
+        return Err(Fault::at_bit(1, 0));
+    }
+    let files = read(handler, proof);
+    if !matches!(files, Err(Fault { number: 2, .. })) {
+        work[..TABLE_WORDS].fill(0);
+    }
+    let (handler, proof) = files?;
     conditions::examine(&handler, &proof)?;
     let steps = step_number::of(&handler.statement, handler.space.states());
-    match u32::try_from(steps) {
-        Ok(steps) => Ok((steps, proof)),
-        Err(_) => Err(Fault::at_node(80, 0)),
-    }
+    let steps = u32::try_from(steps).map_err(|_| Fault::at_node(80, 0, Vec::new()))?;
+    write_tables(&proof, work);
+    Ok(steps)
 }
 
 /// Word i is set i; word 16 + 64r + s is row s of relation r. The caller has cleared the rest.

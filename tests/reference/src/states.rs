@@ -40,6 +40,12 @@ impl StateSet {
         self.minus(other) == StateSet::NONE
     }
 
+    /// The least member.
+    pub fn least(self) -> Option<usize> {
+        self.members().next()
+    }
+
+    /// The members, in ascending order.
     pub fn members(self) -> impl Iterator<Item = usize> {
         let mut rest = self.0;
         std::iter::from_fn(move || {

@@ -45,7 +45,7 @@ holds r, and its values 0, 1, 2 mean 1, 2, 3.
 One thing differs from the published FINDP: the counters oc and ec are set before the threads start.
 If a thread set its own counter, its guarantee would have to allow at any time that the counter is
 lowered. The other thread's W would have to descend along that step as well as along the steps that
-raise the counter, and no W can (conditions 51 and 55 of [RULES.md](../../docs/RULES.md)).
+raise the counter, and no W can (conditions 51, 55 and 57 of [RULES.md](../../docs/RULES.md)).
 
 The odd thread only lowers ot and only raises oc, the even one only lowers et and only raises ec:
 these are their guarantees. W takes these four directions together and is the same in both loops.

@@ -47,7 +47,7 @@ fn countdowns() -> Vec<Claim> {
         with("countdown-42", &|tables| {
             tables.w = c.relation(|[c, ..], [d, ..]| d + 1 == c && c != 2);
         }),
-        with("countdown-51", &|tables| tables.w = c.relation(|[c, ..], [d, ..]| d + 1 == c)),
+        with("countdown-57", &|tables| tables.w = c.relation(|[c, ..], [d, ..]| d + 1 == c)),
         with("countdown-56", &|tables| {
             tables.tables.q = c.relation(|[c, ..], [d, ..]| d == 0 && c > 0);
         }),
@@ -67,7 +67,7 @@ fn starts() -> Vec<Claim> {
     let exact = Tables { q: c.relation(|[c, ..], [d, ..]| c == 3 && d == 0), ..outer.clone() };
     vec![
         c.claim("start-42", count_down(0), narrow.node(assignment)),
-        c.claim("start-34", count_down(0), wider_body),
+        c.claim("start-38", count_down(0), wider_body),
         c.claim("start-73", count_down(0), weaken(exact, whole.clone().node(assignment))),
         c.claim("start", count_down(0), weaken(outer, whole.node(assignment))),
     ]
@@ -131,7 +131,7 @@ fn waits() -> Vec<Claim> {
         with("wait", &|_| {}),
         with("wait-53", &|tables| tables.k = w.set(|[f, t, ..]| f == 0 && t > 0)),
         with("wait-55", &|tables| tables.w = lower()),
-        with("wait-51", &|tables| tables.w = lower().join(&tables.tables.r)),
+        with("wait-57", &|tables| tables.w = lower().join(&tables.tables.r)),
     ]
 }
 
@@ -172,7 +172,7 @@ fn idles() -> Vec<Claim> {
     wider_body.children[0].tables.q = raise().join(&same());
     vec![
         f.claim("idle-35", idle(), tables(raise()).node(skip)),
-        f.claim("idle-34", idle(), wider_body),
+        f.claim("idle-38", idle(), wider_body),
         f.claim("idle-51", idle(), tables(raise().join(&same())).node(skip)),
     ]
 }

@@ -131,7 +131,7 @@ fn parallels() -> Vec<Claim> {
     let copy = parallel(store(0, number(1)), store(1, read(0)));
     vec![
         with("both", raise_both(), &|_| {}),
-        with("both-34", raise_both(), &|sides| sides.left.r = none()),
+        with("both-36", raise_both(), &|sides| sides.left.r = none()),
         with("both-32", raise_both(), &|sides| {
             sides.left.q = w.relation(|[_, b, ..], [c, d, ..]| c == 1 && b == d);
         }),

@@ -47,7 +47,7 @@ fn toggles() -> Vec<Claim> {
     };
     vec![
         with("toggle-55", lower()),
-        with("toggle-51", lower().join(&toggle())),
+        with("toggle-57", lower().join(&toggle())),
         with("toggle-closed-51", lower().join(&toggle()).join(&still)),
         w.claim("toggle-if", once, when_node(tables(), positive, assignment)),
         c.claim("toggle-left-out", count_down(0), alone.node(assignment)),

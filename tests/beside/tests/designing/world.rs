@@ -1,6 +1,6 @@
 //! Pairs made by hand: states and tables by the values of the variables, and a name for each pair.
 
-use beside::judge;
+use beside::{judge_states, Judgement};
 use generate::author::operate;
 use generate::derivation::{Derivation, Step, Tables};
 use generate::pack;
@@ -61,9 +61,21 @@ pub struct Claim {
 
 impl Claim {
     pub fn verdict(&self) -> Verdict {
+        self.judged().verdict
+    }
+
+    /// The states that the refusal names, as FAULTS.md writes those of 57: `s = 2, t = 1, u = 0`.
+    pub fn states(&self) -> String {
+        let states = self.judged().states;
+        let state = |(i, letter)| format!("{letter} = {}", states >> (8 * i) & 0xFF);
+        let named = ["s", "t", "u"].iter().enumerate().take((states >> 24) as usize);
+        named.map(state).collect::<Vec<_>>().join(", ")
+    }
+
+    fn judged(&self) -> Judgement {
         let proof = self.derivation.proof().expect("at most 16 sets and 16 relations");
         let proof_file = pack::proof(&proof, self.handler.space.states());
-        judge(&pack::handler(&self.handler).bytes, &proof_file.bytes)
+        judge_states(&pack::handler(&self.handler).bytes, &proof_file.bytes)
     }
 }
 
@@ -93,7 +105,7 @@ pub fn weaken(tables: Tables, child: Derivation) -> Derivation {
     Derivation { step: Step::Weaken, tables, children: vec![child] }
 }
 
-/// An if node; the body gets the tables that 34 asks for.
+/// An if node; the body gets the tables that 34 and 36 to 38 ask for.
 pub fn when_node(
     tables: Tables,
     test_true: StateSet,
@@ -112,7 +124,7 @@ pub struct Loop {
 }
 
 impl Loop {
-    /// The while node; the body gets the tables that 34 asks for.
+    /// The while node; the body gets the tables that 34 and 36 to 38 ask for.
     pub fn node(self, body: impl FnOnce(Tables) -> Derivation) -> Derivation {
         let Loop { tables, k, w } = self;
         let inner = Tables { p: tables.p.meet(k), q: w.ending_in(tables.p), ..tables.clone() };

@@ -1,5 +1,6 @@
 //! Damage to accepted pairs: in the bytes, in the fields, in the tables and in the handler.
 
+mod loops;
 mod tables;
 mod text;
 
@@ -21,11 +22,12 @@ pub fn damaged(random: &mut Random, pair: &Pair) -> Files {
         0..=2 => (bytes(random, &pair.handler_file), proof()),
         3..=5 => (handler(), bytes(random, &pair.proof_file)),
         6..=11 => (field(random, &pair.handler_file, &HANDLER_FIELDS), proof()),
-        12..=19 => (handler(), field(random, &pair.proof_file, &PROOF_FIELDS)),
-        20..=29 => (handler(), field(random, &pair.proof_file, &[What::Table])),
-        30..=79 => tables::changed(random, pair).unwrap_or_else(|| (handler(), proof())),
-        80..=91 => text::altered(random, pair).unwrap_or_else(|| (handler(), proof())),
-        _ => text::retested(random, pair).unwrap_or_else(|| (handler(), proof())),
+        12..=18 => (handler(), field(random, &pair.proof_file, &PROOF_FIELDS)),
+        19..=26 => (handler(), field(random, &pair.proof_file, &[What::Table])),
+        27..=71 => tables::changed(random, pair).unwrap_or_else(|| (handler(), proof())),
+        72..=77 => text::altered(random, pair).unwrap_or_else(|| (handler(), proof())),
+        78..=91 => text::retested(random, pair).unwrap_or_else(|| (handler(), proof())),
+        _ => loops::disordered(random, pair).unwrap_or_else(|| (handler(), proof())),
     }
 }
 

@@ -8,8 +8,8 @@ use reference::language::Statement;
 use reference::space::Space;
 use reference::states::{Relation, StateSet};
 
-/// A derivation with a member more or less in some table; the children's tables may follow, as
-/// condition 34 wants, so that the later conditions are reached.
+/// A derivation with some members more or less in some table; the children's tables may follow, as
+/// 34 and 36 to 38 want, so that the later conditions are reached.
 pub fn changed(random: &mut Random, pair: &Pair) -> Option<Files> {
     let mut derivation = pair.derivation.clone();
     let space = &pair.handler.space;
@@ -17,10 +17,10 @@ pub fn changed(random: &mut Random, pair: &Pair) -> Option<Files> {
     for _ in 0..random.between(1, 2) {
         let path = random.pick(&paths).clone();
         let node = derivation.at(&path);
-        if random.chance(50) {
-            change_slot(random, space, node);
-        } else {
-            change_everywhere(random, space, &mut derivation, &path);
+        match random.below(100) {
+            0..=44 => change_slot(random, space, node),
+            45..=84 => change_everywhere(random, space, &mut derivation, &path),
+            _ => forget_ends(random, space, node),
         }
     }
     if random.chance(70) {
@@ -29,11 +29,23 @@ pub fn changed(random: &mut Random, pair: &Pair) -> Option<Files> {
     repack(&pair.handler, &derivation)
 }
 
-/// One member more or less in one table of one node.
+/// How many members change: mostly one, at times enough to break a condition in many states.
+fn extent(random: &mut Random) -> usize {
+    *random.pick(&[1, 1, 1, 4, 32])
+}
+
+/// Members more or less in one table of one node.
 fn change_slot(random: &mut Random, space: &Space, node: &mut Derivation) {
+    let slot = random.below(6);
+    for _ in 0..extent(random) {
+        change_member(random, space, node, slot);
+    }
+}
+
+fn change_member(random: &mut Random, space: &Space, node: &mut Derivation, slot: usize) {
     let tables = &mut node.tables;
     let s = likely_start(random, space, tables.p);
-    match (random.below(6), &mut node.step) {
+    match (slot, &mut node.step) {
         (0, _) => tables.p = flipped(random, space, tables.p),
         (1, _) => flip(random, space, &mut tables.r, s),
         (2, _) => flip(random, space, &mut tables.g, s),
@@ -43,7 +55,7 @@ fn change_slot(random: &mut Random, space: &Space, node: &mut Derivation) {
     }
 }
 
-/// One member more or less in a table of a node, wherever the derivation has that table.
+/// Members more or less in a table of a node, wherever the derivation has that table.
 fn change_everywhere(random: &mut Random, space: &Space, root: &mut Derivation, path: &[usize]) {
     let tables = &root.at(path).tables;
     if random.chance(25) {
@@ -53,10 +65,21 @@ fn change_everywhere(random: &mut Random, space: &Space, root: &mut Derivation, 
     } else {
         let old = random.pick(&[&tables.r, &tables.g, &tables.q]).to_owned().clone();
         let mut new = old.clone();
-        let s = likely_start(random, space, tables.p);
-        flip(random, space, &mut new, s);
+        for _ in 0..extent(random) {
+            let s = likely_start(random, space, tables.p);
+            flip(random, space, &mut new, s);
+        }
         root.replace_relation(&old, &new);
     }
+}
+
+/// Takes out of Q the pairs that end in some states or in one from which R leads to them. So 32
+/// and 33 still hold, and the conditions after them are reached with many pairs missing.
+fn forget_ends(random: &mut Random, space: &Space, node: &mut Derivation) {
+    let forgotten = random.thinned(space.all(), 20);
+    let reach = node.tables.r.reach();
+    let kept = |t: &usize| reach.row(*t).meet(forgotten) == StateSet::NONE;
+    node.tables.q = node.tables.q.ending_in(space.all().members().filter(kept).collect());
 }
 
 fn flipped(random: &mut Random, space: &Space, set: StateSet) -> StateSet {
@@ -84,7 +107,7 @@ fn flip(random: &mut Random, space: &Space, relation: &mut Relation, s: usize) {
     relation.set_row(s, new);
 }
 
-/// Gives the children the tables that condition 34 wants of them, from the root down.
+/// Gives the children the tables that 34 and 36 to 38 want of them, from the root down.
 pub fn mend(node: &mut Derivation, statement: &Statement, space: &Space) {
     let own = node.tables.clone();
     let children = &mut node.children;

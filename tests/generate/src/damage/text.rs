@@ -1,5 +1,5 @@
-//! Damage to the expressions of a handler, with a derivation that follows as far as condition
-//! 34 goes, so that the conditions on tests and values are reached.
+//! Damage to the expressions of a handler, with a derivation that follows as far as 34 and 36 to
+//! 38 go, so that the conditions on tests and values are reached.
 
 use super::tables::mend;
 use super::{repack, Files};
