@@ -64,9 +64,9 @@ impl Tally {
 }
 
 fn print_rows(numbers: &[u32], cell: impl Fn(u32) -> String) {
-    for row in numbers.chunks(9) {
+    for row in numbers.chunks(7) {
         let cells: Vec<String> =
-            row.iter().map(|number| format!("{number:>3}: {:<9}", cell(*number))).collect();
+            row.iter().map(|number| format!("{number:>3}: {:<12}", cell(*number))).collect();
         println!("{}", cells.join(" "));
     }
 }
