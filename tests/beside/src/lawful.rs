@@ -45,7 +45,7 @@ pub fn call(
     Ok(())
 }
 
-/// Whether the number that stands for the states holds as many as the verdict names, each of
+/// Whether the number of the states holds as many as the verdict names, each of
 /// them a state of the handler, and nothing else.
 pub fn states(handler: &[u8], verdict: Verdict, states: u64) -> Result<(), String> {
     let count = states_named(crate::number(verdict));
@@ -57,7 +57,7 @@ pub fn states(handler: &[u8], verdict: Verdict, states: u64) -> Result<(), Strin
     if fits && states >> 24 == count {
         Ok(())
     } else {
-        Err(format!("{states:X} does not stand for {count} states"))
+        Err(format!("{states:X} does not hold {count} states"))
     }
 }
 
