@@ -115,10 +115,6 @@ module _ (n : ℕ) (c : Spec) where
   unfoldable pub c33 : Search
   c33 = inSet n (c .P) (λ s. inSet n (c .Q s) (λ t. inSet n (c .R t) (λ u. must (c .Q s u))))
 
-  -- Skip 35: s in P: (s,s) in Q.
-  unfoldable pub c35 : Search
-  c35 = inSet n (c .P) (λ s. must (c .Q s s))
-
 -- The tables that a rule asks of a child, c being the node's own.
 module _ (c : Spec) where
   -- If, T being the states at which the test is true: P and the test true.
@@ -146,6 +142,10 @@ module _ (n : ℕ) (asked child : Spec) where
 
   unfoldable pub c38 : Search
   c38 = must (sameRelation n (child .Q) (asked .Q))
+
+-- Skip 35: s in P: (s,s) in Q.
+unfoldable pub c35 : ℕ → Spec → Search
+c35 n c = inSet n (c .P) (λ s. must (c .Q s s))
 
 module _ (m : Machine) (c : Spec) where
   -- R moves no variable of an expression.
