@@ -20,10 +20,11 @@ use Rattle.states.specs.Sets.{capacity, mem, has, entryAt}
 use Rattle.states.specs.Relations.{rel}
 use Rattle.states.specs.declared.StateSet.{StateSet}
 use Rattle.states.proofs.Search.{and-left, and-right, and-both, bool-ext, true-or-false, below-cases, all-intro, any-intro, any-true, holds-none, none-holds, holds-each, each-cong}
-use Rattle.states.proofs.Least.{IsLeast, each-least}
+use Rattle.states.proofs.Least.{IsLeast}
 use Rattle.states.proofs.Members.{Taken, start-below, start-same}
 use Rattle.states.proofs.EntryLaws.{RowsFilled}
 use Rattle.semantics.specs.Conditions.{inSet}
+use Rattle.semantics.proofs.Naming.{Finds, named-length}
 use Rattle.search.specs.declared.Named.{Named}
 use Rattle.search.specs.declared.Named.the-variants.{Nothing, One, Two, Three}
 use Rattle.search.specs.Named.{statesFound, listed, naming}
@@ -106,19 +107,9 @@ in-set-single n k f l = by (f k) refl
 abbrev pub Names : ℕ → Search → Type 0
 Names m x = (found : List ℕ) → x ≡ some found → length found ≡ m
 
-pub must-names : (b : Bool) → Names 0 (must b)
-unfolding must
-must-names true found e = absurd (let z : _≡_ {A = ℕ} 0 1 = cc in omega arith)
-must-names false found e = let none : found ≡ [] = cc in rw none
-
-pub in-set-names : (n m : ℕ) (p : ℕ → Bool) (f : ℕ → Search) → ((s : ℕ) → Names m (f s)) → Names (suc m) (inSet n p f)
-unfolding inSet given
-in-set-names n m p f each found e =
-    let least = each-least n _ found e in rw (least .names) (ap suc (each (least .state) (least .rest) (at (p (least .state)) _ (least .breach))))
-  where
-    at : (b : Bool) (x : Search) {l : List ℕ} → given b x ≡ some l → x ≡ some l
-    at true x h = h
-    at false x h = absurd (let z : _≡_ {A = ℕ} 0 1 = cc in omega arith)
+pub finds-names : (n m : ℕ) (x : Search) → Finds n m x → Names m x
+finds-names n m none finds found e = absurd (let z : _≡_ {A = ℕ} 0 1 = cc in omega arith)
+finds-names n m (some states) finds found e = let same : states ≡ found = cc in rw (← same) (named-length finds)
 
 -- Up to three states are named, and none is lost.
 pub listed-naming : (states : List ℕ) → length states ≤ 3 → listed (naming states) ≡ states

@@ -46,7 +46,8 @@ none-named k low =
     ne-eqb 55 k (omega arith), ne-eqb 56 k (omega arith), ne-eqb 60 k (omega arith), ne-eqb 66 k (omega arith),
     ne-eqb 32 k (omega arith), ne-eqb 33 k (omega arith), ne-eqb 57 k (omega arith), ne-eqb 61 k (omega arith))
 
-abbrev Finds : ℕ → ℕ → Search → Type 0
+-- What a search finds, if anything, is such a list.
+abbrev pub Finds : ℕ → ℕ → Search → Type 0
 Finds n k none = Unit {0}
 Finds n k (some states) = Named n k states
 
@@ -86,14 +87,14 @@ module _ (n : ℕ) where
   in-set-finds k p f h = each-finds k _ (λ s l. given-finds k (p s) (f s) (h s l))
 
   -- One state, a pair, a chain of two pairs.
-  one : (p q : ℕ → Bool) → Finds n 1 (inSet n p (λ s. must (q s)))
+  pub one : (p q : ℕ → Bool) → Finds n 1 (inSet n p (λ s. must (q s)))
   one p q = in-set-finds 0 p _ (λ s l. must-finds (q s))
 
   -- As `one` and `two`, with a further set in which s must be.
   one-in : (p x q : ℕ → Bool) → Finds n 1 (inSet n p (λ s. given (x s) (must (q s))))
   one-in p x q = in-set-finds 0 p _ (λ s l. given-finds 0 (x s) _ (must-finds (q s)))
 
-  two : (p : ℕ → Bool) (r q : ℕ → ℕ → Bool) → Finds n 2 (inSet n p (λ s. inSet n (r s) (λ t. must (q s t))))
+  pub two : (p : ℕ → Bool) (r q : ℕ → ℕ → Bool) → Finds n 2 (inSet n p (λ s. inSet n (r s) (λ t. must (q s t))))
   two p r q = in-set-finds 1 p _ (λ s l. one (r s) (q s))
 
   two-in : (p x : ℕ → Bool) (r q : ℕ → ℕ → Bool) → Finds n 2 (inSet n p (λ s. given (x s) (inSet n (r s) (λ t. must (q s t)))))

@@ -13,8 +13,9 @@ use Rattle.states.specs.Relations.{rel}
 use Rattle.states.proofs.Reach.{count}
 use Rattle.states.proofs.Members.{has-below, LeastTaken, least-of, take-least, none-left}
 use Rattle.semantics.specs.Conditions.{inSet}
+use Rattle.semantics.proofs.Naming.{two as one-pair}
 use Rattle.search.specs.Named.{statesFound, listed, naming}
-use Rattle.search.proofs.Breaches.{pair-cong, must-names, in-set-names, Searching, searching-all, searching-on, searching-found, searching-none, into-at}
+use Rattle.search.proofs.Breaches.{pair-cong, finds-names, Searching, searching-all, searching-on, searching-found, searching-none, into-at}
 use Rattle.search.proofs.least_chain.Statement.{statement}
 use Rattle.search.proofs.least_chain.Tie as tie
 
@@ -54,7 +55,7 @@ answer c =
     (λ t l h u m e. into-at (a .n) _ _ (into .all-into .ensures (a .n)) t u (has-below _ t h) l m ∙ into .before .row .ensures u))
 
 loop-holds : tie.Need-loop-holds Inv-loop μ-loop
-loop-holds c = searching-all _ _ _ _ _ (start c) (omega arith) (λ s. in-set-names _ 1 _ _ (λ t. in-set-names _ 0 _ _ (λ u. must-names _)))
+loop-holds c = searching-all _ _ _ _ _ (start c) (omega arith) (λ s. finds-names _ 2 _ (one-pair _ _ _ _))
 
 returns : tie.Need-returns Inv-loop μ-loop
 unfolding listed naming

@@ -12,8 +12,9 @@ use Rattle.states.specs.Relations.{rel}
 use Rattle.states.proofs.Reach.{count}
 use Rattle.states.proofs.Members.{LeastTaken, least-of, take-least, none-left}
 use Rattle.semantics.specs.Conditions.{inSet}
+use Rattle.semantics.proofs.Naming.{one as one-state}
 use Rattle.search.specs.Named.{statesFound, listed, naming}
-use Rattle.search.proofs.Breaches.{state-cong, must-names, in-set-names, Searching, searching-all, searching-on, searching-found, searching-none}
+use Rattle.search.proofs.Breaches.{state-cong, finds-names, Searching, searching-all, searching-on, searching-found, searching-none}
 use Rattle.search.proofs.least_pair.Statement.{statement}
 use Rattle.search.proofs.least_pair.Tie as tie
 
@@ -48,7 +49,7 @@ answer c =
     said ∙ ap (λ x. naming (statesFound x)) (state-cong n _ _ _ _ (λ t l. c .before .before .row .ensures t) (λ t l h. c .before .row2 .ensures t))
 
 loop-holds : tie.Need-loop-holds Inv-loop μ-loop
-loop-holds c = searching-all _ _ _ _ _ (start c) (omega arith) (λ s. in-set-names _ 0 _ _ (λ t. must-names _))
+loop-holds c = searching-all _ _ _ _ _ (start c) (omega arith) (λ s. finds-names _ 1 _ (one-state _ _ _))
 
 returns : tie.Need-returns Inv-loop μ-loop
 unfolding listed naming
