@@ -1,5 +1,5 @@
 -- One round of the loop over the nodes, and its end.
-use Prim.Native.Nat.{ℕ, suc, _+_, _-_, _≤_, _<_}
+use Prim.Native.Nat.{ℕ, zero, suc, _+_, _-_, _≤_, _<_}
 use native.Mathlib.Numerals.{add-one}
 use native.Mathlib.Omega.{arith}
 use mathlib.Core.Path.{_≡_, refl}
@@ -15,7 +15,7 @@ use Rattle.rules.specs.declared.NodeFault.the-variants.{Nothing, Broken}
 use Rattle.search.specs.declared.Named.{Named}
 use Rattle.search.specs.Named.{naming}
 use Rattle.rules.specs.Asking.{faultOf}
-use Rattle.checker.specs.Nodes.{statementAfter, obligationsAt, faultsFrom, faultFound}
+use Rattle.checker.specs.Nodes.{statementAfter, statementAt, obligationsAt, faultsFrom, faultFound}
 use Rattle.checker.specs.declared.nodes.FirstFault.the-variants as first
 
 -- What a node's fault says of its conditions.
@@ -60,3 +60,29 @@ after-least rule s = by (eqb rule 6)
     by : (b : Bool) → cond b s (suc s) ≤ s + 1
     by true = omega arith
     by false = omega arith
+
+-- A fault that the loop finds is of the conditions of its node over the statement that `statementAt` names.
+some-inj : (x y : Broken.Broken) → _≡_ {A = Option Broken.Broken} (some x) (some y) → x ≡ y
+some-inj x y e = cc
+
+module _ (bytes : List ℕ) (head : Head) (work nodes statements : List ℕ) where
+  -- The first fault of a node's conditions over the statement at hand for it.
+  abbrev first-at : ℕ → Option Breach
+  first-at i = firstBroken (obligationsAt bytes head work nodes statements i (statementAt nodes i))
+
+  abbrev from : ℕ → ℕ → Option Broken.Broken
+  from count i = faultsFrom bytes head work nodes statements count i (statementAt nodes i)
+
+  pub at-hand : (count i : ℕ) (b : Broken.Broken) → from count i ≡ some b → first-at (b .node) ≡ some (record { number = b .number; states = b .states })
+  unfolding faultsFrom statementAt
+  at-hand zero i b e = absurd (let z : _≡_ {A = ℕ} 0 1 = cc in omega arith)
+  at-hand (suc count) i b e = by (first-at i) refl (at-hand count (suc i) b) e
+    where
+      by : (o : Option Breach) → first-at i ≡ o
+          → (from count (suc i) ≡ some b → first-at (b .node) ≡ some (record { number = b .number; states = b .states }))
+          → orBroken (atNode i o) (from count (suc i)) ≡ some b
+          → first-at (b .node) ≡ some (record { number = b .number; states = b .states })
+      by none is later found = later found
+      by (some x) is later found =
+          let same : _≡_ {A = Broken.Broken} (record { number = x .number; states = x .states; node = i }) b = some-inj _ b found in
+          rw (← same) is

@@ -17,6 +17,11 @@ use Rattle.checker.specs.declared.nodes.FirstFault.the-variants as first
 unfoldable pub statementAfter : ℕ → ℕ → ℕ
 statementAfter rule s = cond (eqb rule 6) s (suc s)
 
+-- The statement at hand for a node of the table: statement 0 for the root, and for each further node the one after the node before it.
+unfoldable pub statementAt : List ℕ → ℕ → ℕ
+statementAt nodes zero = 0
+statementAt nodes (suc i) = statementAfter (nodeIn nodes i .rule) (statementAt nodes i)
+
 module _ (bytes : List ℕ) (head : Head) (work nodes statements : List ℕ) where
   -- The conditions of node i over statement s. Its first child is the node after it, its second the one that the table names.
   unfoldable pub obligationsAt : ℕ → ℕ → List Condition

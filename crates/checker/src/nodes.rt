@@ -12,7 +12,7 @@ ghost use Prim.Native.Nat.{_+_, _^_, _<_};
 ghost use Rattle.derivation.specs.NodeTable.{nodeIn};
 ghost use Rattle.semantics.specs.Checking.{firstBroken};
 ghost use Rattle.rules.specs.Asking.{faultOf};
-ghost use Rattle.checker.specs.Nodes.{statementAfter, obligationsAt, faultsFrom, faultFound};
+ghost use Rattle.checker.specs.Nodes.{statementAfter, statementAt, obligationsAt, faultsFrom, faultFound};
 
 // No fault, or the first condition that is broken: its number, its node, and the states that it names.
 pub enum FirstFault {
@@ -56,6 +56,17 @@ fn statement_after(nodes: &[u64], i: u32, s: u32) -> u32
 {
     let node = node_at(nodes, i as usize);
     if node.rule == WEAKEN { s } else { s + 1 }
+}
+
+// The statement at hand for a node, as the loop below counts it; for those who explain a fault.
+pub fn statement_of(nodes: &[u64], node: u32) -> u32
+    ensures { λ r. ⌜ r ≡ statementAt (now (nodes .entry)) node ⌝ }
+{
+    let mut s = 0;
+    for i in 0..node {
+        s = statement_after(nodes, i, s);
+    }
+    s
 }
 
 // The first fault of the first `count` nodes.

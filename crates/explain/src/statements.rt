@@ -1,10 +1,9 @@
-// The statement at hand: its number, and its text.
+// The text of the statement at hand. All of it is layout.
 use crate::text::put;
 use crate::text::put_if;
 use crate::text::put_number;
 use bits::Field;
-use derivation::WEAKEN;
-use derivation::table::node_at;
+use checker::nodes::statement_of;
 use handler::ASSIGNMENT;
 use handler::IF;
 use handler::MOST_STATEMENTS;
@@ -16,33 +15,6 @@ use handler::expressions::ExprHead;
 use handler::expressions::expr_head_at;
 use handler::table::Statement;
 use handler::table::statement_at;
-ghost use mathlib.Core.Path.{_≡_};
-ghost use Prim.Native.Nat.{_+_, _^_, _<_};
-ghost use Rattle.derivation.specs.NodeTable.{nodeIn};
-ghost use Rattle.checker.specs.Nodes.{statementAfter};
-ghost use Rattle.explain.specs.AtHand.{statementAt};
-
-// The statement at hand after node i: the same after a weaken, the next after any other node.
-fn statement_after(nodes: &[u64], i: u32, s: u32) -> u32
-    requires { ⌜ s + 1 < 2 ^ 32 ⌝ }
-    ensures { λ r. ⌜ r ≡ statementAfter (nodeIn (now (nodes .entry)) i .rule) s ⌝ }
-{
-    let node = node_at(nodes, i as usize);
-    if node.rule == WEAKEN { s } else { s + 1 }
-}
-
-// The number of the statement at hand for a node of the table.
-pub fn statement_of(nodes: &[u64], node: u32) -> u32
-    ensures { λ r. ⌜ r ≡ statementAt (now (nodes .entry)) node ⌝ }
-{
-    let mut s = 0;
-    for i in 0..node {
-        s = statement_after(nodes, i, s);
-    }
-    s
-}
-
-// From here on: layout.
 
 // How far the text of an expression has been put: the bit after what was read, and the place in the buffer.
 struct Printed {

@@ -1,30 +1,20 @@
 -- After i rounds s is the statement at hand for node i, and no more than i.
-use Prim.Native.Nat.{ℕ, suc, _-_, _≤_}
-use mathlib.Core.Bool.{Bool, true, false, cond}
+use Prim.Native.Nat.{_-_, _≤_}
 use mathlib.Core.Path.{_≡_, refl, _∙_, ap}
 use native.Mathlib.Nat.{le-trans}
 use native.Mathlib.Numerals.{add-one}
 use native.Mathlib.Omega.{arith}
 use borrow.Author.Needs.{needs}
-use lib.Dec.{eqb}
-use Rattle.checker.specs.Nodes.{statementAfter}
-use Rattle.explain.specs.AtHand.{statementAt}
-use Rattle.explain.proofs.statements.statement_of.Statement.{statement}
-use Rattle.explain.proofs.statements.statement_of.Tie as tie
+use Rattle.checker.specs.Nodes.{statementAt}
+use Rattle.checker.proofs.Rounds.{after-least}
+use Rattle.checker.proofs.nodes.statement_of.Statement.{statement}
+use Rattle.checker.proofs.nodes.statement_of.Tie as tie
 
 abbrev Inv-loop : tie.InvT-loop
 Inv-loop nodes node s₀ i₀ s i = (i ≤ node) × (s ≤ i) × (s ≡ statementAt nodes i)
 
 abbrev μ-loop : tie.MeasureT-loop
 μ-loop nodes node s₀ i₀ s i = node - i
-
-one-more : (rule s : ℕ) → statementAfter rule s ≤ suc s
-unfolding statementAfter
-one-more rule s = by (eqb rule 6)
-  where
-    by : (b : Bool) → cond b s (suc s) ≤ suc s
-    by true = omega arith
-    by false = omega arith
 
 loop-holds : tie.Need-loop-holds Inv-loop μ-loop
 unfolding statementAt
@@ -36,7 +26,7 @@ loop-again c =
     let l = c .before .before .loop in
     let next = c .statement-after .ensures in (
       omega arith,
-      rw next (le-trans (one-more _ (l .s)) (omega arith)),
+      rw next (le-trans (after-least _ (l .s)) (omega arith)),
       rw (add-one, ← l .inv .2) next,
     )
 
