@@ -56,7 +56,7 @@ fn byte(src: &[u8], i: usize) -> u64
 }
 
 // Whether a field of `width` bits at a cursor is there in full. The byte of its last bit is tested, because 8 * len may not fit.
-fn is_there(src: &[u8], at: usize, width: usize) -> bool
+pub fn is_there(src: &[u8], at: usize, width: usize) -> bool
     ensures { λ r. ⌜ r ≡ isThere (now (src .entry)) at width ⌝ }
 {
     if width < 1 || width > 64 || width > LAST - at {
