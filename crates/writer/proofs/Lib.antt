@@ -1,0 +1,5 @@
+pub mod Holding
+pub mod Laws
+pub mod Bytes
+pub mod Packed
+pub mod Cases
