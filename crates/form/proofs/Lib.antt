@@ -1,0 +1,13 @@
+pub mod Mentions
+pub mod Alike
+pub mod EveryName
+pub mod Renaming
+pub mod Numbered
+pub mod Represented
+pub mod Verdicts
+pub mod Levels
+pub mod NodesBack
+pub mod FileBack
+pub mod FileRead
+pub mod Forms
+pub mod Cases

@@ -1,0 +1,32 @@
+-- docs/FORMAT.md, "One form": a derivation with its tables by their members. The members of a table are the number that its bits write:
+-- two tables over the same N have equal members exactly if these numbers are equal.
+use Prim.Native.Nat.{ℕ, _*_}
+use mathlib.Core.List.{List}
+use Rattle.bits.specs.Fields.{bitsAt}
+use Rattle.semantics.specs.declared.Names.{Names}
+use Rattle.semantics.specs.Derivations.{Derivation, skip, assignment, sequence, parallel, conditional, iteration, weaken}
+use Rattle.derivation.specs.Tables.{setAt, rowAt}
+
+-- A derivation with other names for its tables: f gives those of the sets, g those of the relations. The rules stay.
+abbrev pub namesBy : (ℕ → ℕ) → (ℕ → ℕ) → Names → Names
+namesBy f g h = record { p = f (h .p); r = g (h .r); g = g (h .g); q = g (h .q) }
+
+unfoldable pub rename : (ℕ → ℕ) → (ℕ → ℕ) → Derivation → Derivation
+rename f g (skip h) = skip (namesBy f g h)
+rename f g (assignment h) = assignment (namesBy f g h)
+rename f g (sequence h l r) = sequence (namesBy f g h) (rename f g l) (rename f g r)
+rename f g (parallel h l r) = parallel (namesBy f g h) (rename f g l) (rename f g r)
+rename f g (conditional h d) = conditional (namesBy f g h) (rename f g d)
+rename f g (iteration h K W d) = iteration (namesBy f g h) (f K) (g W) (rename f g d)
+rename f g (weaken h d) = weaken (namesBy f g h) (rename f g d)
+
+-- The members of set i over n states, and of relation r where there are so many sets: all its rows, one after the other.
+unfoldable pub setMembers : List ℕ → ℕ → ℕ → ℕ
+setMembers bytes n i = bitsAt bytes (setAt n i) n
+
+unfoldable pub relationMembers : List ℕ → ℕ → ℕ → ℕ → ℕ
+relationMembers bytes n sets r = bitsAt bytes (rowAt n sets r 0) (n * n)
+
+-- A derivation of a proof file, each table by its members.
+unfoldable pub byMembers : List ℕ → ℕ → ℕ → Derivation → Derivation
+byMembers bytes n sets d = rename (setMembers bytes n) (relationMembers bytes n sets) d
