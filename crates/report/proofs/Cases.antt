@@ -1,4 +1,4 @@
--- Worked examples: the lines of the least and the greatest step number, and the roots of some pairs.
+-- Worked examples: the lines of the least and the greatest step number, of a file that was written, and the roots of some pairs.
 use Prim.Native.Nat.{ℕ, _+_, _*_, _^_}
 use mathlib.Core.List.{List, [], _∷_}
 use mathlib.Core.Path.{_≡_, refl}
@@ -11,7 +11,7 @@ use Rattle.derivation.specs.Tables.{rowAt, tablesThere, isCount, relationsRead,
 use Rattle.derivation.specs.Nodes.{onName, namedTable, loopHead, namesHead, ruleHead, nodeHead, nodeAt, wholeNode}
 use Rattle.derivation.specs.Reading.{readProof}
 use Rattle.checker.specs.declared.Verdict.the-variants.{Accepted}
-use Rattle.report.specs.Line.{ascii, digits, decimal, placeText, verdictText, lineOf}
+use Rattle.report.specs.Line.{ascii, digits, decimal, placeText, verdictText, lineOf, writtenLine}
 use Rattle.report.specs.Root.{rootOf}
 use Rattle.report.proofs.Marked.{sample-handler, sample-proof}
 
@@ -19,6 +19,10 @@ pub step-numbers :
     (lineOf (Accepted 0) ≡ ascii "accepted 0\n") × (lineOf (Accepted 4294967295) ≡ ascii "accepted 4294967295\n")
 unfolding lineOf verdictText placeText decimal digits
 step-numbers = (refl, refl)
+
+pub length-written : writtenLine 388 ≡ ascii "written 388\n"
+unfolding writtenLine decimal digits
+length-written = refl
 
 -- The sample: 2 states, and P 0, R 0, G 1, Q 2. A pair that is refused, because with G 0 it breaks 43, has a root all the same. A handler
 -- file that is a byte short, and a proof file with a byte too many, give 0.

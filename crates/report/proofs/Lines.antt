@@ -37,10 +37,10 @@ unfolding lineOf
 line-short v h = rw length-append (omega (arith, words-short v h))
 
 -- No more is written than there is room for.
-pub line-within : (v : Verdict) (out : List ℕ) → lineLength v out ≤ length out
+pub line-within : (line out : List ℕ) → lineLength line out ≤ length out
 unfolding lineLength
-line-within v out = go (leb (length (lineOf v)) (length out)) refl
+line-within line out = go (leb (length line) (length out)) refl
   where
-    go : (b : Bool) → leb (length (lineOf v)) (length out) ≡ b → cond b (length (lineOf v)) 0 ≤ length out
-    go true e = leb-true (length (lineOf v)) (length out) e
+    go : (b : Bool) → leb (length line) (length out) ≡ b → cond b (length line) 0 ≤ length out
+    go true e = leb-true (length line) (length out) e
     go false e = omega arith

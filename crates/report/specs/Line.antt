@@ -1,5 +1,5 @@
--- The check program prints one line in full: the word and the step number, or the word, the number, `node` or `bit`, and the place. A
--- text is the list of its bytes.
+-- The check program prints one line in full: the word and the step number, or the word, the number, `node` or `bit`, and the place; of a
+-- file that it wrote, the word and the length. A text is the list of its bytes.
 use Prim.Native.Nat.{ℕ, zero, suc, _+_, _/_, _%_, _^_, _<_}
 use Prim.Native.Char.{code}
 use Prim.Native.String.{String, [] as []ˢ, _∷_ as _∷ˢ_}
@@ -43,14 +43,18 @@ verdictText (Refused f) = (ascii "refused " ++ decimal (f .number)) ++ placeText
 unfoldable pub lineOf : Verdict → List ℕ
 lineOf v = verdictText v ++ ascii "\n"
 
+-- The line of a file that was written: the word and the file's length.
+unfoldable pub writtenLine : ℕ → List ℕ
+writtenLine length = (ascii "written " ++ decimal length) ++ ascii "\n"
+
 -- The range of the code's types: every number is below 2 ^ 64.
 abbrev pub WithinTypes : Verdict → Type 0
 WithinTypes (Accepted n) = n < 2 ^ 64
 WithinTypes (Refused f) = (f .number < 2 ^ 64) × (indexOf (f .place) < 2 ^ 64)
 
--- A buffer after the line is written at its front, and the number of bytes written. If there is no room, nothing is written.
-unfoldable pub lineInto : Verdict → List ℕ → List ℕ
-lineInto v out = cond (leb (length (lineOf v)) (length out)) (lineOf v ++ drop (length (lineOf v)) out) out
+-- A buffer after a line is written at its front, and the number of bytes written. If there is no room, nothing is written.
+unfoldable pub lineInto : List ℕ → List ℕ → List ℕ
+lineInto line out = cond (leb (length line) (length out)) (line ++ drop (length line) out) out
 
-unfoldable pub lineLength : Verdict → List ℕ → ℕ
-lineLength v out = cond (leb (length (lineOf v)) (length out)) (length (lineOf v)) 0
+unfoldable pub lineLength : List ℕ → List ℕ → ℕ
+lineLength line out = cond (leb (length line) (length out)) (length line) 0

@@ -1,12 +1,12 @@
 // A verdict as the check program's line and as one number.
 ghost use mathlib.Core.Path.{_≡_};
-ghost use Prim.Native.Nat.{_+_, _≤_};
+ghost use Prim.Native.Nat.{_+_, _≤_, _<_};
 ghost use mathlib.Core.List.{_++_};
-ghost use lib.ListN.{length};
+ghost use lib.ListN.{length, take};
 ghost use Rattle.search.specs.Named.{listed};
 ghost use Rattle.report.specs.Code.{codeOf};
 ghost use Rattle.report.specs.States.{statesOf, statesNumber};
-ghost use Rattle.report.specs.Line.{decimal, placeText, verdictText, lineInto, lineLength};
+ghost use Rattle.report.specs.Line.{ascii, decimal, placeText, verdictText, lineOf, writtenLine, lineInto, lineLength};
 ghost use Rattle.report.specs.Put.{Put};
 use checker::Place;
 use checker::Verdict;
@@ -133,16 +133,35 @@ fn put_words(out: &mut [u8], v: Verdict) -> usize
     }
 }
 
-// Writes the line at the front of `out` and returns its length; if there is no room, writes nothing and returns 0.
-pub fn write_line(v: Verdict, out: &mut [u8]) -> usize
-    ensures { λ r. ⌜ (r ≡ lineLength v (now (out .entry))) × (now (out .exit) ≡ lineInto v (now (out .entry))) ⌝ }
+// Ends the line in the first `end` bytes with a newline and puts it at the front of `out`; returns its length, or 0 if there is no room.
+fn put_line(line: &mut [u8], end: usize, out: &mut [u8]) -> usize
+    requires { ⌜ end < length (now line) ⌝ }
+    ensures { λ r. ⌜ (r ≡ lineLength (take end (now (line .entry)) ++ ascii "\n") (now (out .entry)))
+        × (now (out .exit) ≡ lineInto (take end (now (line .entry)) ++ ascii "\n") (now (out .entry))) ⌝ }
 {
-    let mut line = [0u8; LINE_BYTES];
-    let end = put_words(&mut line, v);
-    let n = put(&mut line, end, b"\n");
+    let n = put(line, end, b"\n");
     if n <= out.len() {
         put(out, 0, &line[..n])
     } else {
         0
     }
+}
+
+// Writes the line at the front of `out` and returns its length; if there is no room, writes nothing and returns 0.
+pub fn write_line(v: Verdict, out: &mut [u8]) -> usize
+    ensures { λ r. ⌜ (r ≡ lineLength (lineOf v) (now (out .entry))) × (now (out .exit) ≡ lineInto (lineOf v) (now (out .entry))) ⌝ }
+{
+    let mut line = [0u8; LINE_BYTES];
+    let end = put_words(&mut line, v);
+    put_line(&mut line, end, out)
+}
+
+// Does the same with the line of a file that was written, `written` and its length.
+pub fn write_length(length: u32, out: &mut [u8]) -> usize
+    ensures { λ r. ⌜ (r ≡ lineLength (writtenLine length) (now (out .entry)))
+        × (now (out .exit) ≡ lineInto (writtenLine length) (now (out .entry))) ⌝ }
+{
+    let mut line = [0u8; LINE_BYTES];
+    let end = put_named(&mut line, 0, b"written ", length as u64);
+    put_line(&mut line, end, out)
 }
