@@ -1,0 +1,10 @@
+pub mod Equal
+pub mod Order
+pub mod Numbered
+pub mod Bounds
+pub mod Copying
+pub mod NodeFields
+pub mod Fields
+pub mod Outcomes
+pub mod Theorems
+pub mod Cases

@@ -1,0 +1,39 @@
+-- With so few states, tables and nodes no product and no sum is large.
+use Prim.Native.Nat.{_*_, _≤_}
+use native.Mathlib.Omega.{arith}
+use borrow.Author.Needs.{needs}
+use lib.ListN.{take}
+use lib.Seq.{length-take-le}
+use Rattle.canonical.proofs.Bounds.{few-bits}
+use Rattle.canonical.proofs.Copying.{nodes-most}
+use Rattle.canonical.proofs.writing.form_bits.Statement.{statement}
+use Rattle.canonical.proofs.writing.form_bits.Tie as tie
+
+small : (c : tie.Start) → let a = c .args in
+    (a .n * a .m .sets .count ≤ 1024) × (a .n * a .n ≤ 4096) × (a .n * a .n * a .m .relations .count ≤ 65536)
+small c = few-bits (c .args .n) (c .args .m .sets .count) (c .args .m .relations .count) (search needs) (search needs) (search needs)
+
+few : (c : tie.After-nodes-width) → c .nodes-width .result ≤ 3429
+few c =
+    let a = c .before .before .before .before .before .before .args in
+    let most = nodes-most (take (a .count) (a .nodes .now)) in
+    let long = length-take-le (a .count) (a .nodes .now) (omega arith) in
+    omega (arith, c .nodes-width .ensures, most, long)
+
+returns : tie.Need-returns
+returns c =
+    let s = small (c .before .before .before .before .before .before) in
+    (omega (arith, c .nodes-width .ensures), omega (arith, s, few c))
+
+pub form-bits-spec : {M : Type 1} → statement M
+form-bits-spec =
+    tie.close
+    (tie.spec
+    (λ c. omega (arith, small (c .before .before .before .before)))
+    (λ c. omega (arith, small (c .before .before .before .before)))
+    (λ c. omega (arith, small (c .before .before .before .before)))
+    (λ c. omega (arith, small (c .before .before .before .before .before)))
+    (λ c. omega (arith, small (c .before .before .before .before .before)))
+    (λ c κs. search needs)
+    (λ c. omega (arith, small (c .before .before .before .before .before .before), few c))
+    returns)

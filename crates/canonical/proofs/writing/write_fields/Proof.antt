@@ -1,0 +1,110 @@
+-- The counts, the sets, the relations and the nodes are written one after the other, each where the one before ends.
+use Prim.Native.Nat.{ℕ, _+_, _*_, _≤_}
+use mathlib.Core.List.{List}
+use mathlib.Core.Path.{_≡_, _∙_}
+use native.Mathlib.Omega.{arith}
+use borrow.Author.Needs.{needs}
+use lib.ListN.{length, take}
+use Rattle.writer.specs.Packing.{widthOf}
+use Rattle.form.specs.Form.{partsOf}
+use Rattle.canonical.specs.Refinement.{setRun, relationRun, Within, Room, partsIn, heldIn}
+use Rattle.canonical.specs.declared.Run.{Run}
+use Rattle.canonical.proofs.Bounds.{few-bits}
+use Rattle.canonical.proofs.Copying.{width-fields, fields-written}
+use Rattle.canonical.proofs.writing.write_fields.Statement.{statement}
+use Rattle.canonical.proofs.writing.write_fields.Tie as tie
+
+full : (c : tie.Start) → (length (c .args .m .sets .order) ≡ 16) × (length (c .args .m .relations .order) ≡ 16)
+full c = (search needs, search needs)
+
+small : (c : tie.Start) → let a = c .args in
+    (a .n * a .m .sets .count ≤ 1024) × (a .n * a .n ≤ 4096) × (a .n * a .n * a .m .relations .count ≤ 65536)
+small c = few-bits (c .args .n) (c .args .m .sets .count) (c .args .m .relations .count) (search needs) (search needs) (search needs)
+
+width : (c : tie.Start) → let a = c .args in
+    widthOf (partsIn (a .src .now) (a .n) (a .tables) (a .m) (take (a .count) (a .nodes .now)))
+    ≡ 10 + a .n * a .m .sets .count + a .n * a .n * a .m .relations .count + widthOf (heldIn partsOf (take (a .count) (a .nodes .now)))
+width c = width-fields _ _ _ _ _ (omega (arith, full c)) (omega (arith, full c))
+
+-- Each step has room in bytes of the same length.
+module _ (c : tie.Start) (out : List ℕ) (same : length out ≡ length (c .args .out .now)) where
+  set-room : (run : Run) → run ≡ setRun (c .args .n)
+      → Within run × (c .args .m .sets .count ≤ 16) × Room out 10 (run .width * c .args .m .sets .count)
+  set-room run is = rw is ((omega arith, omega arith), search needs, (omega (arith, width c), omega (arith, width c)))
+
+  few-tables : c .args .n * c .args .tables ≤ 1024
+  few-tables = few-bits (c .args .n) (c .args .tables) 0 (search needs) (search needs) (omega arith) .0
+
+  relation-room : (run : Run) → run ≡ relationRun (c .args .n) (c .args .tables)
+      → Within run × (c .args .m .relations .count ≤ 16)
+      × Room out (10 + c .args .n * c .args .m .sets .count) (run .width * c .args .m .relations .count)
+  relation-room run is =
+      rw is ((omega (arith, few-tables), omega (arith, small c)), search needs, (omega (arith, width c), omega (arith, width c)))
+
+  node-room : Room out (10 + c .args .n * c .args .m .sets .count + c .args .n * c .args .n * c .args .m .relations .count)
+      (widthOf (heldIn partsOf (take (c .args .count) (c .args .nodes .now))))
+  node-room = (omega (arith, width c), omega (arith, width c))
+
+-- The start, from where the counts, the sets or the relations have been written.
+abbrev before-counts : tie.After-out → tie.Start
+before-counts c = c .before .before .before .before .before .before .before .before .before .before
+
+abbrev before-sets : tie.After-out2 → tie.After-out
+before-sets c = c .before .before .before .before .before
+
+abbrev before-relations : tie.After-out3 → tie.After-out2
+before-relations c = c .before .before .before .before .before
+
+write-named-requires : tie.Need-write-named-requires
+write-named-requires c κs =
+    let counts = c .before .before .before in
+    set-room (before-counts counts) (counts .before .put .last .0) (counts .out .given) _ (c .before .set-run .ensures)
+
+write-named-requires-2 : tie.Need-write-named-requires-2
+write-named-requires-2 c κs =
+    let sets = c .before .before .before in
+    let counts = before-sets sets in
+    let same = sets .out2 .given ∙ counts .out .given in
+    relation-room (before-counts counts) (sets .before .write-named .last .1 .1 .1 .0) same _ (c .before .relation-run .ensures)
+
+write-nodes-requires : tie.Need-write-nodes-requires
+write-nodes-requires c κs =
+    let relations = c .before .before .before .before .before .before in
+    let sets = before-relations relations in
+    let counts = before-sets sets in
+    let start = before-counts counts in
+    let same = relations .out3 .given ∙ sets .out2 .given ∙ counts .out .given in
+    (start .pre .1, node-room start (relations .before .write-named2 .last .1 .1 .1 .0) same)
+
+returns : tie.Need-returns
+returns c =
+    let nodes = c .before .before in
+    let relations = nodes .before .before .before .before .before .before .before in
+    let sets = before-relations relations in
+    let counts = before-sets sets in
+    let start = before-counts counts in
+    let a = start .args in
+    let second = relations .before in
+    let first = sets .before in
+    fields-written
+    (a .src .now) (a .n) (a .tables) (a .m) (take (a .count) (a .nodes .now)) (omega (arith, full start)) (omega (arith, full start))
+    (a .out .now) _ _ _ _ _ _ (search needs) (search needs) (omega (arith, width start))
+    (first .before .before .set-run .ensures) (second .before .before .relation-run .ensures)
+    (counts .before .put .ensures) (first .write-named .ensures) (second .write-named2 .ensures) (nodes .write-nodes .ensures)
+
+pub write-fields-spec : {M : Type 1} → statement M
+write-fields-spec =
+    tie.close
+    (tie.spec
+    (λ c. omega (arith, small (c .before .before .before .before .before .before)))
+    (λ c. omega (arith, small (c .before .before .before .before .before .before)))
+    (λ c. omega (arith, small (c .before .before .before .before .before .before)))
+    (λ c. omega (arith, small (c .before .before .before .before .before .before .before)))
+    (λ c. omega (arith, small (c .before .before .before .before .before .before .before)))
+    (λ c. search needs) (λ c. search needs) (λ c κs. search needs) (λ c κs. search needs)
+    write-named-requires
+    (λ c κs. search needs)
+    write-named-requires-2
+    write-nodes-requires
+    (λ c. search needs)
+    returns)
