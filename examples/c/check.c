@@ -1,7 +1,7 @@
 /* check HANDLER PROOF: checks two files over the C interface and prints the line that the check program prints. On acceptance it
    also prints what a host must know of the pair: the number of states N, and the root's precondition P (a set of states), rely R,
-   guarantee G and postcondition Q (sets of pairs of states). On refusal it prints what helps to find the fault: the states that
-   break the condition, and the first byte at the place.
+   guarantee G and postcondition Q (sets of pairs of states); and then the length of the proof's one form, by which an archive keeps
+   it once. On refusal it prints what helps to find the fault: the states that break the condition, and the first byte at the place.
 
    Exit status: 0 accepted, 1 refused, 2 no verdict (bad arguments, a file that cannot be read, output that cannot be written). */
 #include "handover.h"
@@ -85,6 +85,18 @@ static void print_root(const uint64_t *work, uint64_t root)
     print_relation("Q", work, handover_root_postcondition(root), states);
 }
 
+/* The length of the proof file's one form, and whether the file is in it already. */
+static void print_form(const struct file *handler, const struct file *proof)
+{
+    static uint8_t form[HANDOVER_MOST_BYTES];
+    uint64_t answer = handover_canonical(handler->bytes, handler->length, proof->bytes, proof->length, form, sizeof form);
+    if (handover_written(answer)) {
+        size_t length = handover_length(answer);
+        bool same = length == proof->length && memcmp(form, proof->bytes, length) == 0;
+        printf("form: %zu bytes, %s\n", length, same ? "those of the proof file" : "not those of the proof file");
+    }
+}
+
 /* The states that a refusal names, in the order of docs/RULES.md. */
 static void print_states(uint64_t states)
 {
@@ -130,6 +142,7 @@ int main(int argc, char **argv)
     if (handover_accepted(answer)) {
         /* Not 0: both files of an accepted pair are well-formed. */
         print_root(work, handover_root(handler.bytes, handler.length, proof.bytes, proof.length));
+        print_form(&handler, &proof);
     } else {
         print_states(handover_states(handler.bytes, handler.length, proof.bytes, proof.length, work, HANDOVER_WORK_WORDS));
         print_place(&handler, &proof, answer);

@@ -1,8 +1,9 @@
-/* bounds FILE: the four calls read and write nothing outside their buffers, over the pairs of a file (pairs.h).
+/* bounds FILE: the five calls read and write nothing outside their buffers, over the pairs of a file (pairs.h).
 
-   The files and the work words are put right before a page that cannot be accessed, and then right after one, so that an access
-   one byte outside ends the program by a signal. The answers and the words must be those of a call with ordinary buffers, and the
-   files must be unchanged. Ends with 1 where something differs, with 2 where nothing was tested. */
+   The files, the work words and the output are put right before a page that cannot be accessed, and then right after one, so that
+   an access one byte outside ends the program by a signal. The answers, the words and the output must be those of a call with
+   ordinary buffers, and the files must be unchanged. The output has just as many bytes as the form, and then one fewer. Ends with 1
+   where something differs, with 2 where nothing was tested. */
 #define _GNU_SOURCE
 #include "pairs.h"
 
@@ -30,7 +31,8 @@ static uint8_t *placed(uint8_t *room, size_t length, bool at_end)
 static struct pair pair;
 static uint64_t plain_work[HANDOVER_WORK_WORDS];
 static uint64_t plain_states_work[HANDOVER_WORK_WORDS];
-static uint8_t *rooms[3];
+static uint8_t plain_out[HANDOVER_MOST_BYTES];
+static uint8_t *rooms[4];
 
 /* Places that are asked for with each pair, besides that of its refusal: in the files and just past them, nodes and bits. */
 enum { PLACES = 7 };
@@ -40,8 +42,34 @@ struct answers {
     uint64_t check;
     uint64_t root;
     uint64_t states;
+    uint64_t form;
     uint64_t views[PLACES];
 };
+
+/* How many bytes the form has; 0 if there is none. */
+static size_t form_length(const struct answers *known)
+{
+    return handover_written(known->form) ? handover_length(known->form) : 0;
+}
+
+/* Whether the form is written into as many bytes as it has, and nothing into fewer. */
+static bool same_form(const uint8_t *handler, const uint8_t *proof, bool at_end, const struct answers *known)
+{
+    size_t length = form_length(known);
+    uint8_t *out = placed(rooms[3], length, at_end);
+    bool same = handover_canonical(handler, pair.handler_len, proof, pair.proof_len, out, length) == known->form
+        && memcmp(out, plain_out, length) == 0;
+    if (length > 0) {
+        uint8_t *short_out = placed(rooms[3], length - 1, at_end);
+        memset(short_out, 0x77, length - 1);
+        uint64_t answer = handover_canonical(handler, pair.handler_len, proof, pair.proof_len, short_out, length - 1);
+        same = same && handover_number(answer) == HANDOVER_FAULT_OUTPUT_SHORT;
+        for (size_t i = 0; i < length - 1; i++) {
+            same = same && short_out[i] == 0x77;
+        }
+    }
+    return same;
+}
 
 /* The views of two files, the place of a refusal first. */
 static void look(const uint8_t *handler, const uint8_t *proof, uint64_t check, uint64_t views[PLACES])
@@ -85,6 +113,7 @@ static bool same_at(bool at_end, const struct answers *known)
     same = same
         && handover_states(handler, pair.handler_len, proof, pair.proof_len, work, HANDOVER_WORK_WORDS) == known->states
         && memcmp(work, plain_work, sizeof plain_work) == 0;
+    same = same && same_form(handler, proof, at_end, known);
     return same && memcmp(handler, pair.handler, pair.handler_len) == 0 && memcmp(proof, pair.proof, pair.proof_len) == 0;
 }
 
@@ -98,6 +127,8 @@ static struct answers answers_of_pair(void)
     known.check = handover_check(pair.handler, pair.handler_len, pair.proof, pair.proof_len, plain_work, HANDOVER_WORK_WORDS);
     known.states =
         handover_states(pair.handler, pair.handler_len, pair.proof, pair.proof_len, plain_states_work, HANDOVER_WORK_WORDS);
+    known.form =
+        handover_canonical(pair.handler, pair.handler_len, pair.proof, pair.proof_len, plain_out, sizeof plain_out);
     look(pair.handler, pair.proof, known.check, known.views);
     return known;
 }
@@ -105,21 +136,22 @@ static struct answers answers_of_pair(void)
 int main(int argc, char **argv)
 {
     FILE *file = argc == 2 ? fopen(argv[1], "rb") : NULL;
-    size_t pairs = 0;
+    size_t pairs = 0, forms = 0;
     if (file == NULL) {
         give_up("usage: bounds FILE");
     }
-    for (int i = 0; i < 3; i++) {
+    for (int i = 0; i < 4; i++) {
         rooms[i] = guarded();
     }
     for (; next_pair(file, &pair); pairs++) {
         struct answers known = answers_of_pair();
         bool same = memcmp(plain_work, plain_states_work, sizeof plain_work) == 0;
+        forms += form_length(&known) > 0;
         if (!same || !same_at(true, &known) || !same_at(false, &known)) {
             printf("bounds: pair %zu differs\n", pairs);
             return 1;
         }
     }
-    printf("bounds: %zu pairs\n", pairs);
-    return pairs > 0 ? 0 : 2;
+    printf("bounds: %zu pairs, %zu forms\n", pairs, forms);
+    return forms > 0 ? 0 : 2;
 }

@@ -29,17 +29,26 @@ static const uint8_t order[] = {0x08, 0x80, 0x2A, 0x00, 0x00, 0x02, 0x00, 0x00, 
 static const uint8_t self[] = {0x08, 0x80, 0x1A, 0x00, 0x00, 0x02, 0x00, 0x00, 0x00};    /* W {(1,1)} */
 static const uint8_t toggle[] = {0x08, 0x80, 0x6A, 0x00, 0x00, 0x02, 0x00, 0x00, 0x00};  /* W {(0,1), (1,0)} */
 
+/* `proof` under a weaken node, with other table numbers, a set that no node names and G twice; and in its one form. */
+static const uint8_t shuffled[] = {0x11, 0x0D, 0x50, 0x13, 0x09, 0x08, 0x11, 0x23, 0x00};
+static const uint8_t formed[] = {0x08, 0xF0, 0x45, 0xC0, 0x02, 0x44, 0x00, 0x48};
+
+/* The one form of `refused`, in which no node names relation 1. */
+static const uint8_t refused_formed[] = {0x08, 0xB0, 0x52, 0x00, 0x02};
+
 static uint64_t work[HANDOVER_WORK_WORDS];
 static uint64_t other_work[HANDOVER_WORK_WORDS];
 static uint8_t longest[HANDOVER_MOST_BYTES + 1];
+static uint8_t out[HANDOVER_MOST_BYTES];
+static uint8_t untouched[HANDOVER_MOST_BYTES];
 
 /* Every fault number, in the order of the header. */
 static const enum handover_fault faults[] = {
-    HANDOVER_FAULT_NONE, HANDOVER_FAULT_WORK_WORDS, HANDOVER_FAULT_FILE_LENGTH, HANDOVER_FAULT_HANDLER_SHORT,
-    HANDOVER_FAULT_VARIABLE_COUNT, HANDOVER_FAULT_SIZE, HANDOVER_FAULT_STATES, HANDOVER_FAULT_HANDLER_CODE,
-    HANDOVER_FAULT_VARIABLE, HANDOVER_FAULT_KINDS, HANDOVER_FAULT_HANDLER_LIMIT, HANDOVER_FAULT_HANDLER_FILL,
-    HANDOVER_FAULT_PROOF_SHORT, HANDOVER_FAULT_TABLE_COUNT, HANDOVER_FAULT_RULE_CODE, HANDOVER_FAULT_TABLE,
-    HANDOVER_FAULT_PROOF_LIMIT, HANDOVER_FAULT_PROOF_FILL, HANDOVER_FAULT_RULE, HANDOVER_FAULT_P_UNSTABLE,
+    HANDOVER_FAULT_NONE, HANDOVER_FAULT_WORK_WORDS, HANDOVER_FAULT_FILE_LENGTH, HANDOVER_FAULT_OUTPUT_SHORT,
+    HANDOVER_FAULT_HANDLER_SHORT, HANDOVER_FAULT_VARIABLE_COUNT, HANDOVER_FAULT_SIZE, HANDOVER_FAULT_STATES,
+    HANDOVER_FAULT_HANDLER_CODE, HANDOVER_FAULT_VARIABLE, HANDOVER_FAULT_KINDS, HANDOVER_FAULT_HANDLER_LIMIT,
+    HANDOVER_FAULT_HANDLER_FILL, HANDOVER_FAULT_PROOF_SHORT, HANDOVER_FAULT_TABLE_COUNT, HANDOVER_FAULT_RULE_CODE,
+    HANDOVER_FAULT_TABLE, HANDOVER_FAULT_PROOF_LIMIT, HANDOVER_FAULT_PROOF_FILL, HANDOVER_FAULT_RULE, HANDOVER_FAULT_P_UNSTABLE,
     HANDOVER_FAULT_Q_BEFORE, HANDOVER_FAULT_Q_AFTER, HANDOVER_FAULT_CHILD_P, HANDOVER_FAULT_SKIP_Q, HANDOVER_FAULT_CHILD_R,
     HANDOVER_FAULT_CHILD_G, HANDOVER_FAULT_CHILD_Q, HANDOVER_FAULT_ASSIGNMENT_RANGE, HANDOVER_FAULT_ASSIGNMENT_MOVED,
     HANDOVER_FAULT_ASSIGNMENT_Q, HANDOVER_FAULT_ASSIGNMENT_G, HANDOVER_FAULT_IF_MOVED, HANDOVER_FAULT_IF_Q,
@@ -232,8 +241,65 @@ static void views_apart(void)
     same("the same in the proof", handover_view_index(in_proof + UINT32_MAX), UINT32_MAX);
 }
 
+/* The form of a proof file, in so much room: it is written there in full, and the bytes past it are left. */
+static void written(const char *name, const uint8_t *read, size_t read_len, const uint8_t *form, size_t form_len, size_t room)
+{
+    memset(out, 0x77, sizeof out);
+    uint64_t answer = handover_canonical(handler, sizeof handler, read, read_len, out, room);
+    same(name, answer, form_len);
+    same("written", handover_written(answer), 1);
+    same("its length", handover_length(answer), form_len);
+    same("no number", handover_number(answer), HANDOVER_FAULT_NONE);
+    same("the form", memcmp(out, form, form_len) == 0, 1);
+    same("the bytes past it", memcmp(out + form_len, untouched + form_len, sizeof out - form_len) == 0, 1);
+}
+
+/* Forms over the smallest handler, in a buffer that is just long enough and in the longest. */
+static void forms(void)
+{
+    const size_t most = sizeof out;
+    written("the smallest proof", proof, sizeof proof, proof, sizeof proof, sizeof proof);
+    written("it in the longest buffer", proof, sizeof proof, proof, sizeof proof, most);
+    written("other numbers", shuffled, sizeof shuffled, formed, sizeof formed, sizeof formed);
+    written("a form again", formed, sizeof formed, formed, sizeof formed, most);
+    written("a refused pair", refused, sizeof refused, refused_formed, sizeof refused_formed, most);
+    same("the largest length is one", handover_written(UINT32_MAX), 1);
+    same("a fault is none", handover_written((uint64_t)UINT32_MAX + 1), 0);
+}
+
+/* A call that writes nothing: its number and bit, with the buffer as it was. */
+static void turned_away(const char *name, const uint8_t *first, size_t first_len, const uint8_t *second, size_t second_len,
+                        size_t room, enum handover_fault number, uint32_t bit)
+{
+    memset(out, 0x77, sizeof out);
+    uint64_t answer = handover_canonical(first, first_len, second, second_len, out, room);
+    same(name, handover_number(answer), (uint64_t)number);
+    same("not written", handover_written(answer), 0);
+    same("at a bit", (uint64_t)handover_kind(answer), HANDOVER_BIT);
+    same("the bit", handover_place(answer), bit);
+    same("the whole buffer", memcmp(out, untouched, sizeof out) == 0, 1);
+}
+
+/* Each fault comes before those after it, at the limits; the buffer is the last. */
+static void forms_turned_away(void)
+{
+    const size_t most = sizeof out, h = sizeof handler, p = sizeof proof;
+    turned_away("too long a handler", longest, sizeof longest, proof, p, 0, HANDOVER_FAULT_FILE_LENGTH, 0);
+    turned_away("too long a proof", handler, 0, longest, sizeof longest, 0, HANDOVER_FAULT_FILE_LENGTH, 0);
+    turned_away("the longest handler", longest, sizeof longest - 1, proof, 0, 0, HANDOVER_FAULT_VARIABLE_COUNT, 0);
+    turned_away("no handler", handler, 0, proof, 0, 0, HANDOVER_FAULT_HANDLER_SHORT, 0);
+    turned_away("no proof", handler, h, proof, 0, 0, HANDOVER_FAULT_PROOF_SHORT, 0);
+    turned_away("the longest proof", handler, h, longest, sizeof longest - 1, most, HANDOVER_FAULT_TABLE_COUNT, 0);
+    turned_away("a byte less than the proof", handler, h, proof, p - 1, 0, HANDOVER_FAULT_PROOF_SHORT, 40);
+    turned_away("no buffer", handler, h, proof, p, 0, HANDOVER_FAULT_OUTPUT_SHORT, 0);
+    turned_away("a byte short", handler, h, proof, p, p - 1, HANDOVER_FAULT_OUTPUT_SHORT, 0);
+    turned_away("a byte short of its form", handler, h, shuffled, sizeof shuffled, sizeof formed - 1, HANDOVER_FAULT_OUTPUT_SHORT,
+                0);
+}
+
 int main(void)
 {
+    memset(untouched, 0x77, sizeof untouched);
     fault_numbers();
     step_numbers();
     roots();
@@ -243,5 +309,7 @@ int main(void)
     views_of_numbers();
     views_of_places();
     views_apart();
+    forms();
+    forms_turned_away();
     return failures == 0 ? 0 : 1;
 }

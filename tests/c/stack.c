@@ -1,4 +1,4 @@
-/* stack FILE: how much stack each of the four calls takes at most, over the pairs of a file (pairs.h).
+/* stack FILE: how much stack each of the five calls takes at most, over the pairs of a file (pairs.h).
 
    Every call is made in a thread of its own whose stack was painted beforehand. What is counted reaches from the frame that makes
    the call down to the lowest byte that is no longer paint. A byte that happens to be written in the colour of the paint is not
@@ -21,6 +21,7 @@ static uint8_t *frame;
 
 static struct pair pair;
 static uint64_t work[HANDOVER_WORK_WORDS];
+static uint8_t out[HANDOVER_MOST_BYTES];
 static uint64_t answer;
 
 static void *call_check(void *unused)
@@ -57,6 +58,13 @@ static void *call_view_root(void *unused)
 {
     frame = (uint8_t *)__builtin_frame_address(0);
     answer = handover_view(pair.handler, pair.handler_len, pair.proof, pair.proof_len, HANDOVER_FAULT_RULE, HANDOVER_NODE, 0);
+    return unused;
+}
+
+static void *call_canonical(void *unused)
+{
+    frame = (uint8_t *)__builtin_frame_address(0);
+    answer = handover_canonical(pair.handler, pair.handler_len, pair.proof, pair.proof_len, out, sizeof out);
     return unused;
 }
 
@@ -111,6 +119,7 @@ static struct measured calls[] = {
     {"handover_states", call_states, 0},
     {"handover_view", call_view, 0},
     {"handover_view of the root", call_view_root, 0},
+    {"handover_canonical", call_canonical, 0},
 };
 
 enum { CALLS = sizeof calls / sizeof calls[0] };

@@ -1,11 +1,16 @@
 // The check program: reads the handler file and the proof file, and prints the verdict on them in one line.
 //
 // Without arguments the files are handler.bin and proof.bin of the working folder; two arguments name them. Three arguments, the first
-// the word explain, name them too, and then what the verdict means is printed after the line. Any other arguments print the usage on
-// standard error. A file that cannot be opened or read is named on standard error. In both cases no line is printed.
-ghost use Prim.Native.Nat.{_≤_};
+// the word explain, name them too, and then what the verdict means is printed after the line. Four arguments, the first the word
+// canonical, name them and the file to which the proof file's one form is written. Any other arguments print the usage on standard
+// error. A file that cannot be opened, read or written is named on standard error. In both cases no line is printed.
+mod save;
+
+ghost use Prim.Native.Nat.{_≤_, _<_};
 ghost use lib.ListN.{length};
 ghost use Rattle.handover.specs.Reading.{amount};
+use canonical::MOST_FORM_BYTES;
+use canonical::Outcome;
 use checker::Fault;
 use checker::MOST_BYTES;
 use checker::Verdict;
@@ -13,6 +18,13 @@ use checker::WORK_WORDS;
 use libc::STDERR_FILENO;
 use libc::STDOUT_FILENO;
 use viewer::File;
+
+// What is to be done with the two files.
+enum Task {
+    Check,
+    Explain,
+    Write,
+}
 
 // The result of reading a file: the number of bytes, or that reading failed and the file was named on standard error.
 enum Reading {
@@ -77,6 +89,13 @@ fn print_line(v: Verdict) -> bool {
     print_front(&line, n)
 }
 
+// Prints the line of a file that was written.
+fn print_length(length: u32) -> bool {
+    let mut line = [0u8; report::LINE_BYTES];
+    let n = report::write_length(length, &mut line);
+    print_front(&line, n)
+}
+
 // Prints the name of a file and its bytes from an index on.
 fn print_bytes(path: &[u8], file: &[u8], from: usize) {
     let mut text = [0u8; explain::TEXT_BYTES];
@@ -134,11 +153,27 @@ fn judge(handler_path: &[u8], proof_path: &[u8], handler: &[u8], proof: &[u8], e
     }
 }
 
+// Writes the proof file in its one form to the file at `out` and prints its length, or the line of a refusal.
+fn write_form(handler: &[u8], proof: &[u8], out: &[u8]) {
+    let mut form = [0u8; MOST_FORM_BYTES];
+    let outcome = canonical::write_form(handler, proof, &mut form);
+    match outcome {
+        Outcome::Written(length) => {
+            if save::save(out, &form[..length as usize]) {
+                print_length(length);
+            }
+        }
+        Outcome::Refused(fault) => {
+            print_line(Verdict::Refused(fault));
+        }
+    }
+}
+
 // One byte more than a file may have: enough to refuse it as too long, so no more is read.
 const BUFFER_BYTES: usize = MOST_BYTES + 1;
 
-// Checks the files at the two paths and prints the line, unless one of them cannot be read; then, if asked to, explains it.
-fn check_files(handler_path: &[u8], proof_path: &[u8], explaining: bool) {
+// Reads the files at the two paths and does the task with them, unless one of them cannot be read. Only Write looks at `out`.
+fn do_with_files(handler_path: &[u8], proof_path: &[u8], out: &[u8], task: Task) {
     let mut handler = [0u8; BUFFER_BYTES];
     let Reading::Bytes(n) = read_file(handler_path, &mut handler) else {
         return;
@@ -147,13 +182,13 @@ fn check_files(handler_path: &[u8], proof_path: &[u8], explaining: bool) {
     let Reading::Bytes(m) = read_file(proof_path, &mut proof) else {
         return;
     };
-    judge(
-        handler_path,
-        proof_path,
-        &handler[..n],
-        &proof[..m],
-        explaining,
-    );
+    let handler = &handler[..n];
+    let proof = &proof[..m];
+    match task {
+        Task::Check => judge(handler_path, proof_path, handler, proof, false),
+        Task::Explain => judge(handler_path, proof_path, handler, proof, true),
+        Task::Write => write_form(handler, proof, out),
+    }
 }
 
 // The longest argument that Linux passes to a program, with its final 0.
@@ -171,62 +206,69 @@ fn argument(i: usize, name: &mut [u8]) -> usize
     n
 }
 
-// Checks the files that two of the arguments name.
-fn check_arguments(first: usize, second: usize, explaining: bool) {
+// Does the task with the files that the arguments from `first` on name: the handler, the proof and, for Write, the file to be written.
+fn do_with_arguments(first: usize, task: Task)
+    requires { ⌜ first < 3 ⌝ }
+{
     let mut handler = [0u8; ARGUMENT_BYTES];
     let n = argument(first, &mut handler);
     let mut proof = [0u8; ARGUMENT_BYTES];
-    let m = argument(second, &mut proof);
-    check_files(&handler[..n], &proof[..m], explaining);
+    let m = argument(first + 1, &mut proof);
+    let mut out = [0u8; ARGUMENT_BYTES];
+    let k = argument(first + 2, &mut out);
+    do_with_files(&handler[..n], &proof[..m], &out[..k], task);
 }
 
-// Whether the first argument is the word explain. One that is longer fills the 8 bytes.
-fn asks_to_explain() -> bool {
-    let mut word = [0u8; 8];
-    let n = argument(1, &mut word);
-    (n == 7)
-        & (word[0] == b'e')
-        & (word[1] == b'x')
-        & (word[2] == b'p')
-        & (word[3] == b'l')
-        & (word[4] == b'a')
-        & (word[5] == b'i')
-        & (word[6] == b'n')
+// Whether the bytes are those of a word.
+fn is_word(given: &[u8], word: &[u8]) -> bool {
+    if given.len() != word.len() {
+        return false;
+    }
+    for i in 0..word.len() {
+        if given[i] != word[i] {
+            return false;
+        }
+    }
+    true
+}
+
+// Whether the first argument is a command, a word of less than 16 bytes. One that is longer fills the 16 bytes.
+fn asks_to(command: &[u8]) -> bool {
+    let mut given = [0u8; 16];
+    let n = argument(1, &mut given);
+    is_word(&given[..n], command)
 }
 
 // Prints on standard error how the program is called and what its line means.
 fn print_usage() {
     let usage =
-        b"usage: handover                          checks handler.bin and proof.bin of the working folder
-       handover HANDLER PROOF            checks these two files
-       handover explain HANDLER PROOF    checks them, and says below the line what the verdict means
+        b"usage: handover                                checks handler.bin and proof.bin of the working folder
+       handover HANDLER PROOF                  checks these two files
+       handover explain HANDLER PROOF          checks them, and says below the line what the verdict means
+       handover canonical HANDLER PROOF OUT    writes the proof file in its one form to the file OUT
 Checks a handler against its proof and prints one line, the verdict:
   accepted K               the proof is right: while others keep its rely, the handler takes at most K steps
   refused NUMBER bit B     a file is too long or ill-formed: the first fault is at its bit B
   refused NUMBER node D    the files are well-formed: the first fault is at node D of the proof
+With canonical the line is one of these:
+  written LENGTH           OUT holds the form, of so many bytes
+  refused NUMBER bit B     a file is too long or ill-formed, and OUT is as it was
 The numbers are explained in docs/FAULTS.md. The exit status is always 0.
 ";
     io::write_all(STDERR_FILENO, usage);
-}
-
-// Checks the files that the last two of three arguments name, and explains the verdict, if the first argument asks for that.
-fn explain_arguments() {
-    if asks_to_explain() {
-        check_arguments(2, 3, true);
-    } else {
-        print_usage();
-    }
 }
 
 // Chooses by the number of arguments. The program's own name is one of those that `os` counts.
 fn main() {
     let count = os::arg_count();
     if count < 2 {
-        check_files(b"handler.bin", b"proof.bin", false);
+        do_with_files(b"handler.bin", b"proof.bin", b"", Task::Check);
     } else if count == 3 {
-        check_arguments(1, 2, false);
-    } else if count == 4 {
-        explain_arguments();
+        do_with_arguments(1, Task::Check);
+    } else if (count == 4) & asks_to(b"explain") {
+        do_with_arguments(2, Task::Explain);
+    } else if (count == 5) & asks_to(b"canonical") {
+        do_with_arguments(2, Task::Write);
     } else {
         print_usage();
     }

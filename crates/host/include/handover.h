@@ -3,32 +3,34 @@
    A handler file holds a short parallel program over a few shared variables. A proof file holds a derivation: from which states
    the program may start, which changes by others it tolerates, which changes it makes, and where it ends. handover_check decides
    whether the derivation is right. Where it is, handover_root says which of its tables the decision is about. Where it is not,
-   handover_states gives the states that break a condition, and handover_view the bytes at the place of the fault. All four are
-   in target/staticlib/libhost.a, which `rt staticlib host` writes: an archive for x86-64 and the System V calling convention that
-   has no other global symbols.
+   handover_states gives the states that break a condition, and handover_view the bytes at the place of the fault.
+   handover_canonical writes a proof file in its one form, so that equal proofs are equal files. All five are in
+   target/staticlib/libhost.a, which `rt staticlib host` writes: an archive for x86-64 and the System V calling convention that has
+   no other global symbols.
 
    docs/FORMAT.md describes the two files, docs/RULES.md the rules and what acceptance promises, docs/FAULTS.md every fault number.
    examples/c has a program that uses all this.
 
    What the host owes, in every call:
    - No pointer is null, also where its length is 0. (Pass the address of any object then.)
-   - handler and proof point to handler_len and proof_len readable bytes; work points to work_len readable and writable words.
-     Every length may be passed: if a file has more than HANDOVER_MOST_BYTES bytes, the pair is refused with number 2. Only
-     handover_view wants files of fewer than 2^32 bytes, so that its answer can be taken apart.
-   - work is aligned to 8 bytes, as every array of uint64_t is. The files need no alignment.
-   - work overlaps neither handler nor proof: that is what `restrict` says below. Where it does, the behaviour is undefined, and the
-     answer can be `accepted` for a pair that must be refused. The two files are only read, and may overlap each other.
-   - Until the call returns, nothing else (no thread, guest or device) writes the files, or reads or writes the work words. If a
-     guest can write the memory that its files are in, the host copies them first.
+   - handler and proof point to handler_len and proof_len readable bytes; work points to work_len readable and writable words, and
+     out to out_len readable and writable bytes. Every length may be passed: if a file has more than HANDOVER_MOST_BYTES bytes, the
+     pair is refused with number 2. Only handover_view wants files of fewer than 2^32 bytes, so that its answer can be taken apart.
+   - work is aligned to 8 bytes, as every array of uint64_t is. The files and out need no alignment.
+   - work and out overlap neither handler nor proof: that is what `restrict` says below. Where they do, the behaviour is undefined,
+     and the answer can be `accepted` for a pair that must be refused. The two files are only read, and may overlap each other.
+   - Until the call returns, nothing else (no thread, guest or device) writes the files, or reads or writes the work words or out.
+     If a guest can write the memory that its files are in, the host copies them first.
    - HANDOVER_STACK_BYTES of stack are free at the call.
 
    What the host gets, from every call:
    - It returns. No content of the files makes it run forever, or read or write outside the buffers.
    - It allocates no memory, makes no system call, and has no global variables, so nothing is kept from one call to the next. Calls
-     from several threads at once are safe if each call has its own work words; they may share the files.
-   - It writes the first HANDOVER_WORK_WORDS work words at most (handover_root and handover_view none), and never the files.
-   - Its answer depends on what is passed alone: on the bytes of the files, the number of work words (not what they hold), and the
-     number, kind and place.
+     from several threads at once are safe if each call has its own work words or its own out; they may share the files.
+   - It writes the first HANDOVER_WORK_WORDS work words at most (handover_root, handover_view and handover_canonical have none), of
+     out only as many bytes as the answer says, and never the files.
+   - Its answer depends on what is passed alone: on the bytes of the files, the number of work words or of bytes of out (not what
+     they hold), and the number, kind and place.
    - Of the C library it needs memcpy and memset, and nothing else.
    - It uses the vector registers xmm0 to xmm15 with SSE2 instructions, for moves and for integer arithmetic; there is no
      floating-point arithmetic, no x87 and no AVX. The host's memcpy and memset may use more. So code that must leave vector
@@ -49,7 +51,7 @@ extern "C" {
 
 /* Limits. */
 #define HANDOVER_WORK_WORDS 1040                     /* work words that handover_check and handover_states need and write */
-#define HANDOVER_MOST_BYTES 16384                    /* the longest handler file or proof file that is read */
+#define HANDOVER_MOST_BYTES 16384                    /* the longest handler file or proof file that is read or written */
 #define HANDOVER_MOST_STEPS UINT32_C(4294967295)     /* the largest step number that is accepted */
 #define HANDOVER_MOST_STATES 64                      /* the largest N, the number of states */
 #define HANDOVER_MOST_SETS 16                        /* sets in a proof file */
@@ -76,6 +78,7 @@ enum handover_fault {
     /* Caused by the host. */
     HANDOVER_FAULT_WORK_WORDS = 1,         /* fewer than HANDOVER_WORK_WORDS work words */
     HANDOVER_FAULT_FILE_LENGTH = 2,        /* a file longer than HANDOVER_MOST_BYTES */
+    HANDOVER_FAULT_OUTPUT_SHORT = 3,       /* handover_canonical alone: out has fewer bytes than the file to be written */
 
     /* Caused by the exporter of the handler file; the place is a bit of it. */
     HANDOVER_FAULT_HANDLER_SHORT = 10,     /* a field runs past the end of the file */
@@ -190,7 +193,25 @@ uint64_t handover_states(const uint8_t *HANDOVER_RESTRICT handler, size_t handle
 uint64_t handover_view(const uint8_t *handler, size_t handler_len, const uint8_t *proof, size_t proof_len, uint32_t number,
                        uint32_t kind, uint64_t place);
 
-/* Taking an answer of handover_check apart. */
+/* Writes the proof file in its one form (docs/FORMAT.md, "One form") at the start of out. The nodes and their rules are those of the
+   file that is read. The sets, and the relations, are numbered by first mention, with the nodes in file order and P, R, G, Q, K, W
+   within a node; tables with equal members are one, and those that no node names are left out. So:
+   - two well-formed proof files over the same N have the same form, byte for byte, exactly if their nodes agree in rules and in the
+     members of their tables;
+   - for every handler file over that N, handover_check and handover_states answer the same for a proof file and for its form (the
+     numbers of its tables, and so handover_root and the work words after acceptance, are those of the file that is passed);
+   - the form is a well-formed proof file and its own form, and no longer than the file that is read.
+   No condition is looked at: a pair that handover_check refuses at a node is written all the same.
+
+   The answer is the length of what was written, below 2^32, or a fault as in an answer of handover_check; its place is a bit. It is
+   the first of: 2; 10 to 18; 20 to 25; and 3, at bit 0, if out_len is less than that length. HANDOVER_MOST_BYTES bytes are enough
+   for every proof file, and so are proof_len. Number 1 does not occur. After a fault all of out is as it was; otherwise its bytes
+   past the file are. */
+uint64_t handover_canonical(const uint8_t *HANDOVER_RESTRICT handler, size_t handler_len,
+                            const uint8_t *HANDOVER_RESTRICT proof, size_t proof_len,
+                            uint8_t *HANDOVER_RESTRICT out, size_t out_len);
+
+/* Taking an answer of handover_check apart. The last three are for an answer of handover_canonical too. */
 
 /* Whether the pair was accepted. */
 static inline bool handover_accepted(uint64_t answer) { return answer <= HANDOVER_MOST_STEPS; }
@@ -209,6 +230,14 @@ static inline enum handover_place_kind handover_kind(uint64_t answer)
 
 /* The place of the fault. */
 static inline uint32_t handover_place(uint64_t answer) { return (uint32_t)(answer & UINT32_MAX); }
+
+/* Taking an answer of handover_canonical apart. */
+
+/* Whether the form was written. */
+static inline bool handover_written(uint64_t answer) { return answer <= UINT32_MAX; }
+
+/* The length of the form in bytes, if it was written. */
+static inline size_t handover_length(uint64_t answer) { return (size_t)(answer & UINT32_MAX); }
 
 /* Taking an answer of handover_root apart, where it is not 0. */
 

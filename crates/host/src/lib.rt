@@ -1,5 +1,5 @@
 // The C interface for hosts (include/handover.h): the check of two files with the verdict as one number, the states that its refusal
-// names, the root of two files, and where a refusal is shown.
+// names, the root of two files, where a refusal is shown, and the one form of a proof file.
 ghost use mathlib.Core.Path.{_≡_};
 ghost use lib.ListN.{length};
 ghost use Rattle.checker.specs.Verdicts.{answer, workAfter, AcceptedIsSound};
@@ -7,6 +7,7 @@ ghost use Rattle.report.specs.Code.{codeOf, withoutStates, decoded};
 ghost use Rattle.report.specs.States.{statesOf, statesNumber, statesDecoded};
 ghost use Rattle.report.specs.Root.{rootOf};
 ghost use Rattle.viewer.specs.View.{viewOf};
+ghost use Rattle.canonical.specs.Canonical.{canonical, outcome, outAfter, asVerdict};
 
 // The check of two files over the host's work words. The result is the verdict as one number, `codeOf`: below 2 ^ 32 it is the step number
 // of an accepted pair, else the fault's number, the kind of its place and the place. `decoded` of it is the verdict but for the states,
@@ -50,4 +51,17 @@ pub extern "C" fn handover_view(handler: &[u8], proof: &[u8], number: u32, kind:
     ensures { λ r. ⌜ r ≡ viewOf (now (handler .entry)) (now (proof .entry)) number kind place ⌝ }
 {
     viewer::view_number(handler, proof, number, kind, place)
+}
+
+// The proof file in its one form, at the start of the host's output buffer. The result is the length that was written, below 2 ^ 32, or
+// the fault for which nothing was written, as one number (`codeOf`); `decoded` of it is the outcome.
+#[no_mangle]
+pub extern "C" fn handover_canonical(handler: &[u8], proof: &[u8], out: &mut [u8]) -> u64
+    ensures number { λ r.
+        ⌜ r ≡ codeOf (asVerdict (outcome (canonical (now (handler .entry)) (now (proof .entry))) (length (now (out .entry))))) ⌝ }
+    ensures outcome { λ r.
+        ⌜ decoded r ≡ asVerdict (outcome (canonical (now (handler .entry)) (now (proof .entry))) (length (now (out .entry)))) ⌝ }
+    ensures bytes { λ _. ⌜ now (out .exit) ≡ outAfter (canonical (now (handler .entry)) (now (proof .entry))) (now (out .entry)) ⌝ }
+{
+    canonical::form_number(handler, proof, out)
 }

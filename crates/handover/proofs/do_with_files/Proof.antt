@@ -4,8 +4,8 @@ use native.Mathlib.Omega.{arith}
 use lib.Seq.{length-take-le}
 use Rattle.handover.specs.Reading.{amount}
 use borrow.Author.Needs.{needs}
-use Rattle.handover.proofs.check_files.Statement.{statement}
-use Rattle.handover.proofs.check_files.Tie as tie
+use Rattle.handover.proofs.do_with_files.Statement.{statement}
+use Rattle.handover.proofs.do_with_files.Tie as tie
 
 array-share-prefix-handler : tie.Need-array-share-prefix-handler
 array-share-prefix-handler c =
@@ -13,25 +13,26 @@ array-share-prefix-handler c =
     let r = n .before .before .before .read-file in
     omega (arith, ap amount (n .n .given .1), r .ensures, r .kept .1 .0)
 
-slice-aggregate-judge : tie.Need-slice-aggregate-judge
-slice-aggregate-judge c = sym (length-take-le _ _ (array-share-prefix-handler (c .before)))
+slice-aggregate-handler : tie.Need-slice-aggregate-handler
+slice-aggregate-handler c = sym (length-take-le _ _ (array-share-prefix-handler (c .before)))
 
 array-share-prefix-proof : tie.Need-array-share-prefix-proof
 array-share-prefix-proof c =
     let r = c .before .before .before .before .before .read-file2 in
     omega (arith, ap amount (c .before .before .m .given .1), r .ensures, r .kept .1 .0)
 
-slice-aggregate-judge-2 : tie.Need-slice-aggregate-judge-2
-slice-aggregate-judge-2 c = sym (length-take-le _ _ (array-share-prefix-proof (c .before)))
+slice-aggregate-proof : tie.Need-slice-aggregate-proof
+slice-aggregate-proof c = sym (length-take-le _ _ (array-share-prefix-proof (c .before)))
 
-pub check-files-spec : {M : Type 1} → statement M
-check-files-spec =
+pub do-with-files-spec : {M : Type 1} → statement M
+do-with-files-spec =
     tie.close
     (tie.spec
     (λ c. search needs) (λ c κs. search needs) (λ c. search needs) (λ c. search needs) (λ c. search needs) (λ c. search needs)
     (λ c κs. search needs) (λ c. search needs) (λ c. search needs) (λ c. search needs)
     array-share-prefix-handler
-    slice-aggregate-judge
+    slice-aggregate-handler
     array-share-prefix-proof
-    slice-aggregate-judge-2
-    (λ c κs. search needs) (λ c. search needs))
+    slice-aggregate-proof
+    (λ c. search needs) (λ c κs. search needs) (λ c. search needs) (λ c κs. search needs) (λ c. search needs) (λ c κs. search needs)
+    (λ c. search needs) (λ c. search needs) (λ c. search needs))
