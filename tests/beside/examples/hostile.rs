@@ -7,12 +7,14 @@
 use generate::author::operate;
 use generate::damage::{damaged, Files};
 use generate::derive::{least, Demand};
-use generate::pack::{Packer, What};
+use generate::pack::{self, Packer, What};
 use generate::pairs::{accepted, Pair, Scale};
 use generate::programs::{self, number, parallel, read, repeat, sequence, store, when};
 use generate::random::Random;
-use generate::vacuous;
+use generate::renumber::renumbered;
+use generate::{arbitrary, longest, vacuous};
 use reference::language::{Expression, Handler, Operation, Statement};
+use reference::proof_file::Proof;
 use reference::space::Space;
 use reference::states::{Relation, StateSet};
 use std::io::Write;
@@ -30,6 +32,7 @@ fn main() -> std::io::Result<()> {
     pairs.extend((0..200).map(|_| accepted(&mut random, Scale::FULL)));
     files.extend(pairs.into_iter().flat_map(|pair| with_damage(&mut random, pair)));
     files.extend(endless());
+    files.extend(many_tables(&mut random));
     let mut output = std::io::stdout().lock();
     for (handler, proof) in files {
         for file in [&handler, &proof] {
@@ -194,6 +197,16 @@ fn endless() -> Vec<Files> {
         all.push((nil.clone(), packed(&[&tables, &repeated(&node, 1000)])));
     }
     all
+}
+
+/// Proofs over 64 states with as many tables as a file holds, equal, almost equal or not mentioned.
+fn many_tables(random: &mut Random) -> Vec<Files> {
+    let nil = vacuous::pair(&[8, 8], Statement::Nil).handler_file.bytes;
+    let mut proofs = vec![longest::proof(), longest::form()];
+    proofs.extend((0..40).map(|_| arbitrary::proof(random, 64)));
+    let more: Vec<Proof> = proofs.iter().map(|proof| renumbered(random, proof, 64)).collect();
+    let all = proofs.iter().chain(&more);
+    all.map(|proof| (nil.clone(), pack::proof(proof, 64).bytes)).collect()
 }
 
 /// The pair and four damaged versions, so that refusals at the deepest places are among them.

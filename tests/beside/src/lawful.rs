@@ -1,13 +1,26 @@
 //! What docs/FORMAT.md says of every call, whatever its files are.
 
+use crate::Written;
+use reference::canonical::ROOM_TOO_SHORT;
 use reference::{Place, Verdict, TABLE_WORDS};
+use std::collections::BTreeSet;
 
-/// The numbers that a refusal can have.
+/// The numbers that a refusal of a check can have.
 pub const NUMBERS: [u32; 49] = [
     1, 2, 10, 11, 12, 13, 14, 15, 16, 17, 18, 20, 21, 22, 23, 24, 25, 30, 31, 32, 33, 34, 35, 36,
     37, 38, 40, 41, 42, 43, 45, 46, 50, 51, 52, 53, 54, 55, 56, 57, 60, 61, 65, 66, 70, 71, 72, 73,
     80,
 ];
+
+/// The numbers that a refusal to write the form of a proof can have, in the order of the numbers.
+pub const FORM_NUMBERS: [u32; 17] =
+    [2, ROOM_TOO_SHORT, 10, 11, 12, 13, 14, 15, 16, 17, 18, 20, 21, 22, 23, 24, 25];
+
+/// The numbers of all refusals, in order: those that the pages and the C header list.
+pub fn all_numbers() -> Vec<u32> {
+    let all: BTreeSet<u32> = NUMBERS.into_iter().chain(FORM_NUMBERS).collect();
+    all.into_iter().collect()
+}
 
 /// How many states a refusal of this number names.
 pub fn states_named(number: u32) -> u64 {
@@ -58,6 +71,40 @@ pub fn states(handler: &[u8], verdict: Verdict, states: u64) -> Result<(), Strin
         Ok(())
     } else {
         Err(format!("{states:X} does not hold {count} states"))
+    }
+}
+
+/// Whether a call that writes the form of a proof into `before` may end so, with the reason where
+/// it may not.
+pub fn writing(
+    (handler, proof): (&[u8], &[u8]),
+    before: &[u8],
+    written: Written,
+    after: &[u8],
+) -> Result<(), String> {
+    let length = match written {
+        Ok(length) if length > before.len() => return Err("more was written than fits".into()),
+        Ok(length) if length > proof.len() => return Err("the form is longer".into()),
+        Ok(length) => length,
+        Err(refused) => {
+            unwritten(handler, proof, refused)?;
+            0
+        }
+    };
+    if after[length..] != before[length..] {
+        return Err("bytes have changed that are not the form's".into());
+    }
+    Ok(())
+}
+
+/// Whether the number is one of those, and its place of the right sort.
+fn unwritten(handler: &[u8], proof: &[u8], refused: Verdict) -> Result<(), String> {
+    match refused {
+        Verdict::Refused { number: ROOM_TOO_SHORT, place: Place::Bit(0) } => Ok(()),
+        Verdict::Refused { number, place } if FORM_NUMBERS.contains(&number) => {
+            refusal(number, place, handler.len() * 8, proof.len() * 8)
+        }
+        _ => Err("no refusal to write a form is so".into()),
     }
 }
 

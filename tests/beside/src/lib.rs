@@ -1,9 +1,12 @@
 //! Runs checkers beside each other and against what holds of every call.
 
 pub mod answer;
+pub mod form;
 pub mod lawful;
 #[cfg(feature = "proved")]
 pub mod proved;
+
+pub use form::{judge_canonical, judge_form};
 
 use reference::view::{BIT, NODE};
 use reference::{Place, Verdict};
@@ -18,7 +21,13 @@ pub trait Checker {
     fn check(&self, handler: &[u8], proof: &[u8], work: &mut [u64]) -> Verdict;
     /// The states that the check's refusal names, packed; none where the checker cannot say.
     fn states(&self, handler: &[u8], proof: &[u8], work: &mut [u64]) -> Option<u64>;
+    /// Writes the proof file in its one form, and gives its length or the refusal; none where the
+    /// checker cannot.
+    fn canonical(&self, handler: &[u8], proof: &[u8], out: &mut [u8]) -> Option<Written>;
 }
+
+/// The length of a file that was written, or why it was not.
+pub type Written = Result<usize, Verdict>;
 
 /// The checker of the crate `reference`.
 pub struct Reference;
@@ -34,6 +43,14 @@ impl Checker for Reference {
 
     fn states(&self, handler: &[u8], proof: &[u8], work: &mut [u64]) -> Option<u64> {
         Some(reference::named_states(handler, proof, work))
+    }
+
+    fn canonical(&self, handler: &[u8], proof: &[u8], out: &mut [u8]) -> Option<Written> {
+        let form = reference::canonical(handler, proof, out.len());
+        if let Ok(bytes) = &form {
+            out[..bytes.len()].copy_from_slice(bytes);
+        }
+        Some(form.map(|bytes| bytes.len()).map_err(Verdict::from))
     }
 }
 
@@ -148,9 +165,8 @@ pub fn judge_view_of(handler: &[u8], proof: &[u8], verdict: Verdict) -> Option<u
     Some(judge_view(handler, proof, number, kind, u64::from(place)))
 }
 
-/// A call that only reads, with both files between other bytes, none of which may change.
-#[cfg(feature = "proved")]
-fn lent(handler: &[u8], proof: &[u8], call: impl Fn(&[u8], &[u8]) -> u64) -> u64 {
+/// A call that only reads the files, with both between other bytes, none of which may change.
+fn lent<T>(handler: &[u8], proof: &[u8], call: impl FnOnce(&[u8], &[u8]) -> T) -> T {
     let margin = [0xB6; 5];
     let before = [&margin[..], handler, &margin, proof, &margin].concat();
     let memory = before.clone();

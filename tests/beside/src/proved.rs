@@ -1,6 +1,6 @@
 //! The proved checker, over its C interface.
 
-use crate::{answer, Checker};
+use crate::{answer, Checker, Written};
 use reference::Verdict;
 
 extern "C" {
@@ -38,6 +38,15 @@ extern "C" {
         kind: u32,
         place: u64,
     ) -> u64;
+
+    fn handover_canonical(
+        handler: *const u8,
+        handler_len: usize,
+        proof: *const u8,
+        proof_len: usize,
+        out: *mut u8,
+        out_len: usize,
+    ) -> u64;
 }
 
 #[cfg(feature = "former")]
@@ -52,23 +61,29 @@ extern "C" {
     ) -> u64;
 }
 
-/// A function of a library that takes two files and work words.
-type Call = unsafe extern "C" fn(*const u8, usize, *const u8, usize, *mut u64, usize) -> u64;
+/// A function of a library that takes two files and a buffer, of words or of bytes.
+type Call<T> = unsafe extern "C" fn(*const u8, usize, *const u8, usize, *mut T, usize) -> u64;
 
-/// A library that is linked, by its functions; that of an earlier checkout may lack `states`.
+/// A library that is linked, by its functions; that of an earlier checkout may lack some.
 pub struct Proved {
     name: &'static str,
-    check: Call,
-    states: Option<Call>,
+    check: Call<u64>,
+    states: Option<Call<u64>>,
+    canonical: Option<Call<u8>>,
 }
 
 /// The library of this checkout.
-pub const PROVED: Proved =
-    Proved { name: "proved", check: handover_check, states: Some(handover_states) };
+pub const PROVED: Proved = Proved {
+    name: "proved",
+    check: handover_check,
+    states: Some(handover_states),
+    canonical: Some(handover_canonical),
+};
 
 /// The library of an earlier checkout, which `tools/former` puts beside this one's.
 #[cfg(feature = "former")]
-pub const FORMER: Proved = Proved { name: "former", check: former_check, states: None };
+pub const FORMER: Proved =
+    Proved { name: "former", check: former_check, states: None, canonical: None };
 
 impl Checker for Proved {
     fn name(&self) -> &'static str {
@@ -82,19 +97,23 @@ impl Checker for Proved {
     fn states(&self, handler: &[u8], proof: &[u8], work: &mut [u64]) -> Option<u64> {
         self.states.map(|function| call(function, handler, proof, work))
     }
+
+    fn canonical(&self, handler: &[u8], proof: &[u8], out: &mut [u8]) -> Option<Written> {
+        self.canonical.map(|function| answer::written(call(function, handler, proof, out)))
+    }
 }
 
-fn call(function: Call, handler: &[u8], proof: &[u8], work: &mut [u64]) -> u64 {
+fn call<T>(function: Call<T>, handler: &[u8], proof: &[u8], buffer: &mut [T]) -> u64 {
     // SAFETY: each pointer comes from a slice with the length beside it, and is not null even
-    // where the slice is empty; only `work` is written, and nothing else holds it.
+    // where the slice is empty; only `buffer` is written, and nothing else holds it.
     unsafe {
         function(
             handler.as_ptr(),
             handler.len(),
             proof.as_ptr(),
             proof.len(),
-            work.as_mut_ptr(),
-            work.len(),
+            buffer.as_mut_ptr(),
+            buffer.len(),
         )
     }
 }

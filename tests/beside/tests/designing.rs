@@ -17,7 +17,7 @@ mod words;
 #[path = "designing/world.rs"]
 mod world;
 
-use beside::lawful::NUMBERS;
+use beside::lawful::all_numbers;
 use beside::{line, page};
 use std::collections::BTreeSet;
 use world::Claim;
@@ -126,7 +126,7 @@ fn every_number_has_a_row() {
     let (_, tables) = faults.split_once("\n## ").expect("the page has headings");
     let first = |row: &str| row.strip_prefix('|')?.split('|').next()?.trim().parse::<u32>().ok();
     let rows: Vec<u32> = tables.lines().filter_map(first).collect();
-    assert_eq!(rows, NUMBERS);
+    assert_eq!(rows, all_numbers());
 }
 
 /// The name by which a link leads to a heading.

@@ -1,7 +1,7 @@
 //! The numbers of the C header are those that a refusal can have, each with its states, and its
 //! limits the reference's.
 
-use beside::lawful::{states_named, NUMBERS};
+use beside::lawful::{all_numbers, states_named};
 use reference::handler_file::MOST_STATES;
 use reference::{LONGEST_FILE, TABLE_WORDS};
 
@@ -28,7 +28,7 @@ fn faults() -> Vec<(u32, &'static str)> {
 fn fault_numbers() {
     let mut numbers: Vec<u32> = faults().into_iter().map(|(number, _)| number).collect();
     assert_eq!(numbers.remove(0), 0, "acceptance has the number 0");
-    assert_eq!(numbers, NUMBERS);
+    assert_eq!(numbers, all_numbers());
 }
 
 /// The comment of a number that comes with states ends with them, as in `[s, t]`.

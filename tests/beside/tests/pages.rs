@@ -3,7 +3,7 @@
 
 use std::collections::BTreeSet;
 
-use beside::lawful::{states_named, NUMBERS};
+use beside::lawful::{all_numbers, states_named};
 use beside::{judge, judge_view_of, line, page};
 use reference::TABLE_WORDS;
 
@@ -159,9 +159,9 @@ fn entries<'a>(tables: impl Iterator<Item = &'a Table>) -> Vec<usize> {
 
 #[test]
 fn every_number_has_an_entry() {
-    let numbers = NUMBERS.map(|number| number as usize);
+    let numbers = all_numbers().into_iter().map(|number| number as usize);
     let (reading, conditions): (BTreeSet<usize>, BTreeSet<usize>) =
-        numbers.into_iter().partition(|number| *number < 30);
+        numbers.partition(|number| *number < 30);
     let of_page = |name: &str| entries(tables(&page(name)).iter()).into_iter().collect();
     assert_eq!(reading, of_page("FORMAT.md"));
     assert_eq!(conditions, of_page("RULES.md"));

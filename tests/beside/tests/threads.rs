@@ -1,8 +1,8 @@
-//! Calls from several threads at once, each with its own work words, answer as calls alone do.
+//! Calls from several threads at once, each with its own buffers, answer as calls alone do.
 #![cfg(feature = "proved")]
 
 use beside::proved::{self, PROVED};
-use beside::Checker;
+use beside::{Checker, Written};
 use generate::damage::{damaged, Files};
 use generate::pairs::{accepted, Scale};
 use generate::random::Random;
@@ -22,15 +22,20 @@ struct Answer {
     words: Vec<u64>,
     root: u64,
     view: u64,
+    written: Option<Written>,
+    form: Vec<u8>,
 }
 
-/// All calls, over the words that an earlier call has left. The view is that of node 0.
+/// All calls, over the words that an earlier call has left. The view is that of node 0. The room
+/// for the form is that of the file.
 fn answer((handler, proof): &Files, work: &mut [u64]) -> Answer {
     let verdict = PROVED.check(handler, proof, work);
     let states = PROVED.states(handler, proof, work);
     let root = proved::root(handler, proof);
     let view = proved::view(handler, proof, 30, NODE, 0);
-    Answer { verdict, states, words: work.to_vec(), root, view }
+    let mut form = vec![0xA7; proof.len()];
+    let written = PROVED.canonical(handler, proof, &mut form);
+    Answer { verdict, states, words: work.to_vec(), root, view, written, form }
 }
 
 /// Accepted pairs and four damaged versions of each.

@@ -41,6 +41,18 @@ impl Random {
         &items[self.below(items.len())]
     }
 
+    /// One of the items, to be changed.
+    pub fn pick_mut<'a, T>(&mut self, items: &'a mut [T]) -> &'a mut T {
+        &mut items[self.below(items.len())]
+    }
+
+    /// The items in another order, each order being as likely as any other.
+    pub fn shuffle<T>(&mut self, items: &mut [T]) {
+        for left in (1..items.len()).rev() {
+            items.swap(left, self.below(left + 1));
+        }
+    }
+
     /// Each member of the set is kept in `percent` of 100 cases.
     pub fn thinned(&mut self, set: StateSet, percent: usize) -> StateSet {
         set.members().filter(|_| self.chance(percent)).collect()

@@ -3,6 +3,7 @@
 //! It builds ordinary trees from the two files and tries each condition as docs/RULES.md
 //! words it. It shares no code with the proved checker, so that agreement means something.
 
+pub mod canonical;
 pub mod conditions;
 pub mod fault;
 pub mod handler_file;
@@ -13,7 +14,9 @@ pub mod space;
 pub mod states;
 pub mod step_number;
 pub mod view;
+pub mod writer;
 
+pub use canonical::canonical;
 pub use fault::{Fault, Place, Verdict};
 pub use view::view;
 
