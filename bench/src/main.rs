@@ -3,11 +3,12 @@
 
 mod arguments;
 mod rows;
+mod worst;
 
 use arguments::Arguments;
-use beside::{checkers, judge, line, Checker};
-use reference::{Verdict, TABLE_WORDS};
-use rows::Row;
+use beside::{checkers, judge, judge_form, line, Checker};
+use reference::{LONGEST_FILE, TABLE_WORDS};
+use rows::{Call, Row};
 use std::hint::black_box;
 use std::time::Instant;
 
@@ -33,37 +34,69 @@ fn run(arguments: Arguments) -> Result<(), String> {
     let checkers = checkers();
     print_head(&checkers);
     for row in rows.iter().filter(wanted) {
-        let verdict = judge(&row.handler, &row.proof);
-        assert!((row.expected)(verdict), "{}: {}", row.name, line(verdict));
-        print_row(row, verdict, &measure(row, &checkers, rounds));
+        print_row(row, &answer(row), &measure(row, &checkers, rounds));
     }
     Ok(())
 }
 
-/// The median of each checker in nanoseconds a call; they take turns in every round.
-fn measure(row: &Row, checkers: &[Box<dyn Checker>], rounds: usize) -> Vec<f64> {
+/// What every checker answers, which must be what the row is about.
+fn answer(row: &Row) -> String {
+    match &row.call {
+        Call::Check(expected) => {
+            let verdict = judge(&row.handler, &row.proof);
+            assert!(expected(verdict), "{}: {}", row.name, line(verdict));
+            line(verdict)
+        }
+        Call::Form(form) => {
+            let written = judge_form(&row.handler, &row.proof);
+            assert!(written.as_ref() == Ok(form), "{}: another form", row.name);
+            format!("written {}", form.len())
+        }
+    }
+}
+
+/// What the calls write to.
+struct Buffers {
+    words: Vec<u64>,
+    bytes: Vec<u8>,
+}
+
+/// The median of each checker in nanoseconds a call; they take turns in every round. None where
+/// the checker lacks the function.
+fn measure(row: &Row, checkers: &[Box<dyn Checker>], rounds: usize) -> Vec<Option<f64>> {
     let mut times = vec![Vec::with_capacity(rounds); checkers.len()];
-    let mut work = vec![0; TABLE_WORDS];
+    let mut buffers = Buffers { words: vec![0; TABLE_WORDS], bytes: vec![0; LONGEST_FILE] };
     for _ in 0..rounds {
         for (checker, times) in checkers.iter().zip(&mut times) {
             let start = Instant::now();
-            for _ in 0..CALLS {
-                let (handler, proof) = (black_box(&row.handler), black_box(&row.proof));
-                black_box(checker.check(handler, proof, &mut work));
+            let done = (0..CALLS).all(|_| call(&**checker, row, &mut buffers));
+            if done {
+                times.push(start.elapsed().as_nanos() as f64 / f64::from(CALLS));
             }
-            times.push(start.elapsed().as_nanos() as f64 / f64::from(CALLS));
         }
     }
     times.into_iter().map(median).collect()
 }
 
-fn median(mut times: Vec<f64>) -> f64 {
+/// One call; false where the checker lacks the function.
+fn call(checker: &dyn Checker, row: &Row, buffers: &mut Buffers) -> bool {
+    let (handler, proof) = (black_box(&row.handler), black_box(&row.proof));
+    match row.call {
+        Call::Check(_) => {
+            black_box(checker.check(handler, proof, &mut buffers.words));
+            true
+        }
+        Call::Form(_) => black_box(checker.canonical(handler, proof, &mut buffers.bytes)).is_some(),
+    }
+}
+
+fn median(mut times: Vec<f64>) -> Option<f64> {
     times.sort_by(f64::total_cmp);
-    times[times.len() / 2]
+    times.get(times.len() / 2).copied()
 }
 
 fn print_head(checkers: &[Box<dyn Checker>]) {
-    print!("| row | bytes | verdict |");
+    print!("| row | bytes | answer |");
     for checker in checkers {
         print!(" {} ns |", checker.name());
     }
@@ -73,14 +106,15 @@ fn print_head(checkers: &[Box<dyn Checker>]) {
     println!("\n|---|---|---|{}", "---|".repeat(2 * checkers.len() - 1));
 }
 
-fn print_row(row: &Row, verdict: Verdict, medians: &[f64]) {
+fn print_row(row: &Row, answer: &str, medians: &[Option<f64>]) {
     let bytes = row.handler.len() + row.proof.len();
-    print!("| {} | {bytes} | {} |", row.name, line(verdict));
+    print!("| {} | {bytes} | {answer} |", row.name);
     for median in medians {
-        print!(" {median:.0} |");
+        print!(" {} |", median.map_or("–".into(), |median| format!("{median:.0}")));
     }
     for median in &medians[1..] {
-        print!(" {:.2} |", median / medians[0]);
+        let ratio = median.zip(medians[0]).map(|(median, reference)| median / reference);
+        print!(" {} |", ratio.map_or("–".into(), |ratio| format!("{ratio:.2}")));
     }
     println!();
 }

@@ -1,10 +1,13 @@
 //! The pairs that are measured.
 
+use crate::worst::numbered_worst;
 use generate::author::operate;
 use generate::derivation::Derivation;
 use generate::derive::{least, Demand};
 use generate::pairs::Pair;
 use generate::programs::{count_down, count_up, in_order, number, parallel, read, store, when};
+use generate::renumber::{agree, MOST_TABLES};
+use generate::{longest, pack, vacuous};
 use reference::language::{Handler, Operation, Statement};
 use reference::space::Space;
 use reference::states::{Relation, StateSet};
@@ -14,8 +17,15 @@ pub struct Row {
     pub name: &'static str,
     pub handler: Vec<u8>,
     pub proof: Vec<u8>,
-    /// Whether the verdict is the one that the row is about.
-    pub expected: fn(Verdict) -> bool,
+    pub call: Call,
+}
+
+/// What is measured, with what it must answer.
+pub enum Call {
+    /// The check, and whether the verdict is the one that the row is about.
+    Check(fn(Verdict) -> bool),
+    /// The writing of the proof file in its one form, and that form.
+    Form(Vec<u8>),
 }
 
 pub fn all() -> Vec<Row> {
@@ -33,9 +43,32 @@ pub fn all() -> Vec<Row> {
             name: "large, handler file a byte short",
             handler: cut,
             proof: proof.clone(),
-            expected: |verdict| matches!(verdict, Verdict::Refused { number: 10, .. }),
+            call: Call::Check(|verdict| matches!(verdict, Verdict::Refused { number: 10, .. })),
         },
+        form_of_large(&large),
+        form_of_longest(),
     ]
+}
+
+fn form_of_large(large: &Pair) -> Row {
+    let worst = numbered_worst(&large.proof);
+    assert!(agree(&worst, &large.proof) && worst.relations.len() == MOST_TABLES);
+    Row {
+        name: "form: large, its tables numbered worst",
+        handler: large.handler_file.bytes.clone(),
+        proof: pack::proof(&worst, large.handler.space.states()).bytes,
+        call: Call::Form(large.proof_file.bytes.clone()),
+    }
+}
+
+fn form_of_longest() -> Row {
+    let packed = |proof| pack::proof(&proof, 64).bytes;
+    Row {
+        name: "form: 127 nodes, 16 sets, 16 relations alike up to the last row",
+        handler: vacuous::pair(&[8, 8], Statement::Nil).handler_file.bytes,
+        proof: packed(longest::proof()),
+        call: Call::Form(packed(longest::form())),
+    }
 }
 
 fn accepted(name: &'static str, pair: Pair) -> Row {
@@ -43,7 +76,7 @@ fn accepted(name: &'static str, pair: Pair) -> Row {
         name,
         handler: pair.handler_file.bytes,
         proof: pair.proof_file.bytes,
-        expected: |verdict| matches!(verdict, Verdict::Accepted(_)),
+        call: Call::Check(|verdict| matches!(verdict, Verdict::Accepted(_))),
     }
 }
 
@@ -140,6 +173,8 @@ fn refused_at_last(large: Pair) -> Row {
         name: "large, refused at its last node",
         handler: pair.handler_file.bytes,
         proof: pair.proof_file.bytes,
-        expected: |verdict| verdict == Verdict::Refused { number: 35, place: Place::Node(126) },
+        call: Call::Check(|verdict| {
+            verdict == Verdict::Refused { number: 35, place: Place::Node(126) }
+        }),
     }
 }
