@@ -131,6 +131,10 @@ well-formed hb pb out f =
       no-longer = rw (f .is-form) (form-length pb n _ _ _ _ read);
     }
 
+-- So it has at most 16,384 bytes.
+pub form-short : (hb pb out : List ℕ) (f : Formed hb pb out) → length out ≤ 16384
+form-short hb pb out f = omega (arith, f .proof-length, well-formed hb pb out f .no-longer)
+
 -- (2) Over the same N, two files that are written are equal exactly if the nodes of the files that were given agree in rules and table
 -- members.
 module _ (hb pb out : List ℕ) (f : Formed hb pb out) (hb′ pb′ out′ : List ℕ) (f′ : Formed hb′ pb′ out′)
@@ -186,8 +190,7 @@ module _ (hb pb out : List ℕ) (f : Formed hb pb out) (hb′ : List ℕ)
   pub same-verdict : (words : ℕ) → answer hb′ out words .verdict ≡ answer hb′ pb words .verdict
   unfolding answer
   same-verdict words =
-      let short : length out ≤ 16384 = omega (arith, f .proof-length, well-formed hb pb out f .no-longer) in
-      rw (le-ltb 16384 (length pb) (f .proof-length), le-ltb 16384 (length out) short)
+      rw (le-ltb 16384 (length pb) (f .proof-length), le-ltb 16384 (length out) (form-short hb pb out f))
       (either-verdict (ltb words workWords) _ _ _ _ refl
       (either-verdict (ltb 16384 (length hb′) || false) _ _ _ _ refl (handler-verdict (readHandler hb′) refl)))
 
@@ -205,7 +208,7 @@ written-again hb pb out e =
     let N = one-N hb (w .after .handler-read) (f .pair .handler-read) in
     form-of hb out out (record {
       handler-length = f .handler-length;
-      proof-length = omega (arith, f .proof-length, w .no-longer);
+      proof-length = form-short hb pb out f;
       pair = w .after;
       is-form = f .is-form ∙ sym (λ i. formOf (N i) (w .same-meaning i));
     })
@@ -221,7 +224,7 @@ all-small hb pb =
     by-stages hb pb Small (omega arith)
     (λ short k place h. bit-small hb 10 18 k place short (omega arith) (omega arith) (Handlers.fault-inside hb k place h))
     (λ short n k place h. bit-small pb 20 25 k place short (omega arith) (omega arith) (ProofPlaces.fault-inside pb n k place h))
-    (λ out f. omega (arith, f .proof-length, well-formed hb pb out f .no-longer))
+    (λ out f. form-short hb pb out f)
   where
     bit-small : (bytes : List ℕ) (least most k place : ℕ) → length bytes ≤ 16384 → 0 < least → most ≤ 25 → FaultIn bytes least most k place
         → Small (fault k place)

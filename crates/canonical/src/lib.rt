@@ -25,7 +25,7 @@ mod mentions;
 mod tables;
 mod writing;
 
-// No form is longer: a buffer of so many bytes is never too short.
+// No form is longer (`form-short`): a buffer of so many bytes is never too short.
 pub const MOST_FORM_BYTES: usize = MOST_BYTES;
 
 // The numbers that the form itself gives: a file is over its length, and the output buffer is too short (docs/FORMAT.md, "One form").
