@@ -114,7 +114,7 @@ fn replace(path: &[u8], beside: &[u8], bytes: &[u8]) -> bool {
 }
 
 // Makes the bytes the file at a path, and answers whether that was done.
-pub fn save(path: &[u8], bytes: &[u8]) -> bool {
+pub(crate) fn save(path: &[u8], bytes: &[u8]) -> bool {
     let n = path.len();
     if n > LONGEST {
         report(path, b": File name too long\n");
