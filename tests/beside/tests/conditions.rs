@@ -4,6 +4,8 @@
 mod children;
 #[path = "conditions/least.rs"]
 mod least;
+#[path = "conditions/reach.rs"]
+mod reach;
 #[path = "conditions/small.rs"]
 mod small;
 

@@ -15,7 +15,7 @@ use reference::states::Relation;
 
 /// The statement over six states is refused at node 0 and names these states.
 fn names(statement: Statement, derivation: Derivation, number: u32, states: &[u64]) {
-    assert_eq!(judged(6, statement, derivation), refusal(number, 0, states));
+    assert_eq!(judged(&[6], statement, derivation), refusal(number, 0, states));
 }
 
 fn never() -> Statement {

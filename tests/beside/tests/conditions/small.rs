@@ -78,9 +78,9 @@ pub fn nil() -> Statement {
     Statement::Nil
 }
 
-/// What is said of the statement and its derivation, with c of this size.
-pub fn judged(size: usize, statement: Statement, derivation: Derivation) -> Judgement {
-    let handler = Handler { space: Space::new(&[size]), statement };
+/// What is said of the statement and its derivation, with variables of these sizes.
+pub fn judged(sizes: &[usize], statement: Statement, derivation: Derivation) -> Judgement {
+    let handler = Handler { space: Space::new(sizes), statement };
     let pair = Pair::new(handler, derivation).expect("it is small");
     judge_states(&pair.handler_file.bytes, &pair.proof_file.bytes)
 }
@@ -103,13 +103,16 @@ pub fn refusal(number: u32, at: u32, states: &[u64]) -> Judgement {
 
 /// The statement over three states is refused with this number at this node, and names these states.
 pub fn refused(statement: Statement, derivation: Derivation, number: u32, at: u32, states: &[u64]) {
-    assert_eq!(judged(3, statement, derivation), refusal(number, at, states));
+    assert_eq!(judged(&[3], statement, derivation), refusal(number, at, states));
+}
+
+pub fn acceptance(steps: u32) -> Judgement {
+    Judgement { verdict: Verdict::Accepted(steps), states: 0 }
 }
 
 /// The statement over three states is accepted with this step number.
 pub fn accepted(statement: Statement, derivation: Derivation, steps: u32) {
-    let accepted = Judgement { verdict: Verdict::Accepted(steps), states: 0 };
-    assert_eq!(judged(3, statement, derivation), accepted);
+    assert_eq!(judged(&[3], statement, derivation), acceptance(steps));
 }
 
 /// A loop over nil, its body's tables as 34 and 36 to 38 want them.
@@ -135,11 +138,15 @@ pub fn one_by_one(right_p: &[usize], q: Relation) -> Derivation {
 /// A parallel of two nils over three states: the left side may move 0 to 1, the right side 1 to
 /// 2, so that together 0 comes to 2.
 pub fn together(g: Relation, q: Relation) -> Derivation {
-    let all = [0, 1, 2];
-    let (left, right) = (pairs(&[(0, 1)]), pairs(&[(1, 2)]));
+    guarantee(side_by_side(&[0, 1, 2], pairs(&[(0, 1)]), pairs(&[(1, 2)]), q), g)
+}
+
+/// A parallel of two nils with these guarantees, beside others that do nothing. Each side's Q
+/// holds every pair, so that Q of the parallel has to hold every pair that is reached.
+pub fn side_by_side(p: &[usize], left: Relation, right: Relation, q: Relation) -> Derivation {
     let children = vec![
-        guarantee(skip(&all, right.clone(), every()), left.clone()),
-        guarantee(skip(&all, left, every()), right),
+        guarantee(skip(p, right.clone(), every()), left.clone()),
+        guarantee(skip(p, left, every()), right),
     ];
-    guarantee(node(Step::Parallel, &all, none(), q, children), g)
+    node(Step::Parallel, p, none(), q, children)
 }
