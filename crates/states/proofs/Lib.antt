@@ -5,6 +5,7 @@ pub mod Bits
 pub mod Words
 pub mod Cells
 pub mod Reach
+pub mod Spread
 pub mod EntryLaws
 pub mod Rows
 pub mod Members

@@ -26,7 +26,7 @@ unfoldable pub rounds : ℕ → (ℕ → ℕ → Bool) → (ℕ → Bool) → �
 rounds n r from zero t = from t
 rounds n r from (suc k) t = round n r (rounds n r from k) t
 
--- One more round after k rounds is round k + 1: the step of a loop that counts the rounds.
+-- One more round after k rounds is round k + 1.
 pub rounds-next : (n : ℕ) (r : ℕ → ℕ → Bool) (from : ℕ → Bool) (k : ℕ) (p : ℕ → Bool) → ((t : ℕ) → p t ≡ rounds n r from k t)
     → (t : ℕ) → (p t || any n (λ u. p u && r u t)) ≡ rounds n r from (k + 1) t
 unfolding rounds round

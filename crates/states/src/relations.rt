@@ -138,14 +138,17 @@ pub fn same_members(n: u32, a: &[u64], b: &[u64]) -> bool
     held
 }
 
-// The states reached from the set by zero or more pairs. Each of n rounds adds the ends of the
-// pairs that start in a state already reached.
+// The states reached from the set by zero or more pairs. A round adds the ends of the pairs that start in a state which the round before
+// added, or in the set itself at first. The loop ends after the first round that adds no state.
 pub fn reach(n: u32, rows: &[u64], from: StateSet) -> StateSet
     ensures { λ r. ⌜ ((t : ℕ) → (has r t ≡ true) ↔ Reached (has from) (rel n (now (rows .entry))) t) ⌝ }
 {
+    let mut earlier = StateSet::empty();
     let mut reached = from;
-    for _ in 0..n {
-        reached = reached.join(image(n, reached, rows));
+    while !reached.included(earlier) {
+        let added = reached.narrow(earlier);
+        earlier = reached;
+        reached = reached.join(image(n, added, rows));
     }
     reached
 }

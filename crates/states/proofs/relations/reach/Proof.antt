@@ -1,47 +1,46 @@
--- The loop keeps the number of rounds made, and that the set is what `rounds` gives for that number. At the end it is n,
--- and n rounds reach all and nothing else.
-use Prim.Native.Nat.{ℕ, _+_, _≤_, _-_}
-use native.Mathlib.Omega.{arith}
-use mathlib.Core.Path.{_≡_, _∙_, ap, refl}
-use mathlib.Core.Bool.{_||_}
+-- The pairs that start in what was reached before the last round end in what is reached. Where that round added no state, all is reached.
+use mathlib.Core.Path.{sym, _∙_}
+use mathlib.Core.Bool.{not}
 use borrow.Author.Needs.{needs}
-use Rattle.states.specs.Sets.{has}
+use borrow.Author.Tests.{not-true, not-false}
+use Rattle.states.specs.Sets.{capacity, has}
 use Rattle.states.specs.Relations.{rel}
+use Rattle.states.proofs.Search.{implies-at, all-at}
 use Rattle.states.proofs.Rows.{rel-between}
-use Rattle.states.proofs.Reach.{rounds, rounds-next, rounds-exact}
+use Rattle.states.proofs.Reach.{count}
+use Rattle.states.proofs.Members.{has-below}
+use Rattle.states.proofs.Spread.{Spread, spread-none, spread-more, spread-less, spread-all}
 use Rattle.states.proofs.relations.reach.Statement.{statement}
 use Rattle.states.proofs.relations.reach.Tie as tie
 
 abbrev Inv-loop : tie.InvT-loop
-Inv-loop n rows reached₀ counter₀ reached counter =
-    (made : ℕ) × (counter ≡ counter₀ + made) × ((t : ℕ) → has reached t ≡ rounds n (rel n rows) (has reached₀) made t)
+Inv-loop n rows earlier₀ reached₀ earlier reached = Spread (has reached₀) (rel n rows) (has earlier) (has reached)
 
 abbrev μ-loop : tie.MeasureT-loop
-μ-loop n rows reached₀ counter₀ reached counter = n - counter
+μ-loop n rows earlier₀ reached₀ earlier reached = count capacity (λ s. not (has earlier s))
 
 loop-holds : tie.Need-loop-holds Inv-loop μ-loop
-unfolding rounds
-loop-holds c = (0, omega arith, λ t. refl)
+loop-holds c = spread-none _ _ _ (c .empty .ensures)
 
 loop-again : tie.Need-loop-again Inv-loop μ-loop
 loop-again c =
-    let l = c .before .before .before .loop in (
-      l .inv .0 + 1,
-      omega arith,
-      λ t.
-          c .join .ensures t ∙ ap (λ b. has (l .reached) t || b) (c .before .image .ensures t)
-          ∙ rounds-next _ _ _ (l .inv .0) (has (l .reached)) (l .inv .2) t,
-    )
+    let l = c .before .before .before .before .before .loop in
+    spread-more _ (rel _ _) (rel-between _ _) _ _ _ (l .inv) _ _ _ (c .before .before .narrow .ensures) (c .before .image .ensures) (c .join .ensures)
+
+loop-less : tie.Need-loop-less Inv-loop μ-loop
+loop-less c =
+    let test = c .before .before .before .before in
+    spread-less _ _ (rel-between _ _) _ _ _ (test .before .loop .inv) capacity
+    (sym (test .included .ensures) ∙ not-true _ (c .before .before .before .if1 .taken))
 
 returns : tie.Need-returns Inv-loop μ-loop
-returns c t =
-    let a = c .before .before .before .args in
-    let l = c .before .loop in
-    let enough : a .n ≤ l .inv .0 = omega arith in
-    rw (l .inv .2 t) (rounds-exact _ _ (rel-between (a .n) (a .rows .now)) _ (l .inv .0) enough t)
+returns c =
+    let l = c .before .before .loop in
+    let none = sym (c .before .included .ensures) ∙ not-false _ (c .if1 .left) in
+    spread-all _ _ (rel-between _ _) _ _ _ (l .inv) (λ s e. implies-at _ _ (all-at capacity _ none s (has-below (l .reached) s e)) e)
 
 pub reach-spec : {M : Type 1} → statement M
 reach-spec =
     tie.close
-    (tie.spec Inv-loop μ-loop loop-holds (λ c κs. search needs) (λ c κs. search needs) (λ c. search needs) (λ c. search needs)
+    (tie.spec Inv-loop μ-loop (λ c κs. search needs) loop-holds (λ c κs. search needs) (λ c κs. search needs) (λ c κs. search needs) (λ c κs. search needs) loop-less
     loop-again returns)
