@@ -95,13 +95,18 @@ fn median(mut times: Vec<f64>) -> Option<f64> {
     times.get(times.len() / 2).copied()
 }
 
+/// The checkers with which the second, the proved one, is compared: all others, or none without it.
+fn others(checkers: usize) -> impl Iterator<Item = usize> {
+    (0..checkers).filter(move |index| checkers > 1 && *index != 1)
+}
+
 fn print_head(checkers: &[Box<dyn Checker>]) {
     print!("| row | bytes | answer |");
     for checker in checkers {
         print!(" {} ns |", checker.name());
     }
-    for checker in &checkers[1..] {
-        print!(" {} / reference |", checker.name());
+    for other in others(checkers.len()) {
+        print!(" {} / {} |", checkers[1].name(), checkers[other].name());
     }
     println!("\n|---|---|---|{}", "---|".repeat(2 * checkers.len() - 1));
 }
@@ -112,8 +117,8 @@ fn print_row(row: &Row, answer: &str, medians: &[Option<f64>]) {
     for median in medians {
         print!(" {} |", median.map_or("–".into(), |median| format!("{median:.0}")));
     }
-    for median in &medians[1..] {
-        let ratio = median.zip(medians[0]).map(|(median, reference)| median / reference);
+    for other in others(medians.len()) {
+        let ratio = medians[1].zip(medians[other]).map(|(proved, other)| proved / other);
         print!(" {} |", ratio.map_or("–".into(), |ratio| format!("{ratio:.2}")));
     }
     println!();

@@ -35,8 +35,12 @@ pub fn all() -> Vec<Row> {
     vec![
         accepted("typical: N = 16, about 20 nodes", typical()),
         accepted("large: N = 64, near 127 nodes, parallels and loops", large.clone()),
-        accepted("parallel at N = 64, R and each G empty", idle_parallel(&Relation::none())),
-        accepted("parallel at N = 64, reach a chain of 63 pairs", idle_parallel(&chain())),
+        accepted(
+            "parallel at N = 64, R and each G empty, 64 reaches",
+            reached(&Relation::none(), 64),
+        ),
+        accepted("parallel at N = 64, a chain of 63 pairs, 63 reaches", reached(&chain(), 63)),
+        accepted("parallel at N = 64, a ring of 63 pairs, 64 reaches", reached(&ring(), 64)),
         accepted("31 stores of 31-node expressions", expressions()),
         refused_at_last(large.clone()),
         Row {
@@ -134,16 +138,36 @@ fn large() -> Pair {
     pair(&sizes, statement, root)
 }
 
-/// Two sides that do nothing beside others that do this.
-fn idle_parallel(r: &Relation) -> Pair {
+/// Two sides that do nothing beside others that do this. Each side's Q has all pairs and the
+/// parallel's Q those that are reached alone, so that 66 asks for the reach from each state that
+/// does not reach all others: from so many.
+fn reached(r: &Relation, asked: usize) -> Pair {
     let sizes = [8, 8];
     let statement = parallel(Statement::Nil, Statement::Nil);
-    let root = derive(&sizes, &statement, r, false);
+    let mut root = derive(&sizes, &statement, r, false);
+    for side in &mut root.children {
+        side.tables.q = Relation::of_rows([StateSet::first(64); 64]);
+    }
+    assert_eq!(asking(&root), asked);
     pair(&sizes, statement, root)
 }
 
+/// From how many states of P both sides' Q lead outside Q.
+fn asking(root: &Derivation) -> usize {
+    let both = root.children[0].tables.q.meet(&root.children[1].tables.q);
+    let outside = |s: &usize| !both.row(*s).lies_in(root.tables.q.row(*s));
+    root.tables.p.members().filter(outside).count()
+}
+
+/// 0 leads to 1, 1 to 2, and so on up to 63.
 fn chain() -> Relation {
     Relation::of_rows((0..63).map(|s| StateSet::NONE.with(s + 1)))
+}
+
+/// The states below 63 in a ring. From each of them 62 rounds add a state and the next one adds
+/// none: more rounds than that no reach needs which 66 asks for.
+fn ring() -> Relation {
+    Relation::of_rows((0..63).map(|s| StateSet::NONE.with((s + 1) % 63)))
 }
 
 /// Stores of c + d − d + d − d and so on in c, and the like in d: no value changes.
