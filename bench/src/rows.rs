@@ -164,8 +164,8 @@ fn chain() -> Relation {
     Relation::of_rows((0..63).map(|s| StateSet::NONE.with(s + 1)))
 }
 
-/// The states below 63 in a ring. From each of them 62 rounds add a state and the next one adds
-/// none: more rounds than that no reach needs which 66 asks for.
+/// The states below 63 in a ring. From each of them 62 rounds add a state, and the next one adds
+/// none. In an accepted pair, no reach that 66 asks for takes more rounds.
 fn ring() -> Relation {
     Relation::of_rows((0..63).map(|s| StateSet::NONE.with((s + 1) % 63)))
 }
