@@ -138,9 +138,9 @@ fn large() -> Pair {
     pair(&sizes, statement, root)
 }
 
-/// Two sides that do nothing beside others that do this. Each side's Q has all pairs and the
-/// parallel's Q those that are reached alone, so that 66 asks for the reach from each state that
-/// does not reach all others: from so many.
+/// Two sides that do nothing beside others that do this. Each side's Q has all pairs, and the
+/// parallel's Q only those that are reached. So 66 asks for the reach from each state that does
+/// not reach all others; `asked` is how many these are.
 fn reached(r: &Relation, asked: usize) -> Pair {
     let sizes = [8, 8];
     let statement = parallel(Statement::Nil, Statement::Nil);

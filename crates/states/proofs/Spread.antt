@@ -1,5 +1,5 @@
--- A loop that follows in each round the states which the round before added: once a round adds none, it has reached the whole closure, and
--- nothing else.
+-- A loop whose rounds add the ends of the pairs that start in a state which the round before added: once a round adds none, it has
+-- reached the whole closure and nothing else.
 use Prim.Native.Nat.{ℕ, _<_}
 use mathlib.Core.Path.{_≡_, sym, ap, _∙_}
 use mathlib.Core.Logic.{_⊎_, ⊎-elim, inl, inr, _↔_}
@@ -26,14 +26,14 @@ spread-none from r earlier none =
     out s e = true≢false (sym e ∙ none s)
 
 module _ (n : ℕ) (r : ℕ → ℕ → Bool) (between : Between n r) (from earlier reached : ℕ → Bool) (old : Spread from r earlier reached) where
-  -- Where the last round added no state.
+  -- If the last round added no state, the closure is reached.
   pub spread-all : ((s : ℕ) → reached s ≡ true → earlier s ≡ true) → (t : ℕ) → (reached t ≡ true) ↔ Reached from r t
   spread-all none t = (old .sound t, final-all n r between from reached (old .starts) final t)
     where
       final : Final n r reached
       final u h = ⊎-elim (λ e. e) (λ w. old .next (w .0) u (none (w .0) (w .1)) (w .2)) (round-cases n r between reached u h)
 
-  -- One round more.
+  -- One round more: the pairs that start in a state added last have their ends in what is joined.
   pub spread-more : (added ends joined : ℕ → Bool) → ((s : ℕ) → added s ≡ (reached s && not (earlier s)))
       → ((t : ℕ) → ends t ≡ any n (λ s. added s && r s t)) → ((t : ℕ) → joined t ≡ (reached t || ends t)) → Spread from r reached joined
   spread-more added ends joined added-are ends-are joined-are = record {
@@ -54,7 +54,7 @@ module _ (n : ℕ) (r : ℕ → ℕ → Bool) (between : Between n r) (from earl
           let new = added-are s ∙ and-both _ _ e (ap not h) in
           or-right (reached t) _ (ends-are t ∙ any-intro n _ s (between s t st .0) (and-both _ _ new st))
 
-  -- The measure of the loop: how many states were not reached before the last round.
+  -- The measure of the loop is how many states were not reached before the last round.
   pub spread-less : (k : ℕ) → all k (λ s. implies (reached s) (earlier s)) ≡ false → count k (λ s. not (reached s)) < count k (λ s. not (earlier s))
   spread-less k some =
       let one = all-false k _ some in

@@ -5,12 +5,12 @@ use generate::derivation::Derivation;
 use generate::programs::parallel;
 use reference::handler_file::MOST_STATES;
 
-/// The states of the path, each of the 64 once, neither upwards nor downwards.
+/// The states of the path: each of the 64 once, in no particular order.
 fn state(place: usize) -> usize {
     (27 * place + 5) % MOST_STATES
 }
 
-/// Two sides that go along the path by turns, as far as this place, with Q of these pairs.
+/// Two sides that take the pairs of the path by turns, as far as this place, and Q of these pairs.
 fn along(last: usize, q: &[(usize, usize)]) -> Derivation {
     let turns = |first| (first..last).step_by(2).map(|place| (state(place), state(place + 1)));
     let [left, right] = [0, 1].map(|first| pairs(&turns(first).collect::<Vec<_>>()));
@@ -18,15 +18,15 @@ fn along(last: usize, q: &[(usize, usize)]) -> Derivation {
     side_by_side(&all, left, right, pairs(q))
 }
 
-/// The pairs of states of which the first leads to the second, the path's first and last at the
-/// end.
+/// The pairs of states of which the first leads to the second. The pair of the path's first and
+/// last state is the last one.
 fn reached(last: usize) -> Vec<(usize, usize)> {
     let still = (last + 1..MOST_STATES).map(|place| (place, place));
     let onward = (0..=last).rev().flat_map(|from| (from..=last).map(move |to| (from, to)));
     still.chain(onward).map(|(from, to)| (state(from), state(to))).collect()
 }
 
-/// Exactly what is reached is enough, and its last state is missed where Q does not have it.
+/// Exactly what is reached is enough for Q; without the path's last state it is refused.
 #[test]
 fn of_every_length() {
     for last in 1..MOST_STATES {
