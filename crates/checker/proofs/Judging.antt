@@ -10,7 +10,7 @@ use lib.Dec.{ltb}
 use borrow.Author.Tests.{lt-ltb, le-ltb}
 use Rattle.semantics.specs.States.{product}
 use Rattle.semantics.specs.StepNumber.{steps}
-use Rattle.semantics.specs.Derivations.{Derivation, nodes}
+use Rattle.semantics.specs.Derivations.{Derivation, nodes, levels}
 use Rattle.semantics.specs.Checking.{Broken, firstFault}
 use Rattle.handler.specs.declared.head.Head.{Head}
 use Rattle.handler.specs.Header.{headOf}
@@ -78,7 +78,7 @@ pub proof-is : (r : Proofs.ProofRead) (file : ProofFile) (x : ProofHead) → fil
 proof-is (Proofs.refused k place) file x is found =
     absurd (let f = sym (ap (λ y. y .found) is) ∙ found in let z : _≡_ {A = ℕ} 0 1 = cc in omega arith)
 proof-is (Proofs.proof sets relations root d) file x is found =
-    let same : _≡_ {A = ProofHead} (record { sets = sets; relations = relations; nodes = nodes d; root = root }) x =
+    let same : _≡_ {A = ProofHead} (record { sets = sets; relations = relations; nodes = nodes d; levels = levels d; root = root }) x =
     proof-inj _ _ (sym (ap (λ y. y .found) is) ∙ found) in
     rw (← same) (record { d = d; read = refl; counted = refl; table = ap (λ y. y .nodes) is })
 

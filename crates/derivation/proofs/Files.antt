@@ -13,7 +13,7 @@ use Rattle.bits.specs.declared.Field.the-variants.{Value, Missing}
 use Rattle.bits.specs.declared.Fill.{Fill}
 use Rattle.bits.specs.declared.Fill.the-variants.{Ends, Wrong}
 use Rattle.states.specs.Sets.{capacity}
-use Rattle.semantics.specs.Derivations.{Derivation, nodes}
+use Rattle.semantics.specs.Derivations.{Derivation, nodes, levels}
 use Rattle.derivation.specs.declared.TablesHead.{TablesHead}
 use Rattle.derivation.specs.declared.TablesEnd.{TablesEnd}
 use Rattle.derivation.specs.declared.TablesEnd.the-variants.{Counts, Fault}
@@ -116,11 +116,12 @@ module _ (bytes : List ℕ) (n : ℕ) where
       → Stages (record { sets = sets; relations = relations; root = at }) d
   stages sets relations at d e = rw e at file-stages
 
-  -- What is known of such a file: its counts, and that its nodes name tables that there are.
+  -- What is known of such a file: its counts and levels, and that its nodes name tables that there are.
   pub record Shown (sets relations : ℕ) (d : Derivation) : Type 0 where
     pub sets-most : sets ≤ mostTables
     pub relations-most : relations ≤ mostTables
     pub nodes-most : nodes d ≤ 127
+    pub levels-most : levels d ≤ 24
     pub known : Known sets relations d
 
   pub read-known : (sets relations at : ℕ) (d : Derivation) → readProof bytes n ≡ proof sets relations at d → Shown sets relations d
@@ -129,7 +130,13 @@ module _ (bytes : List ℕ) (n : ℕ) where
       let s = stages sets relations at d e in
       let r = read bytes sets relations 25 0 at d (s .count) (s .next) (s .nodes-read) in
       let c = counted _ (s .tables) in
-      record { sets-most = c .sets-most; relations-most = c .relations-most; nodes-most = omega (arith, r .counted, r .room); known = r .known }
+      record {
+        sets-most = c .sets-most;
+        relations-most = c .relations-most;
+        nodes-most = omega (arith, r .counted, r .room);
+        levels-most = omega (arith, r .height);
+        known = r .known;
+      }
 
   -- What reading into a table gives: the answer, and where there is a derivation the table has its words.
   module _ (table exit : List ℕ) where
@@ -154,9 +161,9 @@ module _ (bytes : List ℕ) (n : ℕ) where
       unfolding readProof
       no-nodes k place e = refused-done k place (rw (tables, ended-faulty _ k place e))
 
-      module _ (count next : ℕ) (nodes-end : endOf root-read ≡ End.Ends count next) where
-        d-read : (d : Derivation) × (root-read ≡ whole d count next)
-        d-read = ended-whole root-read count next nodes-end
+      module _ (count height next : ℕ) (nodes-end : endOf root-read ≡ End.Ends count height next) where
+        d-read : (d : Derivation) × (root-read ≡ whole d count next) × (levels d ≡ height)
+        d-read = ended-whole root-read count height next nodes-end
 
         pub wrong-fill : (place : ℕ) → fillAt bytes next ≡ Wrong place → FileDone (Found.Fault 25 place)
         unfolding readProof
@@ -164,13 +171,14 @@ module _ (bytes : List ℕ) (n : ℕ) where
 
         pub whole-file : fillAt bytes next ≡ Ends
             → ((d : Derivation) (after next : ℕ) → root-read ≡ whole d after next → exit ≡ stored table 0 (nodeWords 0 (x .root) d))
-            → FileDone (Found.Proof (record { sets = x .sets; relations = x .relations; nodes = count; root = x .root }))
+            → FileDone (Found.Proof (record { sets = x .sets; relations = x .relations; nodes = count; levels = height; root = x .root }))
         unfolding readProof wholeNode
         whole-file e filled =
             let is : readProof bytes n ≡ proof (x .sets) (x .relations) (x .root) (d-read .0) = rw (tables, d-read .1, e) in
             let shows = read bytes (x .sets) (x .relations) 25 0 (x .root) (d-read .0) count next (d-read .1) in
             let counts : count ≡ nodes (d-read .0) = omega (arith, shows .counted) in (
-              ap (λ (k : ℕ). Found.Proof (record { sets = x .sets; relations = x .relations; nodes = k; root = x .root })) counts ∙ sym (ap proofFound is),
+              (λ i. Found.Proof (record { sets = x .sets; relations = x .relations; nodes = counts i; levels = sym (d-read .2) i; root = x .root }))
+                  ∙ sym (ap proofFound is),
               λ sets relations at d p.
                   let same-at : x .root ≡ at = cc in
                   let same-d : d-read .0 ≡ d = cc in
@@ -197,12 +205,16 @@ module _ (bytes : List ℕ) (n : ℕ) where
             λ i. record { found = f i; nodes = table i }
         by (refused k place) is f = absurd (let z : _≡_ {A = ℕ} 0 1 = cc in omega arith)
 
--- The code's answer tells whether the file was read without fault, how many nodes it has, and what its words are.
+-- The code's answer tells whether the file was read without fault, how many nodes and levels it has, and what its words are.
 pub answered : (r : ProofRead) (x : ProofHead) → proofFound r ≡ Found.Proof x
-    → (d : Derivation) × (r ≡ proof (x .sets) (x .relations) (x .root) d) × (x .nodes ≡ nodes d)
+    → (d : Derivation) × (r ≡ proof (x .sets) (x .relations) (x .root) d) × (x .nodes ≡ nodes d) × (x .levels ≡ levels d)
 answered (proof sets relations at d) x e =
-    let same : record { sets = sets; relations = relations; nodes = nodes d; root = at } ≡ x = cc in
-    (d, (λ i. proof (same i .sets) (same i .relations) (same i .root) d), sym (ap (λ h. h .nodes) same))
+    let same : record { sets = sets; relations = relations; nodes = nodes d; levels = levels d; root = at } ≡ x = cc in (
+      d,
+      (λ i. proof (same i .sets) (same i .relations) (same i .root) d),
+      sym (ap (λ h. h .nodes) same),
+      sym (ap (λ h. h .levels) same),
+    )
 answered (refused k place) x e = absurd (let z : _≡_ {A = ℕ} 0 1 = cc in omega arith)
 
 pub no-words : (bytes : List ℕ) (n : ℕ) (r : ProofRead) (k place : ℕ) → proofFound r ≡ Found.Fault k place → (j : ℕ) → loadedWord bytes n r j ≡ 0

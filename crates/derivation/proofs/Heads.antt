@@ -143,16 +143,17 @@ module _ (bytes : List ℕ) (sets relations at : ℕ) where
   pub node-within : (below before : ℕ) (x : NodeHead) → nodeHead bytes sets relations below before at ≡ Head x → HeadWithin sets relations at x
   node-within below before x e = rw e at (head-within below before)
 
-  -- A node that is read without fault has fewer than 127 before it.
-  pub head-few : (below before : ℕ) (x : NodeHead) → nodeHead bytes sets relations below before at ≡ Head x → before < 127
+  -- A node that is read without fault has a level left below it and fewer than 127 nodes before it.
+  pub head-room : (below before : ℕ) (x : NodeHead) → nodeHead bytes sets relations below before at ≡ Head x → (1 ≤ below) × (before < 127)
   unfolding nodeHead ruleHead
-  head-few below before x = by (eqb below 0) (leb 127 before) refl (fieldAt bytes at 3)
+  head-room below before x = by (eqb below 0) refl (leb 127 before) refl (fieldAt bytes at 3)
     where
       many : (f : Field) → ruleHead bytes sets relations true at f ≡ Head x → ⊥
       many (Value rule next) e = let z : _≡_ {A = ℕ} 0 1 = cc in omega arith
       many Missing e = let z : _≡_ {A = ℕ} 0 1 = cc in omega arith
 
-      by : (b m : Bool) → leb 127 before ≡ m → (f : Field) → ruleHead bytes sets relations (b || m) at f ≡ Head x → before < 127
-      by true m l f e = absurd (many f e)
-      by false true l f e = absurd (many f e)
-      by false false l f e = leb-false 127 before l
+      by : (b : Bool) → eqb below 0 ≡ b → (m : Bool) → leb 127 before ≡ m → (f : Field) → ruleHead bytes sets relations (b || m) at f ≡ Head x
+          → (1 ≤ below) × (before < 127)
+      by true z m l f e = absurd (many f e)
+      by false z true l f e = absurd (many f e)
+      by false z false l f e = let some = eqb-false below 0 z in (omega arith, leb-false 127 before l)

@@ -15,12 +15,13 @@ use Rattle.semantics.specs.declared.Names.{Names}
 use Rattle.semantics.specs.Derivations.{Derivation}
 use Rattle.derivation.specs.declared.HeadFound.{HeadFound}
 use Rattle.derivation.specs.declared.HeadFound.the-variants.{Head, Fault}
+use Rattle.derivation.specs.declared.TablesHead.{TablesHead}
 use Rattle.derivation.specs.declared.TablesEnd.{TablesEnd}
 use Rattle.derivation.specs.declared.TablesEnd.the-variants as Tables
 use Rattle.derivation.specs.Tables.{tablesThere, isCount, relationsRead, setsRead, tablesAt}
 use Rattle.derivation.specs.Nodes.{onName, namedTable, loopHead, namesHead, ruleHead, nodeHead, NodeRead, whole, fault, overTwo, overOne, onChild, onLeftNode, onNodeHead, nodeAt, wholeNode}
 use Rattle.derivation.specs.Reading.{ProofRead, proof, refused, onProofFill, onNodes, onTables, readProof}
-use Rattle.derivation.proofs.Files.{counted}
+use Rattle.derivation.proofs.Files.{counted, Stages}
 
 module _ (bytes : List ℕ) where
   abbrev end : ℕ
@@ -136,6 +137,12 @@ module _ (bytes : List ℕ) where
     file-in : FileIn (readProof bytes n)
     unfolding readProof
     file-in = on-tables (tablesAt bytes n) refl tables-in
+
+    -- The derivation of a file without fault ends within the file.
+    pub end-inside : (x : TablesHead) (d : Derivation) (s : Stages bytes n x d) → s .next ≤ 8 * length bytes
+    unfolding wholeNode
+    end-inside x d s =
+        rw (s .nodes-read) at (node-in (x .sets) (x .relations) 25 0 (x .root) (counted bytes n x (s .tables) .inside))
 
     pub fault-inside : (k place : ℕ) → readProof bytes n ≡ refused k place → FaultIn bytes 20 25 k place
     fault-inside k place e = rw e at file-in

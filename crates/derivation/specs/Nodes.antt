@@ -8,7 +8,7 @@ use Rattle.bits.specs.Fields.{bitLength, fieldAt}
 use Rattle.bits.specs.declared.Field.{Field}
 use Rattle.bits.specs.declared.Field.the-variants.{Value, Missing}
 use Rattle.semantics.specs.declared.Names.{Names}
-use Rattle.semantics.specs.Derivations.{Derivation, skip, assignment, sequence, parallel, conditional, iteration, weaken}
+use Rattle.semantics.specs.Derivations.{Derivation, skip, assignment, sequence, parallel, conditional, iteration, weaken, levels}
 use Rattle.derivation.specs.declared.NodeHead.{NodeHead}
 use Rattle.derivation.specs.declared.HeadFound.{HeadFound}
 use Rattle.derivation.specs.declared.HeadFound.the-variants.{Head, Fault}
@@ -85,13 +85,13 @@ onNodeHead (Head x) before node =
 -- The derivation at a bit; the levels to go are one more than the 24 that can be there, so their end is never met.
 unfoldable pub nodeAt : ℕ → List ℕ → ℕ → ℕ → ℕ → ℕ → NodeRead
 nodeAt zero bytes sets relations before at = fault 24 at
-nodeAt (suc levels) bytes sets relations before at =
-    onNodeHead (nodeHead bytes sets relations levels before at) before (nodeAt levels bytes sets relations)
+nodeAt (suc below) bytes sets relations before at =
+    onNodeHead (nodeHead bytes sets relations below before at) before (nodeAt below bytes sets relations)
 
 unfoldable pub wholeNode : List ℕ → ℕ → ℕ → ℕ → NodeRead
 wholeNode bytes sets relations at = nodeAt 25 bytes sets relations 0 at
 
 -- What the code answers of a derivation.
 unfoldable pub endOf : NodeRead → NodeEnd
-endOf (whole d before next) = End.Ends before next
+endOf (whole d before next) = End.Ends before (levels d) next
 endOf (fault k place) = End.Fault k place

@@ -5,7 +5,7 @@ use lib.ListN.{replicate}
 use Rattle.bits.specs.Fields.{fillAt}
 use Rattle.bits.specs.declared.Fill.{Fill}
 use Rattle.bits.specs.declared.Fill.the-variants.{Ends, Wrong}
-use Rattle.semantics.specs.Derivations.{Derivation, nodes}
+use Rattle.semantics.specs.Derivations.{Derivation, nodes, levels}
 use Rattle.derivation.specs.declared.TablesEnd.{TablesEnd}
 use Rattle.derivation.specs.declared.TablesEnd.the-variants.{Counts, Fault}
 use Rattle.derivation.specs.declared.ProofFound.{ProofFound}
@@ -39,7 +39,7 @@ readProof bytes n = onTables bytes (tablesAt bytes n)
 
 -- What the code answers of a proof file.
 abbrev pub proofFound : ProofRead → ProofFound
-proofFound (proof sets relations at d) = Found.Proof (record { sets = sets; relations = relations; nodes = nodes d; root = at })
+proofFound (proof sets relations at d) = Found.Proof (record { sets = sets; relations = relations; nodes = nodes d; levels = levels d; root = at })
 proofFound (refused k place) = Found.Fault k place
 
 -- The table of its nodes, or 0 after a fault.

@@ -76,9 +76,10 @@ enum TwoNames {
     Fault(u32, usize),
 }
 
-// Where the derivation at a node ends: how many nodes the file has so far, and the bit after it; or the first fault.
+// Where the derivation at a node ends: how many nodes the file has so far, how many levels the derivation has, and the bit after
+// it; or the first fault.
 enum NodeEnd {
-    Ends(u32, usize),
+    Ends(u32, u32, usize),
     Fault(u32, usize),
 }
 
@@ -93,11 +94,12 @@ pub struct Node {
     pub bit: usize,
 }
 
-// What a proof file without fault holds: how many sets, relations and nodes, and the bit at which the root node begins.
+// What a proof file without fault holds: how many sets, relations, nodes and levels, and the bit at which the root node begins.
 pub struct ProofHead {
     pub sets: u32,
     pub relations: u32,
     pub nodes: u32,
+    pub levels: u32,
     pub root: usize,
 }
 

@@ -27,7 +27,7 @@ ghost use Rattle.semantics.specs.Derivations.{Derivation};
 ghost use Rattle.derivation.specs.Tables.{mostTables};
 ghost use Rattle.derivation.specs.Nodes.{namedTable, onPair, loopHead, namesHead, nodeHead, whole, nodeAt, wholeNode, endOf};
 ghost use Rattle.derivation.specs.NodeTable.{nodeWord, nodeWords};
-ghost use Rattle.derivation.specs.Storing.{Fits, recordOf};
+ghost use Rattle.derivation.specs.Storing.{Fits, recordOf, LevelFits, aboveBoth};
 
 // The code that is no rule.
 const NO_RULE: u64 = 7;
@@ -191,6 +191,22 @@ fn store_node(table: &mut [u64; MOST_NODES], i: u32, head: NodeHead, after: u32,
     });
 }
 
+// Where a node above two children ends, by how many levels the first has and where the second ends.
+fn above_both(left: u32, second: NodeEnd) -> NodeEnd
+    requires { ⌜ LevelFits left second ⌝ }
+    ensures { λ r. ⌜ r ≡ aboveBoth left second ⌝ }
+{
+    match second {
+        NodeEnd::Fault(fault, place) => NodeEnd::Fault(fault, place),
+        NodeEnd::Ends(nodes, right, next) => {
+            if left < right {
+                return NodeEnd::Ends(nodes, right + 1, next);
+            }
+            NodeEnd::Ends(nodes, left + 1, next)
+        }
+    }
+}
+
 // Where the derivation at a node ends, that of its children first; its nodes go into the table, each as soon as it is known
 // where its first child ends.
 fn node_walk(
@@ -219,16 +235,17 @@ fn node_walk(
             let first = before + 1;
             if has_no_child(rule) {
                 store_node(table, before, head, first, at);
-                return NodeEnd::Ends(first, next);
+                return NodeEnd::Ends(first, 1, next);
             }
             match node_walk(src, sets, relations, below, first, next, table) {
                 NodeEnd::Fault(fault, place) => NodeEnd::Fault(fault, place),
-                NodeEnd::Ends(after, end) => {
+                NodeEnd::Ends(after, height, end) => {
                     store_node(table, before, head, after, at);
                     if has_two_children(rule) {
-                        return node_walk(src, sets, relations, below, after, end, table);
+                        let second = node_walk(src, sets, relations, below, after, end, table);
+                        return above_both(height, second);
                     }
-                    NodeEnd::Ends(after, end)
+                    NodeEnd::Ends(after, height + 1, end)
                 }
             }
         }

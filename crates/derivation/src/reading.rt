@@ -32,12 +32,13 @@ fn read_into(src: &[u8], n: u32, table: &mut [u64; MOST_NODES]) -> ProofFound
             let root = head.root;
             match nodes::read_nodes(src, sets, relations, root, table) {
                 NodeEnd::Fault(fault, place) => ProofFound::Fault(fault, place),
-                NodeEnd::Ends(nodes, next) => match bits::read_fill(src, next) {
+                NodeEnd::Ends(nodes, levels, next) => match bits::read_fill(src, next) {
                     Fill::Wrong(place) => ProofFound::Fault(PROOF_FILL, place),
                     Fill::Ends => ProofFound::Proof(ProofHead {
                         sets,
                         relations,
                         nodes,
+                        levels,
                         root,
                     }),
                 },

@@ -1,5 +1,5 @@
 -- docs/RULES.md, "Derivations": derivations as trees, and the tables that their nodes name.
-use Prim.Native.Nat.{ℕ, suc, _+_}
+use Prim.Native.Nat.{ℕ, suc, _+_, max}
 use mathlib.Core.Bool.{Bool, _&&_}
 use lib.Dec.{ltb}
 use Rattle.semantics.specs.declared.Names.{Names}
@@ -31,6 +31,16 @@ nodes (parallel h l r) = suc (nodes l + nodes r)
 nodes (conditional h d) = suc (nodes d)
 nodes (iteration h k w d) = suc (nodes d)
 nodes (weaken h d) = suc (nodes d)
+
+-- How many levels a derivation has: one for a node without child nodes; any other node is one level above its children.
+abbrev pub levels : Derivation → ℕ
+levels (skip h) = 1
+levels (assignment h) = 1
+levels (sequence h l r) = suc (max (levels l) (levels r))
+levels (parallel h l r) = suc (max (levels l) (levels r))
+levels (conditional h d) = suc (levels d)
+levels (iteration h k w d) = suc (levels d)
+levels (weaken h d) = suc (levels d)
 
 -- The sets and relations by number, over the states of a machine.
 pub record Tables : Type 0 where

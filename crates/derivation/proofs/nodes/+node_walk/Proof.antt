@@ -10,12 +10,13 @@ use borrow.Fn.PlainCycle.{Measures, is, falls, and}
 use Rattle.derivation.specs.declared.NodeHead.{NodeHead}
 use Rattle.derivation.specs.declared.HeadFound.the-variants as Found
 use Rattle.derivation.specs.Nodes.{nodeHead}
-use Rattle.derivation.proofs.Heads.{HeadWithin, next-near, node-within, head-few}
+use Rattle.derivation.proofs.Heads.{HeadWithin, next-near, node-within, head-room}
 use Rattle.derivation.proofs.NodeTable.{head-fits}
-use Rattle.derivation.proofs.Filling.{no-level, no-head, leaf-done, first-faulty, after-few, end-near, one-done, two-done}
+use Rattle.derivation.proofs.Filling.{no-level, no-head, leaf-done, first-faulty, after-few, levels-few, end-near, level-fits, one-done, two-done}
 use Rattle.derivation.proofs.nodes.node_walk.Reads as node-walk
 use Rattle.derivation.proofs.nodes.node_walk.Kinds as node-walk-kinds
 use Rattle.derivation.proofs.nodes.+node_walk.Lts-node_walk as lts
+use Rattle.derivation.proofs.nodes.above_both.Reads as above
 use Rattle.derivation.proofs.nodes.has_no_child.Reads as no-child
 use Rattle.derivation.proofs.nodes.has_two_children.Reads as two-children
 use Rattle.derivation.proofs.nodes.node_head_at.Reads as head
@@ -33,7 +34,7 @@ abbrev below : ℕ → In 2 node-walk-kinds.ps
 below t = and 2 node-walk-kinds.ps (falls 2 node-walk-kinds.ps _<_ μ-node-walk t) node-walk.Pre
 
 abbrev callees : ℕ → lts.Claims
-callees t = (head.Asked, head.Learnt, no-child.Asked, no-child.Learnt, store.Asked, store.Learnt, below t, node-walk.Post, two-children.Asked, two-children.Learnt)
+callees t = (head.Asked, head.Learnt, no-child.Asked, no-child.Learnt, store.Asked, store.Learnt, below t, node-walk.Post, two-children.Asked, two-children.Learnt, above.Asked, above.Learnt)
 
 module _ (t : ℕ) where
   -- Where the head was read, and where the first child was walked.
@@ -56,7 +57,7 @@ module _ (t : ℕ) where
   is-head c = sym (c .before .before .before .node-head-at .ensures) ∙ c .before .head .given .1
 
   few : (c : Seen) → start c .args .before < 127
-  few c = head-few _ _ _ _ _ _ _ (is-head c)
+  few c = head-room _ _ _ _ _ _ _ (is-head c) .1
 
   within : (c : Seen) → let a = start c .args in HeadWithin (a .sets) (a .relations) (a .at) (x c)
   within c = node-within _ _ _ _ _ _ _ (is-head c)
@@ -94,7 +95,7 @@ module _ (t : ℕ) where
   few-after c =
       let w = c .before .before in
       let s = seen w in
-      after-few _ _ _ _ _ _ (some s) _ (x s) (is-head s) _ _ (w .node-walk .ensures) (past w) _ _ (c .after .given .1)
+      after-few _ _ _ _ _ _ (some s) _ (x s) (is-head s) _ _ (w .node-walk .ensures) (past w) _ _ _ (c .after .given .1)
 
   store-requires-2 : lts.Need-store-node-requires-2 (callees t) (given t) node-walk.Post
   store-requires-2 c κs =
@@ -107,18 +108,39 @@ module _ (t : ℕ) where
       let ends = c .before .before .before .before .before .before in
       let w = ends .before .before in
       let s = seen w in
-      let near = end-near _ _ _ _ _ _ (some s) _ (x s) (is-head s) _ _ (w .node-walk .ensures) (past w) _ _ (ends .after .given .1) (2 ^ 20) (start s .pre .1 .2) in
+      let near = end-near _ _ _ _ _ _ (some s) _ (x s) (is-head s) _ _ (w .node-walk .ensures) (past w) _ _ _ (ends .after .given .1) (2 ^ 20) (start s .pre .1 .2) in
       omega (arith, some s, start s .pre, near)
+
+  above-requires : lts.Need-above-both-requires (callees t) (given t) node-walk.Post
+  above-requires c κs =
+      let ends = c .before .before .before .before .before .before .before in
+      let w = ends .before .before in
+      let s = seen w in
+      level-fits _ _ _ _ _ _ (some s) _ (x s) (is-head s) _ _ (w .node-walk .ensures) (past w) _ _ _ (ends .after .given .1) (start s .fits .levels .fits) _ _ _
+      (c .node-walk2 .ensures)
 
   returns-3 : lts.Need-returns-3 (callees t) (given t) node-walk.Post
   returns-3 c =
-      let asked = c .before .before .before in
+      let second = c .before in
+      let asked = second .before .before .before in
       let own = asked .before in
       let ends = own .before .before .before in
       let w = ends .before .before in
       let s = seen w in
-      two-done _ _ _ _ _ _ (some s) _ (x s) (is-head s) _ _ (w .node-walk .ensures) (past w) _ _ (ends .after .given .1)
-      (ltb-true _ 4 (sym (asked .has-two-children .ensures) ∙ c .before .before .if3 .taken)) _ (own .store-node2 .ensures) _ _ (c .node-walk2 .ensures)
+      two-done _ _ _ _ _ _ (some s) _ (x s) (is-head s) _ _ (w .node-walk .ensures) (past w) _ _ _ (ends .after .given .1)
+      (ltb-true _ 4 (sym (asked .has-two-children .ensures) ∙ second .before .before .if3 .taken)) _ (own .store-node2 .ensures) _ _ (second .node-walk2 .ensures)
+      _ (c .above-both .ensures)
+
+  add-level : lts.Need-add-t34 (callees t) (given t) node-walk.Post
+  add-level c =
+      let ends = c .before .before .before .before .before in
+      let w = ends .before .before in
+      let s = seen w in
+      omega (
+        arith,
+        start s .fits .levels,
+        levels-few _ _ _ _ _ _ (some s) _ (x s) (is-head s) _ _ (w .node-walk .ensures) (past w) _ _ _ (ends .after .given .1),
+      )
 
   returns-5 : lts.Need-returns-5 (callees t) (given t) node-walk.Post
   returns-5 c =
@@ -132,7 +154,7 @@ module _ (t : ℕ) where
       let ends = own .before .before .before in
       let w = ends .before .before in
       let s = seen w in
-      one-done _ _ _ _ _ _ (some s) _ (x s) (is-head s) _ _ (w .node-walk .ensures) (past w) _ _ (ends .after .given .1)
+      one-done _ _ _ _ _ _ (some s) _ (x s) (is-head s) _ _ (w .node-walk .ensures) (past w) _ _ _ (ends .after .given .1)
       (ltb-false _ 4 (sym (c .before .has-two-children .ensures) ∙ c .if3 .left)) _ (own .store-node2 .ensures)
 
   returns-4 : lts.Need-returns-4 (callees t) (given t) node-walk.Post
@@ -155,7 +177,9 @@ pub +node-walk-spec : {M : Type 1} → statement M
     (store-requires-2 t)
     (λ c κs. search needs)
     (walk-requires-2 t)
+    (above-requires t)
     (returns-3 t)
+    (add-level t)
     (returns-4 t)
     (returns-5 t)
     (returns-6 t)

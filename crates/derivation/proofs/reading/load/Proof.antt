@@ -2,7 +2,7 @@
 use mathlib.Core.Path.{_≡_, sym, _∙_, ap}
 use native.Mathlib.Omega.{arith}
 use borrow.Author.Needs.{needs}
-use Rattle.semantics.specs.Derivations.{Derivation, nodes}
+use Rattle.semantics.specs.Derivations.{Derivation, nodes, levels}
 use Rattle.derivation.specs.Reading.{proof, readProof}
 use Rattle.derivation.proofs.Buffers.{written-same}
 use Rattle.derivation.proofs.Files.{counted, stages, answered, no-words}
@@ -13,7 +13,7 @@ use Rattle.derivation.proofs.reading.load.Tie as tie
 read : (c : tie.After-found) →
     let a = c .before .before .before .before .before .args in
     let x = c .found .given .0 .0 in
-    (d : Derivation) × (readProof (a .src .now) (a .n) ≡ proof (x .sets) (x .relations) (x .root) d) × (x .nodes ≡ nodes d)
+    (d : Derivation) × (readProof (a .src .now) (a .n) ≡ proof (x .sets) (x .relations) (x .root) d) × (x .nodes ≡ nodes d) × (x .levels ≡ levels d)
 read c = answered _ _ (sym (ap (λ f. f .found) (c .before .before .read-proof .ensures)) ∙ c .found .given .1)
 
 fill-requires : tie.Need-fill-requires

@@ -32,14 +32,14 @@ returns-3 : tie.Need-returns-3
 returns-3 c =
     let ends = c .before .before .before .before .before in
     let read = ends .before .before in
-    wrong-fill _ _ _ _ _ (tables (read .before .before .before)) _ _ (sym (read .read-nodes .ensures .0) ∙ ends .nodes .given .1) _
+    wrong-fill _ _ _ _ _ (tables (read .before .before .before)) _ _ _ (sym (read .read-nodes .ensures .0) ∙ ends .nodes .given .1) _
     (sym (c .before .before .before .read-fill .ensures) ∙ c .before .place .given .1)
 
 returns-4 : tie.Need-returns-4
 returns-4 c =
     let ends = c .before .before .before .before in
     let read = ends .before .before in
-    whole-file _ _ _ _ _ (tables (read .before .before .before)) _ _ (sym (read .read-nodes .ensures .0) ∙ ends .nodes .given .1)
+    whole-file _ _ _ _ _ (tables (read .before .before .before)) _ _ _ (sym (read .read-nodes .ensures .0) ∙ ends .nodes .given .1)
     (sym (c .before .before .read-fill .ensures) ∙ c .enum-told .given .1) (read .read-nodes .ensures .1)
 
 pub read-into-spec : {M : Type 1} → statement M
