@@ -49,12 +49,12 @@ pub handlers :
     (readHandler (0x22 ∷ 0x20 ∷ 0x02 ∷ []) ≡ handler (2 ∷ []) 8 (assign 0 (lit (int (pos 1)))))
     × (readHandler (0x30 ∷ 0x00 ∷ []) ≡ handler (16 ∷ []) 8 nil)
     × (handlerFile (readHandler (0x22 ∷ 0x20 ∷ 0x02 ∷ [])) ≡ record {
-      found = Handler (record { at = 8; statements = 1; steps = 1 });
+      found = Handler (record { at = 8; end = 23; statements = 1; levels = 1; steps = 1 });
       head = record { count = 1; sizes = 2 ∷ 1 ∷ 1 ∷ 1 ∷ []; states = 2 };
       statements = (1 + 8 * (0 + 4 * (1 + 128 * 13))) ∷ replicate 62 0;
     })
-    × (handlerFile (readHandler many) .found ≡ Handler (record { at = 8; statements = 63; steps = 31 }))
-    × (handlerFile (readHandler loops) .found ≡ Handler (record { at = 13; statements = 16; steps = 2 ^ 32 }))
+    × (handlerFile (readHandler many) .found ≡ Handler (record { at = 8; end = 197; statements = 63; levels = 6; steps = 31 }))
+    × (handlerFile (readHandler loops) .found ≡ Handler (record { at = 13; end = 106; statements = 16; levels = 16; steps = 2 ^ 32 }))
     × (handlerFile (readHandler []) .head ≡ noHead)
 unfolding opened
 handlers = (refl, refl, refl, refl, refl, refl)

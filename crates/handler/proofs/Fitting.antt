@@ -1,4 +1,5 @@
--- The kinds of a handler that was read fit: if there is no kind error, every node is of the kind wanted of it.
+-- The kinds of a handler that was read fit: if there is no kind error, every node is of the kind wanted of it. Where a statement is does
+-- not matter.
 use Prim.Native.Nat.{ℕ, _+_}
 use mathlib.Core.Bool.{Bool, true, false, cond, _&&_}
 use mathlib.Core.Option.{Option, none, some}
@@ -52,3 +53,33 @@ stmt-fits at (if x b) e =
 stmt-fits at (while x b) e =
     let sides = each (kindError Truth (at + 3) x) (stmtKindError (at + 3 + width x) b) e in
     both _ _ (expr-fits Truth (at + 3) x (sides .0)) (stmt-fits (at + 3 + width x) b (sides .1))
+
+-- If there is no kind error at one place, there is none at another.
+none-anywhere : (x y x′ y′ : Option ℕ) → (x ≡ none → x′ ≡ none) → (y ≡ none → y′ ≡ none) → orPlace x y ≡ none → orPlace x′ y′ ≡ none
+none-anywhere x y x′ y′ p q e = let sides = each x y e in rw (p (sides .0), q (sides .1))
+
+expr-anywhere : (k : Kind) (at at′ : ℕ) (e : Expr) → kindError k at e ≡ none → kindError k at′ e ≡ none
+expr-anywhere k at at′ (lit v) e = rw (own (sameKind (kindOf v) k) none at e .0)
+expr-anywhere k at at′ (var v) e = rw (own (sameKind Integer k) none at e .0)
+expr-anywhere k at at′ (op o l r) e = by (rowOf o) e (λ a. expr-anywhere a (at + 5) (at′ + 5) l) (λ b. expr-anywhere b (at + 5 + width l) (at′ + 5 + width l) r)
+  where
+    by : (row : Row) → rowKindError row k at (λ a. kindError a (at + 5) l) (λ b. kindError b (at + 5 + width l) r) ≡ none
+        → ((a : Kind) → kindError a (at + 5) l ≡ none → kindError a (at′ + 5) l ≡ none)
+        → ((b : Kind) → kindError b (at + 5 + width l) r ≡ none → kindError b (at′ + 5 + width l) r ≡ none)
+        → rowKindError row k at′ (λ a. kindError a (at′ + 5) l) (λ b. kindError b (at′ + 5 + width l) r) ≡ none
+    by (Kinds a b c) e left right =
+        let node = own (sameKind c k) (orPlace (kindError a (at + 5) l) (kindError b (at + 5 + width l) r)) at e in
+        rw (node .0) (none-anywhere _ _ _ _ (left a) (right b) (node .1))
+    by Unused e left right = absurd (let z : _≡_ {A = ℕ} 0 1 = cc in omega arith)
+
+pub kinds-anywhere : (at at′ : ℕ) (S : Stmt) → stmtKindError at S ≡ none → stmtKindError at′ S ≡ none
+kinds-anywhere at at′ nil e = refl
+kinds-anywhere at at′ (assign v x) e = expr-anywhere Integer (at + 5) (at′ + 5) x e
+kinds-anywhere at at′ (seq l r) e =
+    none-anywhere _ _ _ _ (kinds-anywhere (at + 3) (at′ + 3) l) (kinds-anywhere (at + 3 + stmtWidth l) (at′ + 3 + stmtWidth l) r) e
+kinds-anywhere at at′ (par l r) e =
+    none-anywhere _ _ _ _ (kinds-anywhere (at + 3) (at′ + 3) l) (kinds-anywhere (at + 3 + stmtWidth l) (at′ + 3 + stmtWidth l) r) e
+kinds-anywhere at at′ (if x b) e =
+    none-anywhere _ _ _ _ (expr-anywhere Truth (at + 3) (at′ + 3) x) (kinds-anywhere (at + 3 + width x) (at′ + 3 + width x) b) e
+kinds-anywhere at at′ (while x b) e =
+    none-anywhere _ _ _ _ (expr-anywhere Truth (at + 3) (at′ + 3) x) (kinds-anywhere (at + 3 + width x) (at′ + 3 + width x) b) e

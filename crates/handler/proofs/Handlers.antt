@@ -1,5 +1,5 @@
 -- What a handler file that was read says of its head, its statement and its kinds.
-use Prim.Native.Nat.{ℕ, _^_, _≤_, _<_, min}
+use Prim.Native.Nat.{ℕ, _+_, _*_, _^_, _≤_, _<_, min}
 use mathlib.Core.List.{List}
 use mathlib.Core.Option.{Option, none, some}
 use mathlib.Core.Path.{_≡_, refl}
@@ -16,22 +16,27 @@ use Rattle.handler.specs.Header as head
 use Rattle.handler.specs.declared.HandlerSummary.{HandlerSummary}
 use Rattle.handler.specs.declared.HandlerFound.the-variants as found
 use Rattle.handler.specs.Statements.{StmtRead, whole, fault, wholeStmt}
-use Rattle.handler.specs.Kinds.{stmtKindError}
-use Rattle.handler.specs.StatementTable.{statements}
+use Rattle.handler.specs.Kinds.{stmtWidth, stmtKindError}
+use Rattle.handler.specs.StatementTable.{statements, stmtLevels}
 use Rattle.handler.specs.Reading.{HandlerRead, handler, refused, onKinds, onHandlerFill, onStmt, onHead, readHandler}
 use Rattle.handler.specs.Shapes.{handlerFile}
+use Rattle.handler.proofs.Heads.{head-read}
 use Rattle.handler.proofs.StmtFolds.{TargetsBelow, stmt-read}
+use Rattle.handler.proofs.Places.{statement-inside}
 use Rattle.handler.proofs.Parts.{Stands}
 
 -- What is known of a handler that was read.
 pub record KnownHandler (bytes sizes : List ℕ) (at : ℕ) (S : Stmt) : Type 0 where
   pub head : head.headAt bytes ≡ head.declared sizes at
+  pub starts : at ≡ 3 + 5 * length sizes
   pub stands : Stands bytes (length sizes) at S
+  pub inside : at + stmtWidth S ≤ 8 * length bytes
   pub fits : stmtKindError at S ≡ none
   pub few : statements S ≤ 63
+  pub high : stmtLevels S ≤ 16
   pub targets : TargetsBelow (length sizes) S
 
-module _ (bytes sizes : List ℕ) (at : ℕ) (S : Stmt) where
+module _ (bytes sizes : List ℕ) (at : ℕ) (S : Stmt) (read-all : readHandler bytes ≡ handler sizes at S) where
   by-kinds : (xs : List ℕ) (i : ℕ) (T : Stmt) (o : Option ℕ) → onKinds xs i T o ≡ handler sizes at S → (o ≡ none) × (handler xs i T ≡ handler sizes at S)
   by-kinds xs i T none e = (refl, e)
   by-kinds xs i T (some place) e = absurd (let z : _≡_ {A = ℕ} 0 1 = cc in omega arith)
@@ -50,13 +55,17 @@ module _ (bytes sizes : List ℕ) (at : ℕ) (S : Stmt) where
       let sizes-are : xs ≡ sizes = cc in
       let at-is : i ≡ at = cc in
       let S-is : T ≡ S = cc in
+      let here : head.headAt bytes ≡ head.declared sizes at = rw (sizes-are, at-is) at h in
       let read : wholeStmt bytes (length sizes) at ≡ whole S after next = rw (sizes-are, at-is, S-is) at w in
       let known = stmt-read 17 bytes (length sizes) 0 at S after next read in
       record {
-        head = rw (sizes-are, at-is) at h;
+        head = here;
+        starts = head-read bytes sizes at here .starts;
         stands = record { after = after; next = next; read = read };
+        inside = statement-inside bytes sizes at S read-all;
         fits = rw (at-is, S-is) at fit;
         few = omega arith;
+        high = omega arith;
         targets = known .targets;
       }
 
@@ -64,9 +73,9 @@ module _ (bytes sizes : List ℕ) (at : ℕ) (S : Stmt) where
   by-head (head.fault k place) h e = absurd (let z : _≡_ {A = ℕ} 0 1 = cc in omega arith)
   by-head (head.declared xs i) h e = by-stmt xs i (wholeStmt bytes (length xs) i) h refl e
 
-  pub known-handler : readHandler bytes ≡ handler sizes at S → KnownHandler bytes sizes at S
+  pub known-handler : KnownHandler bytes sizes at S
   unfolding readHandler
-  known-handler e = by-head (head.headAt bytes) refl e
+  known-handler = by-head (head.headAt bytes) refl read-all
 
 -- What is found in a file says what was read.
 pub found-refused : (r : HandlerRead) (k place : ℕ) → handlerFile r .found ≡ found.Fault k place → r ≡ refused k place
@@ -78,14 +87,18 @@ pub record FoundHandler (r : HandlerRead) (w : HandlerSummary) : Type 0 where
   pub sizes : List ℕ
   pub S : Stmt
   pub read : r ≡ handler sizes (w .at) S
+  pub ends : w .end ≡ w .at + stmtWidth S
   pub counted : w .statements ≡ statements S
+  pub high : w .levels ≡ stmtLevels S
   pub stepping : w .steps ≡ min (steps (product sizes) S) (2 ^ 32)
 
 pub found-handler : (r : HandlerRead) (w : HandlerSummary) → handlerFile r .found ≡ found.Handler w → FoundHandler r w
 unfolding handlerFile
 found-handler (handler sizes at S) w f =
-    let same : _≡_ {A = HandlerSummary} (record { at = at; statements = statements S; steps = min (steps (product sizes) S) (2 ^ 32) }) w = cc in
-    rw (← same) (record { sizes = sizes; S = S; read = refl; counted = refl; stepping = refl })
+    let here : HandlerSummary =
+    record { at = at; end = at + stmtWidth S; statements = statements S; levels = stmtLevels S; steps = min (steps (product sizes) S) (2 ^ 32) } in
+    let same : here ≡ w = cc in
+    rw (← same) (record { sizes = sizes; S = S; read = refl; ends = refl; counted = refl; high = refl; stepping = refl })
 found-handler (refused k place) w f = absurd (let z : _≡_ {A = ℕ} 0 1 = cc in omega arith)
 
 -- The target of an assignment is below 4; that of any other statement is 0.

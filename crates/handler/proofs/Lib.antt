@@ -10,4 +10,6 @@ pub mod Parts
 pub mod Handlers
 pub mod Places
 pub mod Fitting
+pub mod Moved
+pub mod StmtMoved
 pub mod Cases

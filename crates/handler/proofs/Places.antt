@@ -1,5 +1,6 @@
 -- Every fault of a handler file has a number from 10 to 18, and its place is in the file or at its end. Reading keeps its cursor within the
--- file, and names only its cursor, the file's length, a bit that is there or a part of what it has read.
+-- file, and names only its cursor, the file's length, a bit that is there or a part of what it has read. A statement that is read ends
+-- within the file.
 use Prim.Native.Nat.{ℕ, zero, suc, _+_, _*_, _≤_, _<_}
 use mathlib.Core.Bool.{true, _&&_, _||_}
 use mathlib.Core.List.{List}
@@ -244,11 +245,11 @@ module _ (bytes : List ℕ) where
 
   -- The whole file.
   abbrev FileIn : HandlerRead → Type 0
-  FileIn (handler sizes at S) = Unit {0}
+  FileIn (handler sizes at S) = at + stmtWidth S ≤ end
   FileIn (refused k place) = Fine k place
 
   kinds-in : (sizes : List ℕ) (at : ℕ) (S : Stmt) (o : Option ℕ) → Within at (stmtWidth S) o → at + stmtWidth S ≤ end → FileIn (onKinds sizes at S o)
-  kinds-in sizes at S none p here = tt
+  kinds-in sizes at S none p here = here
   kinds-in sizes at S (some place) p here = at-cursor 16 refl place (omega arith)
 
   fill-in : (sizes : List ℕ) (at next : ℕ) (S : Stmt) → at + stmtWidth S ≤ end → (f : Fill) → fillAt bytes next ≡ f → FileIn (onHandlerFill sizes at S f)
@@ -273,3 +274,6 @@ module _ (bytes : List ℕ) where
 
   pub fault-inside : (k place : ℕ) → readHandler bytes ≡ refused k place → FaultIn bytes 10 18 k place
   fault-inside k place e = rw e at file-in
+
+  pub statement-inside : (sizes : List ℕ) (at : ℕ) (S : Stmt) → readHandler bytes ≡ handler sizes at S → at + stmtWidth S ≤ 8 * length bytes
+  statement-inside sizes at S e = rw e at file-in

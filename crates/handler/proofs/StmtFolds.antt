@@ -16,7 +16,7 @@ use Rattle.handler.specs.declared.StmtHead.the-variants.{Nil, Assign, Pa
 use Rattle.handler.specs.Expressions.{ExprRead, good, bad, wholeExpr}
 use Rattle.handler.specs.Statements.{targetHead, codeHead, markHead, stmtHead, StmtRead, whole, fault, onAssigned, onBody, onTest, onRight, onLeftSide, onStmtHead, stmtAt}
 use Rattle.handler.specs.Kinds.{width, stmtWidth}
-use Rattle.handler.specs.StatementTable.{statements}
+use Rattle.handler.specs.StatementTable.{statements, stmtLevels}
 use Rattle.handler.proofs.Folds.{expr-read}
 
 -- One level of reading, with `levels - 1` below it as in the code.
@@ -99,79 +99,80 @@ TargetsBelow count (par l r) = TargetsBelow count l × TargetsBelow count r
 TargetsBelow count (if e b) = TargetsBelow count b
 TargetsBelow count (while e b) = TargetsBelow count b
 
--- What is known of a statement that was read: where it ends, that it counts among at most 63, and how long it is: a code and a
--- variable of 5 bits, and an expression of at most 31 nodes of 10 bits.
-pub record ReadStmt (count before at : ℕ) (S : Stmt) (after next : ℕ) : Type 0 where
+-- What is known of a statement that was read: where it ends, that it counts among at most 63, that it has fewer levels than could
+-- be read, and how long it is: a code and a variable of 5 bits, and an expression of at most 31 nodes of 10 bits.
+pub record ReadStmt (levels count before at : ℕ) (S : Stmt) (after next : ℕ) : Type 0 where
   pub ends : next ≡ at + stmtWidth S
   pub counted : after ≡ before + statements S
   pub room : after ≤ 63
+  pub high : stmtLevels S < levels
   pub short : stmtWidth S ≤ 315 * statements S
   pub targets : TargetsBelow count S
 
-abbrev AllRead : ℕ → ℕ → ℕ → StmtRead → Type 0
-AllRead count before at (whole S after next) = ReadStmt count before at S after next
-AllRead count before at (fault k place) = Unit {0}
+abbrev AllRead : ℕ → ℕ → ℕ → ℕ → StmtRead → Type 0
+AllRead levels count before at (whole S after next) = ReadStmt levels count before at S after next
+AllRead levels count before at (fault k place) = Unit {0}
 
 -- A statement made of parts that were read.
-pair-read : (b : Bool) (count before at next : ℕ) (l r : Stmt) (so-far behind after end : ℕ) → next ≡ at + 3
-    → ReadStmt count (suc before) next l so-far behind → ReadStmt count so-far behind r after end
-    → ReadStmt count before at (cond b (seq l r) (par l r)) after end
-pair-read true count before at next l r so-far behind after end placed first second =
-    record { ends = omega arith; counted = omega arith; room = second .room; short = omega arith; targets = (first .targets, second .targets) }
-pair-read false count before at next l r so-far behind after end placed first second =
-    record { ends = omega arith; counted = omega arith; room = second .room; short = omega arith; targets = (first .targets, second .targets) }
+pair-read : (b : Bool) (levels count before at next : ℕ) (l r : Stmt) (so-far behind after end : ℕ) → next ≡ at + 3
+    → ReadStmt levels count (suc before) next l so-far behind → ReadStmt levels count so-far behind r after end
+    → ReadStmt (suc levels) count before at (cond b (seq l r) (par l r)) after end
+pair-read true levels count before at next l r so-far behind after end placed first second =
+    record { ends = omega arith; counted = omega arith; room = second .room; high = omega arith; short = omega arith; targets = (first .targets, second .targets) }
+pair-read false levels count before at next l r so-far behind after end placed first second =
+    record { ends = omega arith; counted = omega arith; room = second .room; high = omega arith; short = omega arith; targets = (first .targets, second .targets) }
 
-test-read : (t : Bool) (count before at next : ℕ) (e : Expr) (b : Stmt) (behind after end : ℕ) → next ≡ at + 3 → ReadExpr next e behind
-    → ReadStmt count (suc before) behind b after end → ReadStmt count before at (cond t (if e b) (while e b)) after end
-test-read true count before at next e b behind after end placed first second =
-    record { ends = omega arith; counted = omega arith; room = second .room; short = omega arith; targets = second .targets }
-test-read false count before at next e b behind after end placed first second =
-    record { ends = omega arith; counted = omega arith; room = second .room; short = omega arith; targets = second .targets }
+test-read : (t : Bool) (levels count before at next : ℕ) (e : Expr) (b : Stmt) (behind after end : ℕ) → next ≡ at + 3 → ReadExpr next e behind
+    → ReadStmt levels count (suc before) behind b after end → ReadStmt (suc levels) count before at (cond t (if e b) (while e b)) after end
+test-read true levels count before at next e b behind after end placed first second =
+    record { ends = omega arith; counted = omega arith; room = second .room; high = omega arith; short = omega arith; targets = second .targets }
+test-read false levels count before at next e b behind after end placed first second =
+    record { ends = omega arith; counted = omega arith; room = second .room; high = omega arith; short = omega arith; targets = second .targets }
 
-all-read : (levels : ℕ) (bytes : List ℕ) (count before at : ℕ) → AllRead count before at (stmtAt levels bytes count before at)
+all-read : (levels : ℕ) (bytes : List ℕ) (count before at : ℕ) → AllRead levels count before at (stmtAt levels bytes count before at)
 unfolding stmtAt Marked
 all-read zero bytes count before at = tt
 all-read (suc levels) bytes count before at =
     by (stmtHead bytes count levels before at) (marked bytes count levels before at _ refl) (all-read levels bytes count)
   where
-    right : (code next : ℕ) → next ≡ at + 3 → (l : Stmt) (so-far behind : ℕ) → ReadStmt count (suc before) next l so-far behind → (x : StmtRead)
-        → AllRead count so-far behind x → AllRead count before at (onRight code l x)
+    right : (code next : ℕ) → next ≡ at + 3 → (l : Stmt) (so-far behind : ℕ) → ReadStmt levels count (suc before) next l so-far behind → (x : StmtRead)
+        → AllRead levels count so-far behind x → AllRead (suc levels) count before at (onRight code l x)
     right code next placed l so-far behind first (fault k place) known = tt
     right code next placed l so-far behind first (whole r after end) known =
-        pair-read (eqb code 2) count before at next l r so-far behind after end placed first known
+        pair-read (eqb code 2) levels count before at next l r so-far behind after end placed first known
 
-    left : (code next : ℕ) → next ≡ at + 3 → (x : StmtRead) → AllRead count (suc before) next x → (stmt : ℕ → ℕ → StmtRead)
-        → ((n i : ℕ) → AllRead count n i (stmt n i)) → AllRead count before at (onLeftSide code x stmt)
+    left : (code next : ℕ) → next ≡ at + 3 → (x : StmtRead) → AllRead levels count (suc before) next x → (stmt : ℕ → ℕ → StmtRead)
+        → ((n i : ℕ) → AllRead levels count n i (stmt n i)) → AllRead (suc levels) count before at (onLeftSide code x stmt)
     left code next placed (fault k place) known stmt later = tt
     left code next placed (whole l so-far behind) known stmt later =
         right code next placed l so-far behind known (stmt so-far behind) (later so-far behind)
 
-    body : (code next behind : ℕ) → next ≡ at + 3 → (e : Expr) → ReadExpr next e behind → (x : StmtRead) → AllRead count (suc before) behind x
-        → AllRead count before at (onBody code e x)
+    body : (code next behind : ℕ) → next ≡ at + 3 → (e : Expr) → ReadExpr next e behind → (x : StmtRead) → AllRead levels count (suc before) behind x
+        → AllRead (suc levels) count before at (onBody code e x)
     body code next behind placed e first (fault k place) known = tt
-    body code next behind placed e first (whole b after end) known = test-read (eqb code 4) count before at next e b behind after end placed first known
+    body code next behind placed e first (whole b after end) known = test-read (eqb code 4) levels count before at next e b behind after end placed first known
 
     test : (code next : ℕ) → next ≡ at + 3 → (x : ExprRead) → wholeExpr bytes count next ≡ x → (stmt : ℕ → ℕ → StmtRead)
-        → ((n i : ℕ) → AllRead count n i (stmt n i)) → AllRead count before at (onTest code (suc before) x stmt)
+        → ((n i : ℕ) → AllRead levels count n i (stmt n i)) → AllRead (suc levels) count before at (onTest code (suc before) x stmt)
     test code next placed (bad k place) read stmt later = tt
     test code next placed (good e nodes behind) read stmt later =
         body code next behind placed e (whole-read bytes count next e nodes behind read) (stmt (suc before) behind) (later (suc before) behind)
 
-    assigned : (v next : ℕ) → before < 63 → next ≡ at + 5 → v < count → (x : ExprRead) → wholeExpr bytes count next ≡ x
-        → AllRead count before at (onAssigned v (suc before) x)
-    assigned v next room placed target (bad k place) read = tt
-    assigned v next room placed target (good e nodes behind) read =
+    assigned : (v next : ℕ) → 0 < levels → before < 63 → next ≡ at + 5 → v < count → (x : ExprRead) → wholeExpr bytes count next ≡ x
+        → AllRead (suc levels) count before at (onAssigned v (suc before) x)
+    assigned v next deep room placed target (bad k place) read = tt
+    assigned v next deep room placed target (good e nodes behind) read =
         let known = whole-read bytes count next e nodes behind read in
-        record { ends = omega arith; counted = omega arith; room = omega arith; short = omega arith; targets = target }
+        record { ends = omega arith; counted = omega arith; room = omega arith; high = omega arith; short = omega arith; targets = target }
 
-    by : (h : StmtHead) → Marked count levels before at h → ((n i : ℕ) → AllRead count n i (stmtAt levels bytes count n i))
-        → AllRead count before at (onStmtHead h (wholeExpr bytes count) before (stmtAt levels bytes count))
-    by (Nil next) p later = record { ends = p .2; counted = omega arith; room = omega arith; short = omega arith; targets = tt }
-    by (Assign v next) p later = assigned v next (p .1) (p .2) (p .3) (wholeExpr bytes count next) refl
+    by : (h : StmtHead) → Marked count levels before at h → ((n i : ℕ) → AllRead levels count n i (stmtAt levels bytes count n i))
+        → AllRead (suc levels) count before at (onStmtHead h (wholeExpr bytes count) before (stmtAt levels bytes count))
+    by (Nil next) p later = record { ends = p .2; counted = omega arith; room = omega arith; high = omega arith; short = omega arith; targets = tt }
+    by (Assign v next) p later = assigned v next (p .0) (p .1) (p .2) (p .3) (wholeExpr bytes count next) refl
     by (Pair code next) p later = left code next (p .2) (stmtAt levels bytes count (suc before) next) (later (suc before) next) (stmtAt levels bytes count) later
     by (Test code next) p later = test code next (p .2) (wholeExpr bytes count next) refl (stmtAt levels bytes count) later
     by (Fault k place) p later = tt
 
 pub stmt-read : (levels : ℕ) (bytes : List ℕ) (count before at : ℕ) (S : Stmt) (after next : ℕ)
-    → stmtAt levels bytes count before at ≡ whole S after next → ReadStmt count before at S after next
+    → stmtAt levels bytes count before at ≡ whole S after next → ReadStmt levels count before at S after next
 stmt-read levels bytes count before at S after next p = rw p at (all-read levels bytes count before at)

@@ -1,6 +1,6 @@
 -- Laws of the shapes of statements: capping the parts of a step number does not change the capped whole, and the shape of a
 -- statement follows from those of its parts.
-use Prim.Native.Nat.{ℕ, zero, suc, _+_, _-_, _*_, _^_, _<_, min}
+use Prim.Native.Nat.{ℕ, zero, suc, _+_, _-_, _*_, _^_, _<_, min, max}
 use mathlib.Core.Bool.{Bool, true, false, cond}
 use mathlib.Core.List.{List}
 use mathlib.Core.Option.{Option, none, some}
@@ -27,11 +27,11 @@ use Rattle.handler.specs.declared.StmtHead.the-variants.{Assign, Pair, T
 use Rattle.handler.specs.Expressions.{ExprRead, good, bad, wholeExpr}
 use Rattle.handler.specs.Statements.{stmtHead, StmtRead, whole, fault, tested, onAssigned, onRight, stmtAt, wholeStmt}
 use Rattle.handler.specs.Kinds.{width, orPlace, kindError, stmtWidth, stmtKindError}
-use Rattle.handler.specs.StatementTable.{statements}
+use Rattle.handler.specs.StatementTable.{statements, stmtLevels}
 use Rattle.handler.specs.Shapes.{asKindError, exprSummary, exprShape, stmtSummary, stmtShape, assignedOf, pairOf, testedOf, fittingOf, filledOf, handlerFound, handlerFile}
 use Rattle.handler.specs.Reading.{onKinds, onHandlerFill, onStmt}
 use Rattle.handler.proofs.Shapes.{or-earlier, shaped, faulted}
-use Rattle.handler.proofs.StmtFolds.{stmt-step, Marked, marked, whole-read, stmt-read}
+use Rattle.handler.proofs.StmtFolds.{stmt-step, Marked, marked, whole-read, ReadStmt, stmt-read}
 
 -- Capping a part that counts y times does not change the capped sum.
 pub cap-part : (x y b : ℕ) → min (x + y * (min b (2 ^ 32) + 1)) (2 ^ 32) ≡ min (x + y * (b + 1)) (2 ^ 32)
@@ -63,6 +63,14 @@ unfolding stmtShape
 stmt-faulted N at (whole S a i) k place p = absurd (let z : _≡_ {A = ℕ} 0 1 = cc in omega arith)
 stmt-faulted N at (fault j i) k place p = cc
 
+-- It has fewer levels than could be read.
+pub shape-high : (levels : ℕ) (bytes : List ℕ) (count before at N : ℕ) (w : StmtSummary)
+    → stmtShape N at (stmtAt levels bytes count before at) ≡ stmt.Whole w → w .levels < levels
+shape-high levels bytes count before at N w p =
+    let s = stmt-shaped N at _ w p in
+    let same : w .levels ≡ stmtLevels (s .tree) = ap (λ x. x .levels) (s .is) in
+    omega (arith, stmt-read levels bytes count before at (s .tree) (w .statements) (w .next) (s .was) .high)
+
 -- An assignment.
 assigned-made : (N at v next after : ℕ) (x : ExprRead) → next ≡ at + 5
     → assignedOf after (exprShape Integer 0 next x) ≡ stmtShape N at (onAssigned v after x)
@@ -84,6 +92,7 @@ pair-made N at code next so-far behind l (whole r after end) placed ends =
           steps = s;
           error = asKindError (orPlace (stmtKindError (at + 3) l) (stmtKindError (at + 3 + stmtWidth l) r));
           statements = after;
+          levels = suc (max (stmtLevels l) (stmtLevels r));
           next = end;
         })
 
@@ -107,6 +116,7 @@ tested-made N at code next nodes behind after end e b placed ends =
           steps = s;
           error = asKindError (orPlace (kindError Truth (at + 3) e) (stmtKindError (at + 3 + width e) b));
           statements = after;
+          levels = suc (stmtLevels b);
           next = end;
         })
 
@@ -194,11 +204,14 @@ found-made bytes sizes at (whole S after next) read = by (fillAt bytes next)
     w : StmtSummary
     w = stmtSummary (product sizes) at S after next
 
+    known : ReadStmt 17 (length sizes) 0 at S after next
+    known = stmt-read 17 bytes (length sizes) 0 at S after next read
+
     counted : after ≡ statements S
-    counted = omega (arith, stmt-read 17 bytes (length sizes) 0 at S after next read .counted)
+    counted = omega (arith, known .counted)
 
     kinds : (o : Option ℕ) → fittingOf at w (asKindError o) ≡ handlerFile (onKinds sizes at S o) .found
-    kinds none = rw counted
+    kinds none = rw (counted, known .ends)
     kinds (some place) = refl
 
     by : (f : Fill) → filledOf at w f ≡ handlerFile (onHandlerFill sizes at S f) .found

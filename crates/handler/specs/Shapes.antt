@@ -1,6 +1,6 @@
 -- What the walks over the bits answer, from what is read there: what is defined over trees, with no tree in the answer.
 -- First for expressions, then for statements, then for the file.
-use Prim.Native.Nat.{ℕ, _+_, _-_, _*_, _/_, _%_, _^_, min}
+use Prim.Native.Nat.{ℕ, suc, _+_, _-_, _*_, _/_, _%_, _^_, min, max}
 use mathlib.Core.Bool.{Bool, cond}
 use mathlib.Core.List.{List}
 use mathlib.Core.Option.{Option, none, some}
@@ -28,8 +28,8 @@ use Rattle.handler.specs.declared.HandlerFound.the-variants as found
 use Rattle.handler.specs.Header.{headOf, noHead}
 use Rattle.handler.specs.Expressions.{ExprRead, good, bad}
 use Rattle.handler.specs.Statements.{StmtRead, whole, fault}
-use Rattle.handler.specs.Kinds.{kindError, stmtKindError}
-use Rattle.handler.specs.StatementTable.{statements, statementTable}
+use Rattle.handler.specs.Kinds.{kindError, stmtWidth, stmtKindError}
+use Rattle.handler.specs.StatementTable.{statements, stmtLevels, statementTable}
 use Rattle.handler.specs.Reading.{HandlerRead, handler, refused}
 
 abbrev pub asKindError : Option ℕ → KindError
@@ -54,10 +54,17 @@ unfoldable pub exprShape : Kind → ℕ → ℕ → ExprRead → ExprShape
 exprShape wanted moved at (good e nodes next) = expr.Whole (exprSummary wanted moved at e nodes next)
 exprShape wanted moved at (bad k place) = expr.Fault k place
 
--- The summary of a statement at a place, over N states: its step number, capped at 2 ^ 32, one past the limit, and its kind error.
+-- The summary of a statement at a place, over N states: its step number, capped at 2 ^ 32, one past the limit, its kind error and its
+-- levels.
 abbrev pub stmtSummary : ℕ → ℕ → Stmt → ℕ → ℕ → StmtSummary
 stmtSummary N at S after next =
-    record { steps = min (steps N S) (2 ^ 32); error = asKindError (stmtKindError at S); statements = after; next = next }
+    record {
+      steps = min (steps N S) (2 ^ 32);
+      error = asKindError (stmtKindError at S);
+      statements = after;
+      levels = stmtLevels S;
+      next = next;
+    }
 
 unfoldable pub stmtShape : ℕ → ℕ → StmtRead → StmtShape
 stmtShape N at (whole S after next) = stmt.Whole (stmtSummary N at S after next)
@@ -66,7 +73,7 @@ stmtShape N at (fault k place) = stmt.Fault k place
 -- The shape of a statement from those of its parts: an assignment, a sequence or parallel, an if (4) or while (5).
 abbrev pub assignedOf : ℕ → ExprShape → StmtShape
 assignedOf after (expr.Whole e) =
-    stmt.Whole (record { steps = min (e .e + 1) (2 ^ 32); error = e .error; statements = after; next = e .next })
+    stmt.Whole (record { steps = min (e .e + 1) (2 ^ 32); error = e .error; statements = after; levels = 1; next = e .next })
 assignedOf after (expr.Fault k place) = stmt.Fault k place
 
 abbrev pub pairOf : StmtSummary → StmtShape → StmtShape
@@ -75,6 +82,7 @@ pairOf l (stmt.Whole r) =
       steps = min (l .steps + r .steps + 1) (2 ^ 32);
       error = earlierOf (l .error) (r .error);
       statements = r .statements;
+      levels = suc (max (l .levels) (r .levels));
       next = r .next;
     })
 pairOf l (stmt.Fault k place) = stmt.Fault k place
@@ -88,6 +96,7 @@ testedOf N code e b =
       steps = min (testSteps N code (e .e) (b .steps)) (2 ^ 32);
       error = earlierOf (e .error) (b .error);
       statements = b .statements;
+      levels = suc (b .levels);
       next = b .next;
     }
 
@@ -95,7 +104,14 @@ testedOf N code e b =
 unfoldable pub handlerFile : HandlerRead → HandlerFile
 handlerFile (handler sizes at S) =
     record {
-      found = found.Handler (record { at = at; statements = statements S; steps = min (steps (product sizes) S) (2 ^ 32) });
+      found =
+          found.Handler (record {
+            at = at;
+            end = at + stmtWidth S;
+            statements = statements S;
+            levels = stmtLevels S;
+            steps = min (steps (product sizes) S) (2 ^ 32);
+          });
       head = headOf sizes;
       statements = statementTable at S;
     }
@@ -104,7 +120,8 @@ handlerFile (refused k place) = record { found = found.Fault k place; head = noH
 -- What is found in the file, from the shape of its statement: 18, then 16.
 abbrev pub fittingOf : ℕ → StmtSummary → KindError → HandlerFound
 fittingOf at w (At place) = found.Fault 16 place
-fittingOf at w Nowhere = found.Handler (record { at = at; statements = w .statements; steps = w .steps })
+fittingOf at w Nowhere =
+    found.Handler (record { at = at; end = w .next; statements = w .statements; levels = w .levels; steps = w .steps })
 
 abbrev pub filledOf : ℕ → StmtSummary → Fill → HandlerFound
 filledOf at w (Wrong place) = found.Fault 18 place

@@ -1,5 +1,5 @@
 -- The statements of a handler as a table in file order, one word for each: the statement itself, then its parts.
-use Prim.Native.Nat.{ℕ, suc, _+_, _-_, _*_, _/_, _%_}
+use Prim.Native.Nat.{ℕ, suc, _+_, _-_, _*_, _/_, _%_, max}
 use mathlib.Core.List.{List, [], _∷_, _++_}
 use mathlib.Core.Path.{_≡_}
 use lib.ListN.{getD, replicate}
@@ -18,6 +18,15 @@ statements (seq l r) = 1 + statements l + statements r
 statements (par l r) = 1 + statements l + statements r
 statements (if e b) = 1 + statements b
 statements (while e b) = 1 + statements b
+
+-- The number of levels of a statement: one if it has no parts, else one more than its highest part has.
+abbrev pub stmtLevels : Stmt → ℕ
+stmtLevels nil = 1
+stmtLevels (assign v e) = 1
+stmtLevels (seq l r) = suc (max (stmtLevels l) (stmtLevels r))
+stmtLevels (par l r) = suc (max (stmtLevels l) (stmtLevels r))
+stmtLevels (if e b) = suc (stmtLevels b)
+stmtLevels (while e b) = suc (stmtLevels b)
 
 -- A statement as one word, and back: 3 bits for its code, 2 for its variable, 7 for `after`, then the first bit of its expression.
 unfoldable pub statementWord : Statement → ℕ

@@ -35,12 +35,13 @@ pub enum StmtHead {
     Fault(u32, usize),
 }
 
-// A summary of a whole statement: its step number, capped at 2 ^ 32, its kind error, the number of statements so far and the cursor
-// after it.
+// A summary of a whole statement: its step number, capped at 2 ^ 32, its kind error, the number of statements so far, the number of
+// its levels and the cursor after it.
 pub struct StmtSummary {
     pub steps: u64,
     pub error: KindError,
     pub statements: u32,
+    pub levels: u32,
     pub next: usize,
 }
 
@@ -50,10 +51,13 @@ pub enum StmtShape {
     Fault(u32, usize),
 }
 
-// A summary of a handler file: the first bit of its statement, the number of statements, and the step number, capped at 2 ^ 32.
+// A summary of a handler file: the first bit of its statement, the bit after it, the number of statements and of their levels, and the
+// step number, capped at 2 ^ 32.
 pub struct HandlerSummary {
     pub at: usize,
+    pub end: usize,
     pub statements: u32,
+    pub levels: u32,
     pub steps: u64,
 }
 

@@ -43,7 +43,9 @@ fn found_of(src: &[u8], at: usize, read: StmtShape) -> HandlerFound
                     KindError::At(place) => HandlerFound::Fault(KINDS, place),
                     KindError::Nowhere => HandlerFound::Handler(HandlerSummary {
                         at,
+                        end: stmt.next,
                         statements: stmt.statements,
+                        levels: stmt.levels,
                         steps: stmt.steps,
                     }),
                 }

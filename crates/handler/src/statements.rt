@@ -21,7 +21,7 @@ use crate::table::store_statement;
 use bits::Field;
 use semantics::Kind;
 ghost use mathlib.Core.Path.{_≡_};
-ghost use Prim.Native.Nat.{_+_, _*_, _^_, _≤_, min};
+ghost use Prim.Native.Nat.{suc, _+_, _*_, _^_, _≤_, _<_, min, max};
 ghost use lib.ListN.{length};
 ghost use Rattle.bits.specs.Fields.{fieldAt};
 ghost use Rattle.states.specs.Sets.{capacity};
@@ -106,6 +106,7 @@ fn assigned_of(after: u32, assigned: ExprShape) -> StmtShape
                 steps: expr.e as u64 + 1,
                 error,
                 statements: after,
+                levels: 1,
                 next: expr.next,
             })
         }
@@ -120,8 +121,17 @@ fn pair_steps(left: u64, right: u64) -> u64
     capped(capped(left) + capped(right) + 1)
 }
 
+// The levels of a sequence or parallel: one more than those of its higher side.
+fn pair_levels(left: u32, right: u32) -> u32
+    requires { ⌜ (left + 1 < 2 ^ 32) × (right + 1 < 2 ^ 32) ⌝ }
+    ensures { λ r. ⌜ r ≡ suc (max left right) ⌝ }
+{
+    if left < right { right + 1 } else { left + 1 }
+}
+
 // The shape of a sequence or parallel, from those of its sides.
 fn pair_of(left: StmtSummary, right: StmtShape) -> StmtShape
+    requires { ⌜ (left .levels + 1 < 2 ^ 32) × ((w : StmtSummary) → right ≡ StmtShape.Whole w → w .levels + 1 < 2 ^ 32) ⌝ }
     ensures { λ r. ⌜ r ≡ pairOf left right ⌝ }
 {
     let StmtShape::Whole(second) = right else {
@@ -134,6 +144,7 @@ fn pair_of(left: StmtSummary, right: StmtShape) -> StmtShape
         steps: pair_steps(left.steps, second.steps),
         error,
         statements: second.statements,
+        levels: pair_levels(left.levels, second.levels),
         next: second.next,
     })
 }
@@ -154,7 +165,7 @@ fn test_steps(n: u32, code: u32, e: u32, body: u64) -> u64
 
 // The shape of an if or while, from those of its test and its body.
 fn tested_of(n: u32, code: u32, test: ExprSummary, body: StmtSummary) -> StmtShape
-    requires { ⌜ (1 ≤ n) × (n ≤ capacity) ⌝ }
+    requires { ⌜ (1 ≤ n) × (n ≤ capacity) × (body .levels + 1 < 2 ^ 32) ⌝ }
     ensures { λ r. ⌜ r ≡ StmtShape.Whole (testedOf n code test body) ⌝ }
 {
     let test_error = test.error;
@@ -164,6 +175,7 @@ fn tested_of(n: u32, code: u32, test: ExprSummary, body: StmtSummary) -> StmtSha
         steps: test_steps(n, code, test.e, body.steps),
         error,
         statements: body.statements,
+        levels: body.levels + 1,
         next: body.next,
     })
 }
@@ -194,6 +206,7 @@ pub(crate) fn stmt_walk(
                 steps: 0,
                 error: KindError::Nowhere,
                 statements: before + 1,
+                levels: 1,
                 next,
             })
         }

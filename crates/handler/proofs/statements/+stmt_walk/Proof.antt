@@ -16,7 +16,7 @@ use Rattle.handler.specs.Statements.{stmtHead, stmtAt}
 use Rattle.handler.specs.Shapes.{exprShape, stmtShape}
 use Rattle.handler.proofs.Shapes.{shaped}
 use Rattle.handler.proofs.StmtFolds.{stmt-step, Marked, marked, whole-read, stmt-read}
-use Rattle.handler.proofs.StmtShapes.{stmt-shaped, assign-shape, left-side-fault, pair-shape, test-fault, body-fault, test-shape}
+use Rattle.handler.proofs.StmtShapes.{stmt-shaped, shape-high, assign-shape, left-side-fault, pair-shape, test-fault, body-fault, test-shape}
 use Rattle.handler.proofs.Filling.{fault-filled, nil-filled, assign-filled, pair-filled, test-filled}
 use Rattle.handler.proofs.statements.stmt_walk.Reads as stmt-walk
 use Rattle.handler.proofs.statements.stmt_walk.Kinds as stmt-walk-kinds
@@ -160,6 +160,15 @@ stmt-walk-requires-2 t c κs =
     let pre = pair-of-left t l .before .before .before .before .before .before .before .pre in
     omega (arith, left-room t l, c .before .before .table4 .given, l .before .before .before .before .table3 .given, pre)
 
+-- A part has fewer levels than were left for it, so there is room for one more.
+pair-requires : (t : ℕ) → lts.Need-pair-of-requires (callees t) (stmt-walk-at t) stmt-walk.Post
+pair-requires t c κs =
+    let l = c .before .before .before .before .before .before .before .before in
+    let fits = pair-of-left t l .before .before .before .before .before .before .before .fits .levels in (
+      omega (arith, fits, shape-high _ _ _ _ _ _ _ (left-is t l)),
+      λ w e. omega (arith, fits, shape-high _ _ _ _ _ _ w (sym (c .before .before .stmt-walk2 .ensures .0) ∙ e)),
+    )
+
 test-store : (t : ℕ) → lts.Need-store-statement-requires-4 (callees t) (stmt-walk-at t) stmt-walk.Post
 test-store t c κs =
     let k = head-of-test t (test-of-body t (c .before)) in
@@ -167,9 +176,9 @@ test-store t c κs =
 
 tested-requires : (t : ℕ) → lts.Need-tested-of-requires (callees t) (stmt-walk-at t) stmt-walk.Post
 tested-requires t c κs =
-    let k = head-of-test t (test-of-body t (c .before .before .before .before)) in
-    let pre = k .before .before .before .before .before .before .before .pre .1 in
-    (pre .0, pre .1)
+    let b = c .before .before .before .before in
+    let start = head-of-test t (test-of-body t b) .before .before .before .before .before .before .before in
+    (start .pre .1 .0, start .pre .1 .1, omega (arith, start .fits .levels, shape-high _ _ _ _ _ _ _ (body-is t b)))
 
 stmt-walk-returns : (t : ℕ) → lts.Need-returns (callees t) (stmt-walk-at t) stmt-walk.Post
 unfolding stmtAt stmtShape
@@ -268,7 +277,8 @@ pub +stmt-walk-spec : {M : Type 1} → statement M
     (λ c κs. omega (arith, pair-room t (pair-of-left t (c .before)), c .before .before .before .before .before .table3 .given))
     (λ c. search needs)
     (stmt-walk-requires-2 t)
-    (λ c κs. search needs) (λ c. search needs) (λ c κs. search needs) (λ c. search needs) (λ c. search needs) (λ c. search needs)
+    (pair-requires t)
+    (λ c. search needs) (λ c κs. search needs) (λ c. search needs) (λ c. search needs) (λ c. search needs)
     (λ c. search needs)
     (λ c κs. omega (arith, body-room t (c .before)))
     (λ c. search needs) (λ c. search needs) (λ c. search needs)
