@@ -1,12 +1,12 @@
 -- Worked examples over N = 2, the handler file 22 20 02 of docs/FORMAT.md: the examples of "One form", the room that the form needs, what
--- becomes of the buffer, and which fault comes first.
-use Prim.Native.Nat.{ℕ, _*_, _^_}
-use mathlib.Core.List.{List, [], _∷_, _++_}
+-- becomes of the buffer, and which fault comes first; then nodes by themselves.
+use Prim.Native.Nat.{ℕ, _*_, _^_, min}
+use mathlib.Core.List.{List, [], _∷_, _++_, flatMap}
 use mathlib.Core.Path.{_≡_, refl}
-use lib.ListN.{replicate}
+use lib.ListN.{replicate, take}
 use Rattle.bits.specs.Fields.{bitLength, bitAt, bitsAt, isThere, fieldAt, firstSet, fillBits, furtherByte, fillFrom, fillAt}
-use Rattle.writer.specs.Writing.{withBit, putBit, putBits}
-use Rattle.writer.specs.Packing.{widthOf, putParts, bytesFor, packed}
+use Rattle.writer.specs.Writing.{withBit, putBit, putBits, hasRoom}
+use Rattle.writer.specs.Packing.{widthOf, putParts, putAll, bytesFor, packed}
 use Rattle.handler.specs.Header.{sizeRead, addSize, sizesRead, countRead, headAt}
 use Rattle.handler.specs.Expressions.{signed, integerHead, payloadHead, tagHead, exprHead, exprAt, wholeExpr}
 use Rattle.handler.specs.Statements.{targetHead, codeHead, markHead, stmtHead, stmtAt, wholeStmt}
@@ -14,11 +14,14 @@ use Rattle.handler.specs.Reading.{readHandler}
 use Rattle.derivation.specs.Tables.{setAt, rowAt, tablesThere, isCount, relationsRead, setsRead, tablesAt}
 use Rattle.derivation.specs.Nodes.{onName, namedTable, loopHead, namesHead, ruleHead, nodeHead, nodeAt, wholeNode}
 use Rattle.derivation.specs.Reading.{readProof}
-use Rattle.form.specs.Members.{rename, setMembers, relationMembers, byMembers}
+use Rattle.derivation.specs.declared.Node.{Node}
+use Rattle.derivation.specs.NodeTable.{nodeOf}
+use Rattle.form.specs.Members.{nodeBy, rename, setMembers, relationMembers, byMembers}
 use Rattle.form.specs.Mentions.{setsOf, relationsOf, inOrder, isIn, placeIn, mentioned, allMentioned, distinct}
 use Rattle.form.specs.Form.{setsIn, relationsIn, numbered, partsOf, fileParts, formOf}
 use Rattle.report.specs.Code.{placeKind, indexOf, codeOf}
 use Rattle.canonical.specs.declared.Outcome.the-variants.{Written}
+use Rattle.canonical.specs.Nodes.{nameIn, heldIn}
 use Rattle.canonical.specs.Canonical.{Form, form, fault, canonical, turnedAway, outcome, outAfter, asVerdict}
 
 -- Opens every definition, for the cases to compute.
@@ -82,3 +85,21 @@ handler-first = refl
 pub proof-before-room : outcome (written handler-file byte-too-many) 0 ≡ turnedAway 25 72
 unfolding written outcome
 proof-before-room = refl
+
+-- A while; a node with rule 10, written as 2, and P = 17, written as 1; and a while for which there is no room.
+abbrev node : ℕ → Node
+node rule = record { rule = rule; names = record { p = 17; r = 2; g = 3; q = 4 }; k = 5; w = 6; after = 0; bit = 0 }
+
+pub nodes-alone :
+    (putAll (replicate 4 0) 0 (partsOf (node 5)) ≡ 0xa2 ∷ 0x46 ∷ 0x8a ∷ 0xc0 ∷ [])
+    × (putAll (replicate 3 0) 1 (partsOf (node 10)) ≡ 0x21 ∷ 0x23 ∷ 0x40 ∷ [])
+    × (putAll (replicate 3 0) 0 (partsOf (node 5)) ≡ replicate 3 0)
+unfolding putAll hasRoom putParts widthOf putBits putBit withBit partsOf
+nodes-alone = (refl, refl, refl)
+
+-- The one node of a table under new names.
+pub node-renamed :
+    putAll (replicate 3 0) 0 (heldIn (λ x. partsOf (nodeBy (nameIn (7 ∷ [])) (nameIn (9 ∷ [])) x)) (take (min 200 127) (0 ∷ [])))
+    ≡ 0x0f ∷ 0x33 ∷ 0x20 ∷ []
+unfolding putAll hasRoom putParts widthOf putBits putBit withBit partsOf heldIn flatMap nodeOf nameIn
+node-renamed = refl

@@ -1,54 +1,25 @@
--- Copied bits, cleared bytes and tables: what one more round of a loop adds; and the fields of the form, their width and their order.
-use Prim.Native.Nat.{ℕ, _+_, _*_, _%_, _^_, _≤_, _<_}
+-- Copied tables: what one more round of a loop adds; and the fields of the form, their width and their order.
+use Prim.Native.Nat.{ℕ, _+_, _*_, _%_, _≤_, _<_}
 use mathlib.Core.List.{List, [], _∷_, _++_, map, flatMap, map-append}
 use mathlib.Core.Path.{_≡_, sym, _∙_, ap}
 use native.Mathlib.Nat.{mul-suc, mul-le-mul, le-refl}
 use native.Mathlib.Numerals.{add-one}
 use native.Mathlib.Omega.{arith}
-use lib.ListN.{length, take, drop, getD, set, replicate, length-append, length-drop, length-replicate, length-map, replicate-append-replicate}
-use lib.Pow.{high, low}
-use lib.Seq.{take-suc, drop-cons, append-snoc, set-at, length-take-le}
-use Rattle.bits.specs.Fields.{bitsAt, numberAt}
-use Rattle.bits.proofs.Laws.{bits-join, bits-below, number-bits}
+use lib.ListN.{length, take, getD, length-map}
+use lib.Seq.{take-suc, length-take-le}
 use Rattle.writer.specs.Writing.{putBits, putField}
 use Rattle.writer.specs.Packing.{Part, part, widthOf, putParts}
-use Rattle.writer.proofs.Laws.{length-put, put-join, field-put}
+use Rattle.writer.proofs.Laws.{field-put}
 use Rattle.writer.proofs.Packed.{width-append, parts-append, valueOf, joined}
-use Rattle.writer.proofs.Holding.{Fitting}
 use Rattle.derivation.specs.NodeTable.{nodeOf}
 use Rattle.form.specs.Form.{partsOf}
 use Rattle.form.proofs.FileBack.{width-map}
-use Rattle.form.proofs.Renaming.{nodeBy}
+use Rattle.form.specs.Members.{nodeBy}
 use Rattle.canonical.specs.declared.Run.{Run}
 use Rattle.canonical.specs.declared.Numbering.{Numbering}
-use Rattle.canonical.specs.Refinement.{setRun, relationRun, membersIn, membersOf, nameIn, heldIn, partsIn}
+use Rattle.canonical.specs.Nodes.{nameIn, heldIn}
+use Rattle.canonical.specs.Refinement.{setRun, relationRun, membersIn, membersOf, partsIn}
 use Rattle.canonical.proofs.NodeFields.{width-most, held-width}
-
--- The next k bits of a file, after those that were copied.
-pub copy-more : (out src : List ℕ) (to from done k : ℕ) → 1 ≤ k → k ≤ 64 → to + done + k ≤ 8 * length out → to + done + k < 2 ^ 64
-    → putField (putBits out to done (bitsAt src from done)) (to + done) k (numberAt src (from + done) k)
-    ≡ putBits out to (done + k) (bitsAt src from (done + k))
-copy-more out src to from done k least most inside fits =
-    let first = putBits out to done (bitsAt src from done) in
-    let small = bits-below src (from + done) k in
-    rw (
-      number-bits src (from + done) k most,
-      field-put first (to + done) k (bitsAt src (from + done) k) least most (omega (arith, length-put out to done (bitsAt src from done))) fits,
-      put-join out to done k (bitsAt src from (done + k)),
-      bits-join src from done k,
-      high (bitsAt src from done) k small,
-      low (bitsAt src from done) k small,
-    )
-
--- Bytes of which the first ones are cleared.
-module _ (out : List ℕ) (i : ℕ) where
-  pub length-cleared : i ≤ length out → length (replicate i 0 ++ drop i out) ≡ length out
-  length-cleared within = simp (length-append, length-drop) (omega (arith, length-replicate {A = ℕ} i 0))
-
-  pub clear-more : i < length out → set (replicate i 0 ++ drop i out) i 0 ≡ replicate (i + 1) 0 ++ drop (i + 1) out
-  clear-more more =
-      rw (← replicate-append-replicate {A = ℕ} i 1 0, add-one i, drop-cons out i 0 more, append-snoc)
-      (set-at (replicate i 0) (getD out i 0) _ 0 i (length-replicate {A = ℕ} i 0))
 
 -- The tables that the first k entries of a list name, as fields.
 module _ (src : List ℕ) (run : Run) (order : List ℕ) where
@@ -90,11 +61,10 @@ nodes-most (w ∷ words) =
 -- The two counts are one field of 10 bits.
 pub counts-joined : (out : List ℕ) (a b : ℕ) (rest : List Part) → a ≤ 16 → b ≤ 16 → 10 ≤ 8 * length out
     → putParts out 0 (part 5 a ∷ part 5 b ∷ rest) ≡ putParts (putField out 0 10 (a * 32 + b)) 10 rest
-unfolding putParts Fitting valueOf widthOf
+unfolding putParts valueOf widthOf
 counts-joined out a b rest few-a few-b room =
-    let value : a * 2 ^ (5 + 0) + (b * 2 ^ 0 + 0) ≡ a * 32 + b = omega arith in
     let both : putParts out 0 (part 5 a ∷ part 5 b ∷ []) ≡ putBits out 0 10 (a * 32 + b) =
-    joined out 0 (part 5 a ∷ part 5 b ∷ []) (omega arith, (omega arith, tt)) ∙ ap (putBits out 0 10) value
+    joined out 0 (part 5 a ∷ part 5 b ∷ []) ∙ ap (putBits out 0 10) (omega arith)
     in
     ap (λ l. putParts l 10 rest) (both ∙ sym (field-put out 0 10 (a * 32 + b) (omega arith) (omega arith) (omega arith) (omega arith)))
 

@@ -8,14 +8,15 @@ use Rattle.writer.proofs.Packed.{length-packed, packed-front}
 use Rattle.semantics.specs.Derivations.{Derivation, nodes}
 use Rattle.derivation.specs.NodeTable.{nodeBits, nodeTable}
 use Rattle.derivation.specs.Reading.{proof, readProof}
-use Rattle.form.specs.Members.{byMembers}
+use Rattle.form.specs.Members.{nodeBy, byMembers}
 use Rattle.form.specs.Mentions.{inOrder}
 use Rattle.form.specs.Form.{setsIn, relationsIn, numbered, partsOf, fileParts, formOf}
-use Rattle.form.proofs.Renaming.{nodeBy, nodeBits-rename, parts-renamed}
+use Rattle.form.proofs.Renaming.{nodeBits-rename, parts-renamed}
 use Rattle.form.proofs.NodesBack.{width-nodes}
 use Rattle.form.proofs.FileBack.{width-file}
 use Rattle.canonical.specs.declared.Numbering.{Numbering}
-use Rattle.canonical.specs.Refinement.{nameIn, heldIn, Numbers, partsIn}
+use Rattle.canonical.specs.Nodes.{nameIn, heldIn}
+use Rattle.canonical.specs.Refinement.{Numbers, partsIn}
 use Rattle.canonical.proofs.Numbered.{nodes-read}
 
 module _ (bytes : List ℕ) (n sets relations root : ℕ) (d : Derivation) (e : readProof bytes n ≡ proof sets relations root d)

@@ -1,24 +1,22 @@
--- The fields of nodes: their width, and what writing them under new names leaves.
-use Prim.Native.Nat.{ℕ, _+_, _-_, _*_, _^_, _≤_, _<_}
+-- The fields of nodes: their width, and what writing them leaves.
+use Prim.Native.Nat.{ℕ, _+_, _-_, _*_, _%_, _≤_, _<_}
 use mathlib.Core.Bool.{Bool, true, false, cond}
 use mathlib.Core.List.{List, [], _∷_, _++_, flatMap}
-use mathlib.Core.Path.{_≡_, refl, sym, _∙_, ap}
+use mathlib.Core.Path.{_≡_, refl, sym, _∙_, ap, ap₂}
 use native.Mathlib.Omega.{arith}
 use borrow.Author.Tests.{eq-eqb, ne-eqb}
 use lib.Dec.{eqb}
 use lib.ListN.{length, take, drop}
 use lib.Seq.{take-add}
 use Rattle.writer.specs.Writing.{putField}
-use Rattle.writer.specs.Packing.{Part, part, widthOf, putParts}
-use Rattle.writer.proofs.Holding.{Fitting}
-use Rattle.writer.proofs.Laws.{field-put}
-use Rattle.writer.proofs.Packed.{valueOf, width-append, parts-append, joined}
+use Rattle.writer.specs.Packing.{Part, part, widthOf, putParts, putAll}
+use Rattle.writer.proofs.Packed.{valueOf, width-append, parts-append, all-joined}
 use Rattle.derivation.specs.declared.Node.{Node}
 use Rattle.derivation.specs.NodeTable.{nodeOf, nodeIn}
 use Rattle.form.specs.Form.{partsOf}
-use Rattle.form.proofs.Renaming.{nodeBy}
-use Rattle.canonical.specs.Refinement.{nameIn, heldIn, Room}
-use Rattle.canonical.proofs.Order.{name-below, held-append, held-more}
+use Rattle.form.specs.Members.{nodeBy}
+use Rattle.canonical.specs.Nodes.{nameIn, heldIn}
+use Rattle.canonical.proofs.Order.{held-append, held-more}
 
 -- A node has 19 bits, and a while 27.
 width-by : (x : Node) → widthOf (partsOf x) ≡ cond (eqb (x .rule) 5) 27 19
@@ -48,10 +46,6 @@ module _ (x : Node) where
 
 -- The nodes of a table, one at a time.
 module _ (l : List ℕ) (i : ℕ) where
-  pub rule-below : nodeIn l i .rule < 8
-  unfolding nodeIn nodeOf
-  rule-below = omega arith
-
   pub width-more : i < length l
       → widthOf (heldIn partsOf (take (i + 1) l)) ≡ widthOf (heldIn partsOf (take i l)) + widthOf (partsOf (nodeIn l i))
   width-more inside = rw (held-more partsOf l i inside) (width-append (heldIn partsOf (take i l)) (partsOf (nodeIn l i)))
@@ -72,63 +66,37 @@ module _ (l : List ℕ) (i : ℕ) where
         ap widthOf parts ∙ width-append (heldIn partsOf (take (i + 1) l)) (heldIn partsOf rest),
       )
 
--- A node under new names as a number.
-module _ (sets relations : List ℕ) (x : Node) where
+-- A node as a number.
+module _ (x : Node) where
   -- Its rule and its names P, R, G and Q as one number, which has 19 bits.
   abbrev numberOf : ℕ
   numberOf =
-      (((x .rule * 16 + nameIn sets (x .names .p)) * 16 + nameIn relations (x .names .r)) * 16 + nameIn relations (x .names .g)) * 16
-      + nameIn relations (x .names .q)
+      (((x .rule % 8 * 16 + x .names .p % 16) * 16 + x .names .r % 16) * 16 + x .names .g % 16) * 16 + x .names .q % 16
 
-  pub number-below : x .rule < 8 → numberOf < 2 ^ 19
-  number-below rule =
-      omega (
-        arith,
-        name-below sets (x .names .p),
-        name-below relations (x .names .r),
-        name-below relations (x .names .g),
-        name-below relations (x .names .q),
-      )
-
-  abbrev renamed : Node
-  renamed = nodeBy (nameIn sets) (nameIn relations) x
-
-  renamed-fits : x .rule < 8 → Fitting (partsOf renamed)
-  unfolding partsOf Fitting
-  renamed-fits rule =
-      (rule, (name-below sets _, (name-below relations _, (name-below relations _, (name-below relations _, loop (eqb (x .rule) 5))))))
-    where
-      loop : (b : Bool) → Fitting (cond b (part 4 (nameIn sets (x .k)) ∷ part 4 (nameIn relations (x .w)) ∷ []) [])
-      loop true = (name-below sets _, (name-below relations _, tt))
-      loop false = tt
-
-  while-value : x .rule ≡ 5 → valueOf (partsOf renamed) ≡ (numberOf * 16 + nameIn sets (x .k)) * 16 + nameIn relations (x .w)
+  while-value : x .rule ≡ 5 → valueOf (partsOf x) ≡ (numberOf * 16 + x .k % 16) * 16 + x .w % 16
   unfolding partsOf valueOf widthOf
   while-value is = rw (eq-eqb (x .rule) 5 is) (omega arith)
 
-  other-value : (x .rule ≡ 5 → ⊥) → valueOf (partsOf renamed) ≡ numberOf
+  other-value : (x .rule ≡ 5 → ⊥) → valueOf (partsOf x) ≡ numberOf
   unfolding partsOf valueOf widthOf
   other-value not = rw (ne-eqb (x .rule) 5 not) (omega arith)
 
   -- Writing its fields is writing them as one field.
-  module _ (s : List ℕ) (at : ℕ) (rule : x .rule < 8) (room : Room s at (widthOf (partsOf x))) where
-    put-renamed : (w v : ℕ) → 1 ≤ w → w ≤ 64 → widthOf (partsOf x) ≡ w → valueOf (partsOf renamed) ≡ v
-        → putField s at w v ≡ putParts s at (partsOf renamed)
-    put-renamed w v least most width value =
-        rw (joined s at (partsOf renamed) (renamed-fits rule), width-renamed x (nameIn sets) (nameIn relations), width, value)
-        (field-put s at w v least most (omega arith) (omega arith))
+  module _ (s : List ℕ) (at : ℕ) where
+    put-node : (w v : ℕ) → 1 ≤ w → w ≤ 64 → widthOf (partsOf x) ≡ w → valueOf (partsOf x) ≡ v → putField s at w v ≡ putAll s at (partsOf x)
+    put-node w v least most width value =
+        ap₂ (putField s at) (sym width) (sym value) ∙ all-joined s at (partsOf x) (omega arith) (omega arith)
 
-    pub put-while : x .rule ≡ 5
-        → putField s at 27 ((numberOf * 16 + nameIn sets (x .k)) * 16 + nameIn relations (x .w)) ≡ putParts s at (partsOf renamed)
-    put-while is = put-renamed 27 _ (omega arith) (omega arith) (while-width x is) (while-value is)
+    pub put-while : x .rule ≡ 5 → putField s at 27 ((numberOf * 16 + x .k % 16) * 16 + x .w % 16) ≡ putAll s at (partsOf x)
+    put-while is = put-node 27 _ (omega arith) (omega arith) (while-width x is) (while-value is)
 
-    pub put-other : (x .rule ≡ 5 → ⊥) → putField s at 19 numberOf ≡ putParts s at (partsOf renamed)
-    put-other not = put-renamed 19 _ (omega arith) (omega arith) (other-width x not) (other-value not)
+    pub put-other : (x .rule ≡ 5 → ⊥) → putField s at 19 numberOf ≡ putAll s at (partsOf x)
+    put-other not = put-node 19 _ (omega arith) (omega arith) (other-width x not) (other-value not)
 
 -- The nodes of a table under new names: they have as many bits, and one more node is written after the others.
 module _ (sets relations : List ℕ) where
   abbrev pub renamedParts : Node → List Part
-  renamedParts x = partsOf (renamed sets relations x)
+  renamedParts x = partsOf (nodeBy (nameIn sets) (nameIn relations) x)
 
   pub held-width : (l : List ℕ) → widthOf (heldIn renamedParts l) ≡ widthOf (heldIn partsOf l)
   unfolding heldIn flatMap

@@ -30,7 +30,8 @@ use Rattle.form.proofs.Renaming.{rename-same}
 use Rattle.form.proofs.FileBack.{root-at}
 use Rattle.form.proofs.Represented.{Represents, sets-by-index, relations-by-index, numbered-by-index}
 use Rattle.canonical.specs.declared.Run.{Run}
-use Rattle.canonical.specs.Refinement.{setRun, relationRun, membersIn, membersOf, Least, Leasts, nameIn, heldIn, After, Names, Numbers}
+use Rattle.canonical.specs.Nodes.{nameIn, heldIn}
+use Rattle.canonical.specs.Refinement.{setRun, relationRun, membersIn, membersOf, Least, Leasts, After, Names, Numbers}
 use Rattle.canonical.proofs.Order.{held-append, named-below}
 
 -- The first word of a derivation holds its root.
@@ -74,7 +75,7 @@ module _ (sets relations : ℕ) (few-sets : sets ≤ mostTables) (few-relations 
         ap₂ _++_ (one i bit (weaken h d) known inside _ _ refl) (words-held (suc i) (bit + 19) d (known .1) (omega arith))
 
     -- The table of nodes of a derivation that was read.
-    nodes-held : (bit : ℕ) (d : Derivation) → Known sets relations d → nodes d ≤ 127 → heldIn own (take (nodes d) (nodeTable bit d)) ≡ inOrder own d
+    pub nodes-held : (bit : ℕ) (d : Derivation) → Known sets relations d → nodes d ≤ 127 → heldIn own (take (nodes d) (nodeTable bit d)) ≡ inOrder own d
     unfolding nodeTable padded
     nodes-held bit d known few =
         ap (heldIn own) (take-at (nodeWords 0 bit d) _ (nodes d) (length-nodeWords 0 bit d)) ∙ words-held 0 bit d known (omega arith)

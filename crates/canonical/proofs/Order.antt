@@ -14,7 +14,8 @@ use Rattle.derivation.specs.declared.Node.{Node}
 use Rattle.derivation.specs.NodeTable.{nodeOf, nodeIn}
 use Rattle.form.specs.Mentions.{isIn, placeIn, mentioned, allMentioned}
 use Rattle.form.proofs.Mentions.{in-append, place-append, place-end, place-past, place-or-length, mentioned-new, All, all-append, all-map, few-none, few-all}
-use Rattle.canonical.specs.Refinement.{nameIn, heldIn, Listing, After}
+use Rattle.canonical.specs.Nodes.{nameIn, heldIn}
+use Rattle.canonical.specs.Refinement.{Listing, After}
 
 last-in : (x : ℕ) → isIn (x ∷ []) x ≡ true
 unfolding isIn

@@ -1,3 +1,5 @@
--- What is written of two files, and what is turned away; `Refinement` is for private contracts alone.
+-- What is written of two files, and what is turned away; the nodes of a table as they are written. `Refinement` is for private
+-- contracts alone.
 pub mod Canonical
+pub mod Nodes
 pub mod Refinement

@@ -1,22 +1,21 @@
 -- What the private functions require and ensure. No public contract uses this.
 use Prim.Native.Nat.{ℕ, zero, suc, _+_, _*_, _/_, _%_, _^_, _≤_, _<_}
 use mathlib.Core.Path.{_≡_}
-use mathlib.Core.List.{List, _∷_, _++_, map, flatMap}
+use mathlib.Core.List.{List, _∷_, _++_, map}
 use lib.Bits.{bitOr, bitXor}
 use lib.ListN.{length, take, getD}
 use Rattle.bits.specs.Fields.{bitsAt}
 use Rattle.semantics.specs.Derivations.{Derivation}
 use Rattle.semantics.specs.Derivations as Derivations
-use Rattle.derivation.specs.declared.Node.{Node}
 use Rattle.derivation.specs.declared.ProofHead.{ProofHead}
-use Rattle.derivation.specs.NodeTable.{nodeOf, nodeTable}
+use Rattle.derivation.specs.NodeTable.{nodeTable}
 use Rattle.derivation.specs.Reading.{proof, readProof}
-use Rattle.form.specs.Members.{rename, byMembers}
+use Rattle.form.specs.Members.{nodeBy, rename, byMembers}
 use Rattle.form.specs.Form.{setsIn, relationsIn, numbered, partsOf}
-use Rattle.form.proofs.Renaming.{nodeBy}
 use Rattle.writer.specs.Packing.{Part, part}
 use Rattle.form.specs.Mentions.{allMentioned}
 use Rattle.form.proofs.Mentions.{Few}
+use Rattle.canonical.specs.Nodes.{nameIn, heldIn}
 use Rattle.canonical.specs.declared.Run.{Run}
 use Rattle.canonical.specs.declared.Naming.{Naming}
 use Rattle.canonical.specs.declared.Numbering.{Numbering}
@@ -71,10 +70,6 @@ pub record Least (f : ℕ → ℕ) (i r : ℕ) : Type 0 where
 abbrev pub Leasts : (ℕ → ℕ) → ℕ → List ℕ → Type 0
 Leasts f count reps = (i : ℕ) → i < count → Least f i (getD reps i 0)
 
--- Entry i of a list of 16 names of 4 bits.
-unfoldable pub nameIn : List ℕ → ℕ → ℕ
-nameIn names i = getD names (i % 16) 0 % 16
-
 -- A buffer of which the first `count` entries are mentioned: it has room for 16 different ones.
 pub record Listing (order : List ℕ) (count : ℕ) : Type 0 where
   pub length-enough : 16 ≤ length order
@@ -85,10 +80,6 @@ pub record Listing (order : List ℕ) (count : ℕ) : Type 0 where
 pub record After (entry : List ℕ) (count : ℕ) (xs exit : List ℕ) (r : ℕ) : Type 0 where
   pub listed : take r exit ≡ allMentioned (take count entry) xs
   pub most : r ≤ 16
-
--- What the nodes of a table have, a word for each: `own` gives what a node has.
-unfoldable pub heldIn : {A : Type 0} → (Node → List A) → List ℕ → List A
-heldIn own words = flatMap (λ word. own (nodeOf word)) words
 
 -- A proof file over n states that was read, and the table of its nodes.
 pub record Read (bytes : List ℕ) (n : ℕ) (head : ProofHead) (nodes : List ℕ) : Type 0 where
@@ -109,9 +100,9 @@ pub record Numbers (bytes : List ℕ) (n sets : ℕ) (d : Derivation) (m : Numbe
   pub of-relations : Names bytes (relationRun n sets) (relationsIn (byMembers bytes n sets d)) (m .relations)
   pub renamed : rename (nameIn (m .sets .names)) (nameIn (m .relations .names)) d ≡ numbered (byMembers bytes n sets d)
 
--- The bytes have room for so many bits from a cursor on, far below the largest cursor.
+-- The bytes have room for so many bits from a cursor on.
 abbrev pub Room : List ℕ → ℕ → ℕ → Type 0
-Room out at bits = (at + bits ≤ 8 * length out) × (at + bits ≤ 2 ^ 21)
+Room out at bits = (at + bits ≤ 8 * length out) × (at + bits < 2 ^ 64)
 
 -- So few states and tables that no product of them is large.
 abbrev pub Small : ℕ → ℕ → Numbering → Type 0

@@ -11,7 +11,7 @@ use handler::HandlerFound;
 use handler::reading::read_handler;
 use mentions::number;
 use search::Named;
-use writing::clear;
+use writer::clear;
 use writing::form_bits;
 use writing::write_fields;
 ghost use mathlib.Core.Path.{_≡_};
@@ -22,6 +22,7 @@ ghost use Rattle.canonical.specs.Canonical.{onProof, canonical, turnedAw
 ghost use Rattle.canonical.specs.Refinement.{Read};
 
 mod mentions;
+pub mod nodes;
 mod tables;
 mod writing;
 

@@ -16,7 +16,8 @@ ghost use mathlib.Core.List.{[], _∷_, map};
 ghost use Prim.Native.Nat.{ℕ, _≤_, _<_};
 ghost use lib.ListN.{length, take, getD};
 ghost use Rattle.form.specs.Mentions.{setsOf, relationsOf, placeIn};
-ghost use Rattle.canonical.specs.Refinement.{setRun, relationRun, membersIn, Leasts, nameIn, heldIn, Listing, After, Read, Numbers};
+ghost use Rattle.canonical.specs.Nodes.{nameIn, heldIn};
+ghost use Rattle.canonical.specs.Refinement.{setRun, relationRun, membersIn, Leasts, Listing, After, Read, Numbers};
 ghost use Rattle.semantics.specs.Derivations.{Derivation};
 ghost use Rattle.derivation.specs.Reading.{proof, readProof};
 

@@ -14,7 +14,7 @@ use Rattle.writer.specs.Packing.{part, widthOf, bytesFor, packed}
 use Rattle.writer.proofs.Holding.{Holds, Fitting}
 use Rattle.writer.proofs.Packed.{width-append, fitting-append, holds-append, length-packed, packed-holds, packed-ends}
 use Rattle.states.specs.Sets.{capacity}
-use Rattle.semantics.specs.Derivations.{Derivation, nodes}
+use Rattle.semantics.specs.Derivations.{Derivation, nodes, levels}
 use Rattle.derivation.specs.declared.TablesEnd.the-variants.{Counts}
 use Rattle.derivation.specs.Tables.{mostTables, setAt, rowAt, tablesThere, isCount, tablesHead, relationsRead, setsRead, tablesAt}
 use Rattle.derivation.specs.Nodes.{wholeNode}
@@ -26,7 +26,6 @@ use Rattle.derivation.proofs.NodesRead.{bits-most}
 use Rattle.form.specs.Members.{setMembers, relationMembers}
 use Rattle.form.specs.Mentions.{inOrder, isIn}
 use Rattle.form.specs.Form.{partsOf, fileParts}
-use Rattle.form.proofs.Levels.{levels}
 use Rattle.form.proofs.NodesBack.{width-nodes, nodes-fit, nodes-back}
 
 -- Where the tables end and the root begins.

@@ -1,5 +1,5 @@
--- What a proof file that is read without fault shows besides its nodes and tables: that there is a state, how many levels there are, where
--- the root begins, and how long the file is.
+-- What a proof file that is read without fault shows besides its nodes and tables: that there is a state, where the root begins, and
+-- how long the file is.
 use Prim.Native.Nat.{ℕ, _+_, _*_, _^_, _≤_, _<_}
 use mathlib.Core.Bool.{Bool, true, false, cond, _&&_, and-eq-true-iff}
 use mathlib.Core.List.{List}
@@ -14,6 +14,7 @@ use Rattle.bits.specs.Fields.{bitLength, fieldAt, firstSet, fillBits, furtherBy
 use Rattle.bits.specs.declared.Field.{Field}
 use Rattle.bits.specs.declared.Field.the-variants.{Value, Missing}
 use Rattle.bits.specs.declared.Fill.the-variants.{Ends, Wrong}
+use Rattle.bits.proofs.Places.{either}
 use Rattle.writer.specs.Packing.{bytesFor, packed}
 use Rattle.writer.proofs.Packed.{length-packed}
 use Rattle.states.specs.Sets.{capacity}
@@ -27,8 +28,8 @@ use Rattle.derivation.specs.Reading.{proof, readProof}
 use Rattle.derivation.proofs.Counts.{row-small}
 use Rattle.derivation.proofs.NodesRead.{read, bits-most}
 use Rattle.derivation.proofs.Files.{counted, stages, read-known}
+use Rattle.derivation.proofs.Places.{end-inside}
 use Rattle.form.specs.Form.{fileParts}
-use Rattle.form.proofs.Levels.{levels, either-way, levels-read, end-inside}
 use Rattle.form.proofs.FileBack.{root-at, width-file}
 
 -- Where no further byte is found, the file ends at that bit or before.
@@ -68,11 +69,11 @@ module _ (bytes : List ℕ) (n : ℕ) where
       second : (sets : ℕ) (f : Field) → SomeState (relationsRead bytes n sets f)
       second sets Missing = tt
       second sets (Value relations next) =
-          either-way SomeState (isCount relations) (state-there sets relations (tablesThere bytes n sets relations) refl) tt
+          either SomeState (isCount relations) _ _ (state-there sets relations (tablesThere bytes n sets relations) refl) tt
 
       first : (f : Field) → SomeState (setsRead bytes n f)
       first Missing = tt
-      first (Value sets next) = either-way SomeState (isCount sets) (second sets (fieldAt bytes 5 5)) tt
+      first (Value sets next) = either SomeState (isCount sets) _ _ (second sets (fieldAt bytes 5 5)) tt
 
   -- A proof file that is read without fault.
   module _ (sets relations root : ℕ) (d : Derivation) (e : readProof bytes n ≡ proof sets relations root d) where
@@ -85,19 +86,13 @@ module _ (bytes : List ℕ) (n : ℕ) where
     pub read-root : root ≡ rowAt n sets relations 0
     read-root = counted bytes n _ (stages bytes n sets relations root d e .tables) .at-root
 
-    pub levels-most : levels d ≤ 24
-    unfolding wholeNode
-    levels-most =
-        let s = stages bytes n sets relations root d e in
-        omega (arith, levels-read bytes sets relations 25 0 root d (s .count) (s .next) (s .nodes-read))
-
     -- How many bytes it has.
     pub read-length : length bytes ≡ bytesFor (10 + n * sets + n * n * relations + nodeBits d)
     unfolding wholeNode
     read-length =
         let s = stages bytes n sets relations root d e in
         let end = read bytes sets relations 25 0 root d (s .count) (s .next) (s .nodes-read) in
-        let inside = end-inside bytes sets relations 25 0 root d (s .count) (s .next) (s .nodes-read) in
+        let inside = end-inside bytes n _ d s in
         let end-at : s .next ≡ 10 + n * sets + n * n * relations + nodeBits d =
         omega (arith, end .ended, read-root, root-at n sets relations)
         in

@@ -1,89 +1,124 @@
--- What holds of the form of a proof file that is read without fault: it is read over the same N, with the same rules over tables with the
--- same members; it is no longer than the file; files that agree in rules and members have one form, and no others have it.
-use Prim.Native.Nat.{ℕ, zero, suc, _+_, _*_, _/_, _%_, _≤_, _<_}
+-- What holds of the form of a derivation, and of a proof file that is read without fault: it is read over the same N, with the same rules
+-- over tables with the same members; the form of a file is no longer than the file; files that agree in rules and members have one form, and
+-- no others have it.
+use Prim.Native.Nat.{ℕ, _+_, _*_, _/_, _%_, _^_, _≤_, _<_}
 use mathlib.Core.Bool.{Bool, true, false}
 use mathlib.Core.List.{List}
 use mathlib.Core.Path.{_≡_, refl, sym, _∙_, ap}
-use native.Mathlib.Nat.{mod-lt, div-add-mod, div-lt-iff-lt-mul}
+use native.Mathlib.Nat.{mod-lt, div-lt-iff-lt-mul}
 use native.Mathlib.Omega.{arith}
 use borrow.Author.Tests.{eqb-true, eqb-false}
 use lib.Dec.{eqb}
 use lib.ListN.{length, getD}
 use Rattle.bits.specs.Fields.{bitAt}
 use Rattle.bits.proofs.Laws.{bit-below, bits-agree}
+use Rattle.states.specs.Sets.{capacity}
 use Rattle.semantics.specs.Language.{Stmt}
 use Rattle.semantics.specs.States.{Machine}
-use Rattle.semantics.specs.Derivations.{Derivation, nodes}
+use Rattle.semantics.specs.Derivations.{Derivation, nodes, levels}
 use Rattle.semantics.specs.Checking.{firstFault}
-use Rattle.derivation.specs.Tables.{setAt, rowAt, inSetOf, inRelationOf}
+use Rattle.derivation.specs.Tables.{mostTables, setAt, rowAt, inSetOf, inRelationOf}
 use Rattle.derivation.specs.NodeTable.{nodeBits}
 use Rattle.derivation.specs.Reading.{proof, readProof}
 use Rattle.derivation.proofs.Files.{read-known}
 use Rattle.form.specs.Members.{setMembers, relationMembers, byMembers}
+use Rattle.form.specs.Mentions.{setsOf, relationsOf, inOrder, placeIn}
 use Rattle.form.specs.Form.{setsIn, relationsIn, numbered, formOf}
+use Rattle.form.proofs.Mentions.{All}
 use Rattle.form.proofs.EveryName.{known-every}
-use Rattle.form.proofs.Renaming.{rename-agree, nodes-rename, nodeBits-rename}
-use Rattle.form.proofs.Numbered.{filled, numbered-known, some-set, some-relation, no-more-sets, no-more-relations}
+use Rattle.form.proofs.Renaming.{rename-agree, nodes-rename, levels-rename, nodeBits-rename}
+use Rattle.form.proofs.Numbered.{filled, numbered-known, all-sets-in, all-relations-in, some-set, some-relation, no-more-sets, no-more-relations}
 use Rattle.form.proofs.Numbered as Numbered
-use Rattle.form.proofs.Verdicts.{same-members, fileTables, pair-at, pair-below, files-fault}
-use Rattle.form.proofs.Levels.{levels, levels-rename}
+use Rattle.form.proofs.Verdicts.{same-members, memberTables, fileTables, pair-at, pair-below, some-row, pair-of, members-fault, files-fault}
 use Rattle.form.proofs.FileBack.{Encodable, fitting-in, file-back, set-back, relation-back}
-use Rattle.form.proofs.FileRead.{states-least, states-most, levels-most, no-longer}
+use Rattle.form.proofs.FileRead.{states-least, states-most, no-longer}
 
--- The derivation by its members, and by the numbers of the form, has the levels, the nodes and the node bits of the one that was read.
-module _ (bytes : List ℕ) (n sets : ℕ) (d : Derivation) where
-  abbrev members : Derivation
-  members = byMembers bytes n sets d
+-- A derivation with each table by its members that a proof file over n states has room for.
+pub record Writable (n : ℕ) (x : Derivation) : Type 0 where
+  pub states-least : 1 ≤ n
+  pub states-most : n ≤ capacity
+  pub sets-most : length (setsIn x) ≤ mostTables
+  pub relations-most : length (relationsIn x) ≤ mostTables
+  pub sets-fit : All (λ v. v < 2 ^ n) (inOrder setsOf x)
+  pub relations-fit : All (λ v. v < 2 ^ (n * n)) (inOrder relationsOf x)
+  pub nodes-most : nodes x ≤ 127
+  pub levels-most : levels x ≤ 24
 
-  same-levels : levels (numbered members) ≡ levels d
-  unfolding numbered byMembers
-  same-levels = levels-rename _ _ members ∙ levels-rename _ _ d
+module _ (n : ℕ) (x : Derivation) (w : Writable n x) where
+  pub any-encodable : Encodable n (setsIn x) (relationsIn x) (numbered x)
+  unfolding numbered
+  any-encodable = record {
+    states-least = w .states-least;
+    states-most = w .states-most;
+    sets-least = some-set x;
+    sets-most = w .sets-most;
+    relations-least = some-relation x;
+    relations-most = w .relations-most;
+    sets-fit = fitting-in n (setsIn x) (all-sets-in x (λ v. v < 2 ^ n) (w .sets-fit));
+    relations-fit = fitting-in (n * n) (relationsIn x) (all-relations-in x (λ v. v < 2 ^ (n * n)) (w .relations-fit));
+    known = numbered-known x;
+    nodes-most = rw (nodes-rename (placeIn (setsIn x)) (placeIn (relationsIn x)) x) (w .nodes-most);
+    levels-most = rw (levels-rename (placeIn (setsIn x)) (placeIn (relationsIn x)) x) (w .levels-most);
+  }
 
-  same-nodes : nodes (numbered members) ≡ nodes d
-  unfolding numbered byMembers
-  same-nodes = nodes-rename _ _ members ∙ nodes-rename _ _ d
+  -- Its form is read over the same N, without fault: the tables that the nodes name, once each, and the derivation with their numbers.
+  pub any-read : readProof (formOf n x) n
+      ≡ proof (length (setsIn x)) (length (relationsIn x)) (rowAt n (length (setsIn x)) (length (relationsIn x)) 0) (numbered x)
+  unfolding formOf
+  any-read = file-back n (setsIn x) (relationsIn x) (numbered x) any-encodable
 
-  same-bits : nodeBits (numbered members) ≡ nodeBits d
-  unfolding numbered byMembers
-  same-bits = nodeBits-rename _ _ members ∙ nodeBits-rename _ _ d
+  -- By its members the derivation that is read is the one that was written.
+  pub any-members : byMembers (formOf n x) n (length (setsIn x)) (numbered x) ≡ x
+  unfolding byMembers formOf
+  any-members =
+      rename-agree _ _ (λ i. getD (setsIn x) i 0) (λ r. getD (relationsIn x) r 0) (numbered x)
+      (known-every (length (setsIn x)) (length (relationsIn x)) _ _ (set-back n _ _ _ any-encodable) (relation-back n _ _ _ any-encodable)
+      (numbered x) (numbered-known x))
+      ∙ filled x
+
+-- Under the check the form has the first fault of the derivation, or none if that has none.
+pub any-fault : (m : Machine) (x : Derivation) → Writable (m .states) x → (S : Stmt) (k : ℕ)
+    → firstFault (fileTables m (formOf (m .states) x) (length (setsIn x))) (numbered x) S k ≡ firstFault (memberTables m) x S k
+any-fault m x w S k =
+    members-fault m (formOf (m .states) x) (length (setsIn x)) (numbered x) S k
+    ∙ ap (λ d. firstFault (memberTables m) d S k) (any-members (m .states) x w)
 
 -- A proof file over n states that is read without fault.
 module _ (bytes : List ℕ) (n sets relations root : ℕ) (d : Derivation) (e : readProof bytes n ≡ proof sets relations root d) where
   abbrev x : Derivation
   x = byMembers bytes n sets d
 
-  -- Its form has room for its tables and its nodes.
-  pub encodable : Encodable n (setsIn x) (relationsIn x) (numbered x)
-  encodable =
+  -- There is room for its derivation.
+  pub writable : Writable n x
+  unfolding byMembers
+  writable =
       let shown = read-known bytes n sets relations root d e in
       record {
         states-least = states-least bytes n sets relations root d e;
         states-most = states-most bytes n sets relations root d e;
-        sets-least = some-set x;
         sets-most = omega (arith, shown .sets-most, no-more-sets bytes n sets relations d (shown .known));
-        relations-least = some-relation x;
         relations-most = omega (arith, shown .relations-most, no-more-relations bytes n sets relations d (shown .known));
-        sets-fit = fitting-in n (setsIn x) (Numbered.sets-fit bytes n sets d);
-        relations-fit = fitting-in (n * n) (relationsIn x) (Numbered.relations-fit bytes n sets d);
-        known = numbered-known x;
-        nodes-most = rw (same-nodes bytes n sets d) (shown .nodes-most);
-        levels-most = rw (same-levels bytes n sets d) (levels-most bytes n sets relations root d e);
+        sets-fit = Numbered.sets-fit bytes n sets d;
+        relations-fit = Numbered.relations-fit bytes n sets d;
+        nodes-most = rw (nodes-rename (setMembers bytes n) (relationMembers bytes n sets) d) (shown .nodes-most);
+        levels-most = rw (levels-rename (setMembers bytes n) (relationMembers bytes n sets) d) (shown .levels-most);
       }
 
-  -- The form is read over the same N, without fault: the tables that the nodes name, once each, and the derivation with their numbers.
+  pub encodable : Encodable n (setsIn x) (relationsIn x) (numbered x)
+  encodable = any-encodable n x writable
+
+  -- Its form is read with the same rules over tables with the same members.
   pub form-read : readProof (formOf n x) n
       ≡ proof (length (setsIn x)) (length (relationsIn x)) (rowAt n (length (setsIn x)) (length (relationsIn x)) 0) (numbered x)
-  unfolding formOf
-  form-read = file-back n (setsIn x) (relationsIn x) (numbered x) encodable
+  form-read = any-read n x writable
 
-  -- By its members the derivation of the form is that of the file: the same rules over tables with the same members.
   pub form-members : byMembers (formOf n x) n (length (setsIn x)) (numbered x) ≡ x
-  unfolding byMembers formOf
-  form-members =
-      rename-agree _ _ (λ i. getD (setsIn x) i 0) (λ r. getD (relationsIn x) r 0) (numbered x)
-      (known-every (length (setsIn x)) (length (relationsIn x)) _ _ (set-back n _ _ _ encodable) (relation-back n _ _ _ encodable)
-      (numbered x) (numbered-known x))
-      ∙ filled x
+  form-members = any-members n x writable
+
+  -- The derivation with the numbers of the form has the node bits of the one that was read.
+  same-bits : nodeBits (numbered x) ≡ nodeBits d
+  unfolding numbered byMembers
+  same-bits = nodeBits-rename _ _ x ∙ nodeBits-rename _ _ d
 
   -- The form is no longer than the file.
   pub form-length : length (formOf n x) ≤ length bytes
@@ -91,7 +126,7 @@ module _ (bytes : List ℕ) (n sets relations root : ℕ) (d : Derivation) (e : 
   form-length =
       let known = read-known bytes n sets relations root d e .known in
       no-longer bytes n sets relations root d e (setsIn x) (relationsIn x) (numbered x) (no-more-sets bytes n sets relations d known)
-      (no-more-relations bytes n sets relations d known) (omega (arith, same-bits bytes n sets d))
+      (no-more-relations bytes n sets relations d known) (omega (arith, same-bits))
 
   -- The form of the form is the form.
   pub form-again : formOf n (byMembers (formOf n x) n (length (setsIn x)) (numbered x)) ≡ formOf n x
@@ -138,14 +173,6 @@ module _ (a b : List ℕ) (n i j : ℕ) where
   pub set-alike : ((s : ℕ) → s < n → inSetOf a n i s ≡ inSetOf b n j s) → setMembers a n i ≡ setMembers b n j
   unfolding setMembers inSetOf
   set-alike same = bits-agree a b (setAt n i) (setAt n j) n (λ s under. bit-alike a b _ _ (same s under))
-
--- A bit of a relation is that of a pair.
-some-row : (n k : ℕ) → k < n * n → 0 < n
-some-row zero k under = absurd (omega arith)
-some-row (suc n) k under = omega arith
-
-pair-of : (n sets r k : ℕ) → rowAt n sets r 0 + k ≡ rowAt n sets r (k / n) + k % n
-pair-of n sets r k = ap (λ i. rowAt n sets r 0 + i) (sym (div-add-mod k n)) ∙ sym (pair-at n sets r (k / n) (k % n))
 
 -- The numbers of two relations are equal exactly if the relations have the same pairs.
 module _ (a b : List ℕ) (n setsA setsB i j : ℕ) where

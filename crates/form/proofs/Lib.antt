@@ -5,7 +5,7 @@ pub mod Renaming
 pub mod Numbered
 pub mod Represented
 pub mod Verdicts
-pub mod Levels
+pub mod Where
 pub mod NodesBack
 pub mod FileBack
 pub mod FileRead

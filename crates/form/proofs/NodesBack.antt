@@ -14,7 +14,7 @@ use Rattle.writer.specs.Packing.{part, widthOf}
 use Rattle.writer.proofs.Holding.{Holds, Fitting}
 use Rattle.writer.proofs.Packed.{width-append, fitting-append, holds-append}
 use Rattle.semantics.specs.declared.Names.{Names}
-use Rattle.semantics.specs.Derivations.{Derivation, skip, assignment, sequence, parallel, conditional, iteration, weaken, namesOf, nodes}
+use Rattle.semantics.specs.Derivations.{Derivation, skip, assignment, sequence, parallel, conditional, iteration, weaken, namesOf, nodes, levels}
 use Rattle.derivation.specs.declared.Node.{Node}
 use Rattle.derivation.specs.Tables.{mostTables}
 use Rattle.derivation.specs.Nodes.{NodeRead, whole, onChild, onLeftNode, onNodeHead, nodeAt}
@@ -24,7 +24,6 @@ use Rattle.derivation.proofs.Heads.{Named, named-there}
 use Rattle.derivation.proofs.NodeTable.{Known, names-known}
 use Rattle.form.specs.Mentions.{inOrder, rootNode}
 use Rattle.form.specs.Form.{partsOf}
-use Rattle.form.proofs.Levels.{levels}
 
 -- A derivation's fields take the bits that are counted.
 pub width-nodes : (d : Derivation) → widthOf (inOrder partsOf d) ≡ nodeBits d

@@ -64,12 +64,10 @@ module _ (bytes : List ℕ) (n sets relations : ℕ) (d : Derivation) (known : K
 
 -- Members are numbers of n bits for a set, and of n * n bits for a relation.
 module _ (bytes : List ℕ) (n sets : ℕ) (d : Derivation) where
-  pub sets-fit : All (λ v. v < 2 ^ n) (setsIn (byMembers bytes n sets d))
+  pub sets-fit : All (λ v. v < 2 ^ n) (inOrder setsOf (byMembers bytes n sets d))
   unfolding byMembers setMembers
-  sets-fit = all-sets-in _ (λ v. v < 2 ^ n) (all-sets-renamed _ _ d (λ v. v < 2 ^ n) (λ i h. bits-below bytes (setAt n i) n))
+  sets-fit = all-sets-renamed _ _ d (λ v. v < 2 ^ n) (λ i h. bits-below bytes (setAt n i) n)
 
-  pub relations-fit : All (λ v. v < 2 ^ (n * n)) (relationsIn (byMembers bytes n sets d))
+  pub relations-fit : All (λ v. v < 2 ^ (n * n)) (inOrder relationsOf (byMembers bytes n sets d))
   unfolding byMembers relationMembers
-  relations-fit =
-      all-relations-in _ (λ v. v < 2 ^ (n * n))
-      (all-relations-renamed _ _ d (λ v. v < 2 ^ (n * n)) (λ r h. bits-below bytes (rowAt n sets r 0) (n * n)))
+  relations-fit = all-relations-renamed _ _ d (λ v. v < 2 ^ (n * n)) (λ r h. bits-below bytes (rowAt n sets r 0) (n * n))

@@ -1,22 +1,18 @@
--- Laws of other names for the tables of a derivation: two renamings are one, only the tables that are named matter, and nodes, mentions and
--- fields are those of the derivation under the new names.
+-- Laws of other names for the tables of a derivation: two renamings are one, only the tables that are named matter, and nodes, levels, mentions
+-- and fields are those of the derivation under the new names.
 use Prim.Native.Nat.{ℕ, _<_}
 use mathlib.Core.List.{List, _++_, map, map-append}
 use mathlib.Core.Path.{_≡_, refl, sym, _∙_, ap, ap₂, subst}
 use Rattle.semantics.specs.declared.Names.{Names}
-use Rattle.semantics.specs.Derivations.{Derivation, skip, assignment, sequence, parallel, conditional, iteration, weaken, namesOf, nodes}
+use Rattle.semantics.specs.Derivations.{Derivation, skip, assignment, sequence, parallel, conditional, iteration, weaken, namesOf, nodes, levels}
 use Rattle.derivation.specs.declared.Node.{Node}
 use Rattle.derivation.specs.NodeTable.{nodeBits}
 use Rattle.derivation.proofs.NodeTable.{Known}
-use Rattle.form.specs.Members.{namesBy, rename}
+use Rattle.form.specs.Members.{namesBy, nodeBy, rename}
 use Rattle.form.specs.Mentions.{setsOf, relationsOf, rootNode, inOrder}
 use Rattle.form.specs.Form.{partsOf}
 use Rattle.form.proofs.Mentions.{All, all-map}
 use Rattle.form.proofs.EveryName.{OwnNames, EveryName, every-name, every-known}
-
--- A node under other names.
-abbrev pub nodeBy : (ℕ → ℕ) → (ℕ → ℕ) → Node → Node
-nodeBy f g x = record { rule = x .rule; names = namesBy f g (x .names); k = f (x .k); w = g (x .w); after = x .after; bit = x .bit }
 
 -- Two renamings, one after the other, are one.
 module _ (f g f′ g′ : ℕ → ℕ) where
@@ -83,6 +79,16 @@ module _ (f g : ℕ → ℕ) where
   nodes-rename (conditional h d) = rw (nodes-rename d)
   nodes-rename (iteration h K W d) = rw (nodes-rename d)
   nodes-rename (weaken h d) = rw (nodes-rename d)
+
+  pub levels-rename : (d : Derivation) → levels (rename f g d) ≡ levels d
+  unfolding rename
+  levels-rename (skip h) = refl
+  levels-rename (assignment h) = refl
+  levels-rename (sequence h l r) = rw (levels-rename l, levels-rename r)
+  levels-rename (parallel h l r) = rw (levels-rename l, levels-rename r)
+  levels-rename (conditional h d) = rw (levels-rename d)
+  levels-rename (iteration h K W d) = rw (levels-rename d)
+  levels-rename (weaken h d) = rw (levels-rename d)
 
   pub nodeBits-rename : (d : Derivation) → nodeBits (rename f g d) ≡ nodeBits d
   unfolding rename

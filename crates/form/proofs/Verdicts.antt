@@ -1,9 +1,9 @@
 -- The first fault depends on the members of the tables only, not on their names.
-use Prim.Native.Nat.{ℕ, suc, _+_, _-_, _*_, _/_, _%_, _^_, _<_}
+use Prim.Native.Nat.{ℕ, zero, suc, _+_, _-_, _*_, _/_, _%_, _^_, _<_}
 use mathlib.Core.Bool.{Bool, true, false, _&&_}
 use mathlib.Core.List.{List}
 use mathlib.Core.Path.{_≡_, refl, sym, _∙_, ap, ap₂, fun-ext}
-use native.Mathlib.Nat.{mul-comm}
+use native.Mathlib.Nat.{mul-comm, div-add-mod}
 use native.Mathlib.Omega.{arith}
 use borrow.Author.Tests.{ltb-true}
 use lib.Arith.{digits-lt, digits-div}
@@ -119,8 +119,16 @@ pair-at n sets r s u = omega arith
 pub pair-below : (n s u : ℕ) → s < n → u < n → n * s + u < n * n
 pair-below n s u a b = rw (mul-comm n s) (digits-lt a b)
 
+-- Bit k of a relation is that of a pair.
+pub some-row : (n k : ℕ) → k < n * n → 0 < n
+some-row zero k under = absurd (omega arith)
+some-row (suc n) k under = omega arith
+
+pub pair-of : (n sets r k : ℕ) → rowAt n sets r 0 + k ≡ rowAt n sets r (k / n) + k % n
+pair-of n sets r k = ap (λ i. rowAt n sets r 0 + i) (sym (div-add-mod k n)) ∙ sym (pair-at n sets r (k / n) (k % n))
+
 -- A test is looked at only where those before it hold.
-guarded : (a b c : Bool) → (a ≡ true → b ≡ c) → (a && b) ≡ (a && c)
+pub guarded : (a b c : Bool) → (a ≡ true → b ≡ c) → (a && b) ≡ (a && c)
 guarded true b c e = e refl
 guarded false b c e = refl
 
@@ -144,6 +152,14 @@ module _ (m : Machine) (bytes : List ℕ) (sets : ℕ) where
   unfolding byMembers
   members-fault d =
       named-fault (fileTables m bytes sets) (memberTables m .sets) (memberTables m .relations) _ _ d
+      (every-name _ _ d (λ i h. set-by-members i) (λ r h. relation-by-members r))
+
+  -- The tables of the root.
+  pub members-spec : (d : Derivation)
+      → specOf (fileTables m bytes sets) (namesOf d) ≡ specOf (memberTables m) (namesOf (byMembers bytes n sets d))
+  unfolding byMembers
+  members-spec d =
+      root-spec (fileTables m bytes sets) (memberTables m .sets) (memberTables m .relations) _ _ d
       (every-name _ _ d (λ i h. set-by-members i) (λ r h. relation-by-members r))
 
 -- Two proof files over one machine, whose derivations agree by members, have the same first fault.

@@ -1,11 +1,11 @@
--- Worked examples: fields within a byte and across a border, fields that do not fit, and a file of three fields.
-use Prim.Native.Nat.{ℕ}
+-- Worked examples: fields within a byte and across a border, fields that do not fit, files of fields, copied bits and cleared bytes.
+use Prim.Native.Nat.{ℕ, _-_, _^_}
 use mathlib.Core.List.{List, [], _∷_}
 use mathlib.Core.Path.{_≡_, refl}
 use Rattle.bits.specs.Fields.{bitAt, bitsAt, isThere, fieldAt}
 use Rattle.bits.specs.declared.Field.the-variants.{Value}
-use Rattle.writer.specs.Writing.{withBit, putBit, putBits, putField}
-use Rattle.writer.specs.Packing.{part, widthOf, putParts, bytesFor, packed}
+use Rattle.writer.specs.Writing.{withBit, putBit, putBits, putField, hasRoom, copied, cleared}
+use Rattle.writer.specs.Packing.{part, widthOf, putParts, putAll, bytesFor, packed}
 
 -- Bits 2 to 4 of a byte, and three bits across the border of two bytes; the neighbours stay.
 pub bits-put :
@@ -35,3 +35,27 @@ written-read = refl
 pub packed-cases : (packed (part 3 1 ∷ part 5 2 ∷ part 2 3 ∷ []) ≡ 0x22 ∷ 0xc0 ∷ []) × (packed [] ≡ [])
 unfolding packed putParts widthOf bytesFor putBits putBit withBit
 packed-cases = (refl, refl)
+
+-- Bits across a border; bits past the end of the file, which are 0.
+pub bits-copied : (copied (0xff ∷ 0xff ∷ []) 6 (0x28 ∷ []) 2 3 ≡ 0xfe ∷ 0xff ∷ []) × (copied (0x00 ∷ []) 0 (0xff ∷ []) 4 8 ≡ 0xf0 ∷ [])
+unfolding copied hasRoom putBits putBit withBit bitsAt bitAt
+bits-copied = (refl, refl)
+
+-- Bits up to the end of the bytes and one bit past it; bits of which a usize can number the end, and of which it cannot.
+pub copied-or-not :
+    (copied (0x00 ∷ []) 0 (0xff ∷ []) 0 8 ≡ 0xff ∷ []) × (copied (0x00 ∷ []) 1 (0xff ∷ []) 0 8 ≡ 0x00 ∷ [])
+    × (copied (0xff ∷ []) 0 [] (2 ^ 64 - 5) 4 ≡ 0x0f ∷ []) × (copied (0xff ∷ []) 0 [] (2 ^ 64 - 4) 4 ≡ 0xff ∷ [])
+unfolding copied hasRoom putBits putBit withBit bitsAt bitAt
+copied-or-not = (refl, refl, refl, refl)
+
+-- Two bytes of three, and three of two.
+pub bytes-cleared : (cleared (1 ∷ 2 ∷ 3 ∷ []) 2 ≡ 0 ∷ 0 ∷ 3 ∷ []) × (cleared (1 ∷ 2 ∷ []) 3 ≡ 0 ∷ 0 ∷ [])
+unfolding cleared
+bytes-cleared = (refl, refl)
+
+-- Fields of 3 and 5 bits, of the first of which the last bits are written; one bit too far nothing is.
+pub all-or-none :
+    (putAll (0x00 ∷ 0x00 ∷ []) 4 (part 3 9 ∷ part 5 2 ∷ []) ≡ 0x02 ∷ 0x20 ∷ [])
+    × (putAll (0x00 ∷ 0x00 ∷ []) 9 (part 3 9 ∷ part 5 2 ∷ []) ≡ 0x00 ∷ 0x00 ∷ [])
+unfolding putAll hasRoom putParts widthOf putBits putBit withBit
+all-or-none = (refl, refl)

@@ -1,13 +1,13 @@
 -- Laws of writing, for the proofs here and for callers: the bits that are written are read back, and every other bit stays. Bytes may be
 -- any numbers.
 use Prim.Native.Nat.{ℕ, zero, suc, _+_, _-_, _*_, _/_, _%_, _^_, _≤_, _<_}
-use mathlib.Core.Bool.{Bool, true, false}
+use mathlib.Core.Bool.{Bool, true, false, and-eq-true-iff}
 use mathlib.Core.List.{List, _++_}
 use mathlib.Core.Path.{_≡_, refl, sym, ap, _∙_}
 use native.Mathlib.Nat.{add-zero, add-suc, add-assoc, div-one, mod-lt, mod-eq-of-lt}
 use native.Mathlib.Numerals.{add-one, one-add}
 use native.Mathlib.Omega.{arith}
-use borrow.Author.Tests.{ltb-true, ltb-false, eqb-true, eqb-false}
+use borrow.Author.Tests.{ltb-true, ltb-false, eqb-true, eqb-false, leb-true, le-leb, lt-ltb}
 use lib.Dec.{ltb, eqb}
 use lib.ListN.{length, getD, set, length-set, List·getD-append}
 use lib.Pow.{high, low, pow-pos, shr-shr, field, mod-mod-pow, mod-pow-add}
@@ -16,7 +16,7 @@ use Rattle.bits.specs.Fields.{bitAt, bitsAt, isThere, fieldAt}
 use Rattle.bits.specs.declared.Field.the-variants.{Value}
 use Rattle.bits.proofs.Laws.{bits-agree, in-full, is-there, found}
 use Rattle.bits.proofs.Places.{either}
-use Rattle.writer.specs.Writing.{withBit, putBit, putBits, putField}
+use Rattle.writer.specs.Writing.{withBit, putBit, putBits, putField, hasRoom}
 
 -- Numbers with the same last k bits have the same bit j below k.
 low-bit : (x y j k : ℕ) → j < k → x % 2 ^ k ≡ y % 2 ^ k → x / 2 ^ j % 2 ≡ y / 2 ^ j % 2
@@ -171,6 +171,15 @@ put-append s rest at zero v inside = refl
 put-append s rest at (suc w) v inside =
     ap (λ l. putBit l (at + w) (v % 2)) (put-append s rest at w (v / 2) (omega arith))
     ∙ put-bit-append (putBits s at w (v / 2)) (at + w) (v % 2) rest (omega (arith, length-put s at w (v / 2)))
+
+-- Where there is room.
+pub has-room : (s : List ℕ) (at w : ℕ) → at + w ≤ 8 * length s → at + w < 2 ^ 64 → hasRoom s at w ≡ true
+unfolding hasRoom
+has-room s at w inside fits = rw (le-leb (at + w) (8 * length s) inside, lt-ltb (at + w) (2 ^ 64) fits)
+
+pub in-room : (s : List ℕ) (at w : ℕ) → hasRoom s at w ≡ true → (at + w ≤ 8 * length s) × (at + w < 2 ^ 64)
+unfolding hasRoom
+in-room s at w e = let tests = simp and-eq-true-iff at e in (leb-true _ _ (tests .0), ltb-true _ _ (tests .1))
 
 -- A field that fits is written.
 pub field-put : (s : List ℕ) (at w v : ℕ) → 1 ≤ w → w ≤ 64 → at + w ≤ 8 * length s → at + w < 2 ^ 64 → putField s at w v ≡ putBits s at w v

@@ -1,5 +1,6 @@
 pub mod Holding
 pub mod Laws
 pub mod Bytes
+pub mod Copied
 pub mod Packed
 pub mod Cases

@@ -1,22 +1,23 @@
 -- Laws of files given by their fields: fields written one after the other are all read back, they are one wide field, and a packed file
 -- ends as a file must.
-use Prim.Native.Nat.{ℕ, zero, suc, _+_, _*_, _/_, _^_, _≤_, _<_}
+use Prim.Native.Nat.{ℕ, zero, suc, _+_, _*_, _/_, _%_, _^_, _≤_, _<_}
 use mathlib.Core.List.{List, [], _∷_, _++_}
 use mathlib.Core.Option.{none}
 use mathlib.Core.Path.{_≡_, refl, sym, _∙_}
-use native.Mathlib.Nat.{add-zero, add-assoc, zero-add, zero-div, mod-eq-of-lt}
+use native.Mathlib.Nat.{add-zero, add-assoc, zero-add, zero-div, mod-lt, mod-eq-of-lt}
 use native.Mathlib.Omega.{arith}
-use borrow.Author.Tests.{le-ltb}
+use borrow.Author.Tests.{le-ltb, le-leb}
 use lib.Arith.{digits-div, digits-mod, digits-lt}
 use lib.ListN.{length, getD, replicate, length-replicate}
-use lib.Pow.{pow-add}
-use Rattle.bits.specs.Fields.{bitAt, bitsAt, firstSet, fillBits, furtherByte, fillFrom, fillAt}
+use lib.Pow.{pow-add, pow-pos}
+use Rattle.bits.specs.Fields.{bitAt, bitsAt, isThere, firstSet, fillBits, furtherByte, fillFrom, fillAt}
 use Rattle.bits.specs.declared.Fill.the-variants.{Ends}
 use Rattle.bits.proofs.Laws.{bits-agree}
-use Rattle.writer.specs.Writing.{putBits}
-use Rattle.writer.specs.Packing.{Part, widthOf, putParts, bytesFor, packed}
+use Rattle.bits.proofs.Places.{either}
+use Rattle.writer.specs.Writing.{putBits, putField, hasRoom}
+use Rattle.writer.specs.Packing.{Part, widthOf, putParts, putAll, bytesFor, packed}
 use Rattle.writer.proofs.Holding.{Holds, Fitting}
-use Rattle.writer.proofs.Laws.{length-put, put-read, put-before, put-after, put-join, put-append}
+use Rattle.writer.proofs.Laws.{length-put, put-read, put-before, put-after, put-low, put-join, put-append, has-room}
 
 pub width-append : (ps qs : List Part) → widthOf (ps ++ qs) ≡ widthOf ps + widthOf qs
 unfolding widthOf
@@ -65,28 +66,45 @@ parts-front s rest at (p ∷ ps) inside =
     rw (put-append s rest at (p .width) (p .value) (omega arith))
     (parts-front first rest (at + p .width) ps (omega (arith, length-put s at (p .width) (p .value))))
 
--- The value of the fields as one wide field.
+-- The value of the fields as one wide field: each has the last bits of its own value.
 unfoldable pub valueOf : List Part → ℕ
 valueOf [] = 0
-valueOf (p ∷ rest) = p .value * 2 ^ widthOf rest + valueOf rest
+valueOf (p ∷ rest) = p .value % 2 ^ p .width * 2 ^ widthOf rest + valueOf rest
 
-pub value-below : (ps : List Part) → Fitting ps → valueOf ps < 2 ^ widthOf ps
-unfolding Fitting valueOf widthOf
-value-below [] f = omega arith
-value-below (p ∷ ps) f = rw (pow-add 2 (p .width) (widthOf ps)) (digits-lt (f .0) (value-below ps (f .1)))
+pub value-below : (ps : List Part) → valueOf ps < 2 ^ widthOf ps
+unfolding valueOf widthOf
+value-below [] = omega arith
+value-below (p ∷ ps) =
+    rw (pow-add 2 (p .width) (widthOf ps)) (digits-lt (mod-lt (p .value) (pow-pos (p .width))) (value-below ps))
 
 -- Fields written one after the other are one wide field.
-pub joined : (s : List ℕ) (at : ℕ) (ps : List Part) → Fitting ps → putParts s at ps ≡ putBits s at (widthOf ps) (valueOf ps)
-unfolding Fitting valueOf widthOf putParts putBits
-joined s at [] f = refl
-joined s at (p ∷ ps) f =
-    let small = value-below ps (f .1) in
+pub joined : (s : List ℕ) (at : ℕ) (ps : List Part) → putParts s at ps ≡ putBits s at (widthOf ps) (valueOf ps)
+unfolding valueOf widthOf putParts putBits
+joined s at [] = refl
+joined s at (p ∷ ps) =
+    let first = p .value % 2 ^ p .width in
     rw (
-      joined (putBits s at (p .width) (p .value)) (at + p .width) ps (f .1),
-      put-join s at (p .width) (widthOf ps) (p .value * 2 ^ widthOf ps + valueOf ps),
-      digits-div (p .value) small,
-      digits-mod (p .value) small,
+      joined (putBits s at (p .width) (p .value)) (at + p .width) ps,
+      put-join s at (p .width) (widthOf ps) (first * 2 ^ widthOf ps + valueOf ps),
+      digits-div first (value-below ps),
+      digits-mod first (value-below ps),
+      ← put-low s at (p .width) (p .value),
     )
+
+module _ (s : List ℕ) (at : ℕ) (ps : List Part) where
+  -- Fields that fit are all written.
+  pub all-fits : at + widthOf ps ≤ 8 * length s → at + widthOf ps < 2 ^ 64 → putAll s at ps ≡ putParts s at ps
+  unfolding putAll
+  all-fits inside fits = rw (has-room s at (widthOf ps) inside fits)
+
+  pub length-all : length (putAll s at ps) ≡ length s
+  unfolding putAll
+  length-all = either (λ l. length l ≡ length s) (hasRoom s at (widthOf ps)) _ s (length-parts s at ps) refl
+
+  -- Fields of 1 to 64 bits together are written as one.
+  pub all-joined : 1 ≤ widthOf ps → widthOf ps ≤ 64 → putField s at (widthOf ps) (valueOf ps) ≡ putAll s at ps
+  unfolding putField putAll isThere hasRoom
+  all-joined least most = rw (le-leb 1 (widthOf ps) least, le-leb (widthOf ps) 64 most, joined s at ps)
 
 -- All fields that were written are there.
 pub written-holds : (s : List ℕ) (at : ℕ) (ps : List Part) → Fitting ps → at + widthOf ps ≤ 8 * length s → Holds (putParts s at ps) at ps
@@ -130,24 +148,24 @@ unfolding bytesFor fillBits
 bytes-hold bits = omega arith
 
 module _ (ps : List Part) where
-  abbrev cleared : List ℕ
-  cleared = replicate (bytesFor (widthOf ps)) 0
+  abbrev zeros : List ℕ
+  zeros = replicate (bytesFor (widthOf ps)) 0
 
-  room : 0 + widthOf ps ≤ 8 * length cleared
+  room : 0 + widthOf ps ≤ 8 * length zeros
   room = omega (arith, bytes-hold (widthOf ps), length-replicate {A = ℕ} (bytesFor (widthOf ps)) 0)
 
   pub length-packed : length (packed ps) ≡ bytesFor (widthOf ps)
   unfolding packed
-  length-packed = length-parts cleared 0 ps ∙ length-replicate (bytesFor (widthOf ps)) 0
+  length-packed = length-parts zeros 0 ps ∙ length-replicate (bytesFor (widthOf ps)) 0
 
   pub packed-holds : Fitting ps → Holds (packed ps) 0 ps
   unfolding packed
-  packed-holds f = written-holds cleared 0 ps f room
+  packed-holds f = written-holds zeros 0 ps f room
 
   -- Writing the fields into cleared bytes gives the file; the bytes after it stay.
   pub packed-front : (rest : List ℕ) → putParts (replicate (bytesFor (widthOf ps)) 0 ++ rest) 0 ps ≡ packed ps ++ rest
   unfolding packed
-  packed-front rest = parts-front cleared rest 0 ps room
+  packed-front rest = parts-front zeros rest 0 ps room
 
   -- The fill bits are zero, and no further byte follows.
   pub packed-ends : fillAt (packed ps) (widthOf ps) ≡ Ends
@@ -155,7 +173,7 @@ module _ (ps : List Part) where
   packed-ends =
       let end = widthOf ps + fillBits (widthOf ps) in
       let clear : (j : ℕ) → widthOf ps ≤ j → bitAt (packed ps) j ≡ 0 =
-      λ j h. parts-after cleared 0 ps j (omega arith) ∙ cleared-bit (bytesFor (widthOf ps)) j
+      λ j h. parts-after zeros 0 ps j (omega arith) ∙ cleared-bit (bytesFor (widthOf ps)) j
       in
       let last : 8 * length (packed ps) ≤ end = omega (arith, bytes-hold (widthOf ps), length-packed) in
       rw (none-set (packed ps) (widthOf ps) (fillBits (widthOf ps)) clear) (rw (le-ltb end (8 * length (packed ps)) last))

@@ -1,29 +1,31 @@
 -- The length is that of the form; what is put into cleared bytes is the form, and the bytes past it stay.
-use Prim.Native.Nat.{_+_, _*_, _/_, _≤_}
+use Prim.Native.Nat.{_+_, _*_, _/_, min}
 use mathlib.Core.Path.{_≡_, sym, _∙_, ap, ap₂}
+use native.Mathlib.Nat.{min-eq-left}
 use native.Mathlib.Omega.{arith}
 use borrow.Author.Needs.{needs}
 use lib.ListN.{length, take, drop}
 use Rattle.writer.specs.Packing.{widthOf, putParts}
+use Rattle.writer.proofs.Copied.{cleared-within}
 use Rattle.semantics.specs.Derivations.{nodes}
 use Rattle.derivation.specs.NodeTable.{nodeTable}
 use Rattle.derivation.proofs.Files.{read-known}
 use Rattle.form.specs.Members.{byMembers}
 use Rattle.form.specs.Form.{setsIn, relationsIn, numbered, partsOf, fileParts}
 use Rattle.form.proofs.FileRead.{states-least, states-most}
-use Rattle.canonical.specs.Refinement.{heldIn, Numbers, partsIn}
-use Rattle.canonical.proofs.Numbered.{nodes-inside}
+use Rattle.canonical.specs.Nodes.{heldIn}
+use Rattle.canonical.specs.Refinement.{Numbers, partsIn}
 use Rattle.canonical.proofs.Fields.{parts-are, width-is, length-is, form-put}
 use Rattle.canonical.proofs.Outcomes.{no-room, with-room}
 use Rattle.canonical.proofs.write_read.Statement.{statement}
 use Rattle.canonical.proofs.write_read.Tie as tie
 
 -- The words of the nodes are those of the derivation that was read.
-words : (c : tie.Start) → take (c .args .head .nodes) (c .args .nodes .now) ≡ take (nodes (c .pre .d)) (nodeTable (c .args .head .root) (c .pre .d))
-words c = ap₂ take (c .pre .counted) (c .pre .table)
-
-inside : (c : tie.Start) → c .args .head .nodes ≤ length (c .args .nodes .now)
-inside c = rw (c .pre .counted, c .pre .table) (nodes-inside _ (c .pre .d))
+words : (c : tie.Start) →
+    take (min (c .args .head .nodes) 127) (c .args .nodes .now) ≡ take (nodes (c .pre .d)) (nodeTable (c .args .head .root) (c .pre .d))
+words c =
+    let few = read-known _ _ _ _ _ _ (c .pre .read) .nodes-most in
+    ap₂ take (min-eq-left (rw (c .pre .counted) few) ∙ c .pre .counted) (c .pre .table)
 
 numbers : (c : tie.After-number) → let start = c .before .before .before .before .before in let a = start .args in
     Numbers (a .proof .now) (a .n) (a .head .sets) (start .pre .d) (c .number .result)
@@ -31,18 +33,11 @@ numbers c = let start = c .before .before .before .before .before in c .number .
 
 form-bits-requires : tie.Need-form-bits-requires
 form-bits-requires c κs =
-    let start = c .before .before .before .before .before in
-    let shown = read-known _ _ _ _ _ _ (start .pre .read) in (
-      states-most _ _ _ _ _ _ (start .pre .read),
-      numbers c .of-sets .most,
-      numbers c .of-relations .most,
-      inside start,
-      rw (start .pre .counted) (shown .nodes-most),
-    )
+    (states-most _ _ _ _ _ _ (c .before .before .before .before .before .pre .read), numbers c .of-sets .most, numbers c .of-relations .most)
 
 -- The fields that are written, and how many bits they have.
 parts : (c : tie.After-number) → let start = c .before .before .before .before .before in let a = start .args in let x = byMembers (a .proof .now) (a .n) (a .head .sets) (start .pre .d) in
-    partsIn (a .proof .now) (a .n) (a .head .sets) (c .number .result) (take (a .head .nodes) (a .nodes .now))
+    partsIn (a .proof .now) (a .n) (a .head .sets) (c .number .result) (take (min (a .head .nodes) 127) (a .nodes .now))
     ≡ fileParts (a .n) (setsIn x) (relationsIn x) (numbered x)
 parts c =
     let start = c .before .before .before .before .before in
@@ -76,7 +71,6 @@ write-fields-requires c κs =
     let width = ap widthOf (parts (f .before)) ∙ sym (bits f) in
     let enough = c .before .before .before .before .before .before .if1 .left in (
       (states-least _ _ _ _ _ _ read, states-most _ _ _ _ _ _ read, shown .sets-most, numbers (f .before) .of-sets .most, numbers (f .before) .of-relations .most),
-      inside start,
       (rw width (omega arith), rw width (omega (arith, f .form-bits .ensures .1))),
     )
 
@@ -85,9 +79,10 @@ returns-2 c =
     let start = c .before .before .before .before .before .before .before .before .before .before .before .before .before .before .before .before in
     let f = c .before .before .before .before .before .before .before .before .before .before in
     let a = start .args in
+    let enough = c .before .before .before .before .before .before .before .before .before .if1 .left in
     let is-length = length-is _ _ _ _ _ (start .pre .d) (start .pre .read) _ (numbers (f .before)) _ (bits f) in
-    let answer = with-room _ _ _ _ _ (start .pre .d) (start .pre .read) (a .out .now) _ is-length (c .before .before .before .before .before .before .before .before .before .if1 .left) in
-    let cleared = c .before .before .before .before .before .before .before .clear .ensures in
+    let answer = with-room _ _ _ _ _ (start .pre .d) (start .pre .read) (a .out .now) _ is-length enough in
+    let cleared = c .before .before .before .before .before .before .before .clear .ensures ∙ cleared-within (a .out .now) _ enough in
     let put = form-put _ _ _ _ _ (start .pre .d) (start .pre .read) _ (numbers (f .before)) _ (drop ((f .form-bits .result + 7) / 8) (a .out .now)) is-length in (
       answer .0,
       c .before .before .write-fields .ensures

@@ -1,6 +1,6 @@
 use mathlib.Core.Path.{refl}
 use borrow.Author.Needs.{needs}
-use Rattle.canonical.specs.Refinement.{nameIn}
+use Rattle.canonical.specs.Nodes.{nameIn}
 use Rattle.canonical.proofs.mentions.name_in.Statement.{statement}
 use Rattle.canonical.proofs.mentions.name_in.Tie as tie
 

@@ -5,7 +5,7 @@ use native.Mathlib.Omega.{arith}
 use borrow.Author.Needs.{needs}
 use lib.ListN.{length, take, getD, length-set}
 use Rattle.form.specs.Mentions.{placeIn}
-use Rattle.canonical.specs.Refinement.{nameIn}
+use Rattle.canonical.specs.Nodes.{nameIn}
 use Rattle.canonical.proofs.Equal.{entry-more}
 use Rattle.canonical.proofs.mentions.names_of.Statement.{statement}
 use Rattle.canonical.proofs.mentions.names_of.Tie as tie

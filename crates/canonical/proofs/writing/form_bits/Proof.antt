@@ -1,9 +1,8 @@
 -- With so few states, tables and nodes no product and no sum is large.
-use Prim.Native.Nat.{_*_, _≤_}
+use Prim.Native.Nat.{_*_, _≤_, min}
 use native.Mathlib.Omega.{arith}
 use borrow.Author.Needs.{needs}
-use lib.ListN.{take}
-use lib.Seq.{length-take-le}
+use lib.ListN.{take, length-take}
 use Rattle.canonical.proofs.Bounds.{few-bits}
 use Rattle.canonical.proofs.Copying.{nodes-most}
 use Rattle.canonical.proofs.writing.form_bits.Statement.{statement}
@@ -16,9 +15,8 @@ small c = few-bits (c .args .n) (c .args .m .sets .count) (c .args .m .relations
 few : (c : tie.After-nodes-width) → c .nodes-width .result ≤ 3429
 few c =
     let a = c .before .before .before .before .before .before .args in
-    let most = nodes-most (take (a .count) (a .nodes .now)) in
-    let long = length-take-le (a .count) (a .nodes .now) (omega arith) in
-    omega (arith, c .nodes-width .ensures, most, long)
+    let words = take (min (a .count) 127) (a .nodes .now) in
+    omega (arith, c .nodes-width .ensures, nodes-most words, length-take (min (a .count) 127) (a .nodes .now))
 
 returns : tie.Need-returns
 returns c =

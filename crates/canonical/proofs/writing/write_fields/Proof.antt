@@ -1,15 +1,18 @@
 -- The counts, the sets, the relations and the nodes are written one after the other, each where the one before ends.
-use Prim.Native.Nat.{ℕ, _+_, _*_, _≤_}
+use Prim.Native.Nat.{ℕ, _+_, _*_, _≤_, min}
 use mathlib.Core.List.{List}
 use mathlib.Core.Path.{_≡_, _∙_}
 use native.Mathlib.Omega.{arith}
 use borrow.Author.Needs.{needs}
 use lib.ListN.{length, take}
-use Rattle.writer.specs.Packing.{widthOf}
+use Rattle.writer.specs.Packing.{Part, widthOf, putParts, putAll}
+use Rattle.writer.proofs.Packed.{all-fits}
 use Rattle.form.specs.Form.{partsOf}
-use Rattle.canonical.specs.Refinement.{setRun, relationRun, Within, Room, partsIn, heldIn}
+use Rattle.canonical.specs.Nodes.{heldIn}
+use Rattle.canonical.specs.Refinement.{setRun, relationRun, Within, Room, partsIn}
 use Rattle.canonical.specs.declared.Run.{Run}
 use Rattle.canonical.proofs.Bounds.{few-bits}
+use Rattle.canonical.proofs.NodeFields.{renamedParts, held-width}
 use Rattle.canonical.proofs.Copying.{width-fields, fields-written}
 use Rattle.canonical.proofs.writing.write_fields.Statement.{statement}
 use Rattle.canonical.proofs.writing.write_fields.Tie as tie
@@ -22,8 +25,8 @@ small : (c : tie.Start) → let a = c .args in
 small c = few-bits (c .args .n) (c .args .m .sets .count) (c .args .m .relations .count) (search needs) (search needs) (search needs)
 
 width : (c : tie.Start) → let a = c .args in
-    widthOf (partsIn (a .src .now) (a .n) (a .tables) (a .m) (take (a .count) (a .nodes .now)))
-    ≡ 10 + a .n * a .m .sets .count + a .n * a .n * a .m .relations .count + widthOf (heldIn partsOf (take (a .count) (a .nodes .now)))
+    widthOf (partsIn (a .src .now) (a .n) (a .tables) (a .m) (take (min (a .count) 127) (a .nodes .now)))
+    ≡ 10 + a .n * a .m .sets .count + a .n * a .n * a .m .relations .count + widthOf (heldIn partsOf (take (min (a .count) 127) (a .nodes .now)))
 width c = width-fields _ _ _ _ _ (omega (arith, full c)) (omega (arith, full c))
 
 -- Each step has room in bytes of the same length.
@@ -41,9 +44,18 @@ module _ (c : tie.Start) (out : List ℕ) (same : length out ≡ length (c .args
   relation-room run is =
       rw is ((omega (arith, few-tables), omega (arith, small c)), search needs, (omega (arith, width c), omega (arith, width c)))
 
-  node-room : Room out (10 + c .args .n * c .args .m .sets .count + c .args .n * c .args .n * c .args .m .relations .count)
-      (widthOf (heldIn partsOf (take (c .args .count) (c .args .nodes .now))))
-  node-room = (omega (arith, width c), omega (arith, width c))
+  -- The nodes fit too, so they are all written.
+  abbrev words : List ℕ
+  words = take (min (c .args .count) 127) (c .args .nodes .now)
+
+  abbrev nodeParts : List Part
+  nodeParts = heldIn (renamedParts (c .args .m .sets .names) (c .args .m .relations .names)) words
+
+  nodes-put : let at = 10 + c .args .n * c .args .m .sets .count + c .args .n * c .args .n * c .args .m .relations .count in
+      putAll out at nodeParts ≡ putParts out at nodeParts
+  nodes-put =
+      let same-width = held-width (c .args .m .sets .names) (c .args .m .relations .names) words in
+      all-fits out _ nodeParts (omega (arith, width c, same-width)) (omega (arith, width c, same-width))
 
 -- The start, from where the counts, the sets or the relations have been written.
 abbrev before-counts : tie.After-out → tie.Start
@@ -67,15 +79,6 @@ write-named-requires-2 c κs =
     let same = sets .out2 .given ∙ counts .out .given in
     relation-room (before-counts counts) (sets .before .write-named .last .1 .1 .1 .0) same _ (c .before .relation-run .ensures)
 
-write-nodes-requires : tie.Need-write-nodes-requires
-write-nodes-requires c κs =
-    let relations = c .before .before .before .before .before .before in
-    let sets = before-relations relations in
-    let counts = before-sets sets in
-    let start = before-counts counts in
-    let same = relations .out3 .given ∙ sets .out2 .given ∙ counts .out .given in
-    (start .pre .1, node-room start (relations .before .write-named2 .last .1 .1 .1 .0) same)
-
 returns : tie.Need-returns
 returns c =
     let nodes = c .before .before in
@@ -86,11 +89,13 @@ returns c =
     let a = start .args in
     let second = relations .before in
     let first = sets .before in
+    let same = relations .out3 .given ∙ sets .out2 .given ∙ counts .out .given in
+    let put = nodes-put start (second .write-named2 .last .1 .1 .1 .0) same in
     fields-written
-    (a .src .now) (a .n) (a .tables) (a .m) (take (a .count) (a .nodes .now)) (omega (arith, full start)) (omega (arith, full start))
+    (a .src .now) (a .n) (a .tables) (a .m) (take (min (a .count) 127) (a .nodes .now)) (omega (arith, full start)) (omega (arith, full start))
     (a .out .now) _ _ _ _ _ _ (search needs) (search needs) (omega (arith, width start))
     (first .before .before .set-run .ensures) (second .before .before .relation-run .ensures)
-    (counts .before .put .ensures) (first .write-named .ensures) (second .write-named2 .ensures) (nodes .write-nodes .ensures)
+    (counts .before .put .ensures) (first .write-named .ensures) (second .write-named2 .ensures) (nodes .write-nodes .ensures ∙ put)
 
 pub write-fields-spec : {M : Type 1} → statement M
 write-fields-spec =
@@ -105,6 +110,6 @@ write-fields-spec =
     write-named-requires
     (λ c κs. search needs)
     write-named-requires-2
-    write-nodes-requires
+    (λ c κs. search needs)
     (λ c. search needs)
     returns)

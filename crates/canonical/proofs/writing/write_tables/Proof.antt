@@ -5,6 +5,7 @@ use native.Mathlib.Omega.{arith}
 use borrow.Author.Needs.{needs}
 use lib.ListN.{length}
 use Rattle.writer.specs.Packing.{putParts}
+use Rattle.writer.proofs.Copied.{copied-fits}
 use Rattle.writer.proofs.Packed.{length-parts}
 use Rattle.canonical.specs.Refinement.{membersIn, membersOf}
 use Rattle.canonical.proofs.Copying.{tableParts, tables-more, table-within}
@@ -34,20 +35,18 @@ room : (c : tie.After-struct-known Inv-loop μ-loop) →
     a .run .width * l .loop .k + a .run .width ≤ a .run .width * a .count
 room c = table-within _ _ _ (omega arith)
 
-copy-bits-requires : tie.Need-copy-bits-requires Inv-loop μ-loop
-copy-bits-requires c κs =
-    let k = kept (c .before .before .before .before .before) in
-    (c .before .before .table-cursor .ensures .1, search needs, (omega (arith, room c, k), omega (arith, room c)))
-
 loop-again : tie.Need-loop-again Inv-loop μ-loop
 unfolding membersIn
 loop-again c =
     let call = c .before .before in
-    let cursor = c .before .before .before .before .before in
+    let s = call .before in
+    let cursor = s .before .before in
     let l = cursor .before .before .before in
-    let a = l .before .before .before .before .args in (
+    let a = l .before .before .before .before .args in
+    let fits = copied-fits (l .loop .out) (a .at + a .run .width * l .loop .k) (a .src .now) (cursor .table-cursor .result) (a .run .width)
+    (omega (arith, room s, kept l)) (omega (arith, room s)) (omega (arith, cursor .table-cursor .ensures .1)) in (
       omega arith,
-      call .copy-bits .ensures ∙ rw (cursor .table-cursor .ensures .0, l .loop .inv .1)
+      call .copy .ensures ∙ rw (fits, cursor .table-cursor .ensures .0, l .loop .inv .1)
           (tables-more (a .src .now) (a .run) (a .order .now) (a .out .now) (a .at) (l .loop .k) (omega arith)),
     )
 
@@ -65,7 +64,7 @@ write-tables-spec =
     loop-holds
     (λ c. search needs) (λ c. search needs) (λ c κs. search needs)
     (λ c. omega (arith, room c)) (λ c. omega (arith, room c))
-    copy-bits-requires
+    (λ c κs. search needs)
     (λ c. search needs) (λ c. search needs)
     loop-again
     (λ c. kept (c .before))

@@ -5,11 +5,11 @@ use native.Mathlib.Omega.{arith}
 use borrow.Author.Needs.{needs}
 use lib.ListN.{length}
 use Rattle.bits.specs.Fields.{bitsAt}
 use Rattle.writer.specs.Writing.{putBits}
 use Rattle.writer.proofs.Laws.{length-put}
-use Rattle.canonical.proofs.Copying.{copy-more}
-use Rattle.canonical.proofs.writing.copy_bits.Statement.{statement}
-use Rattle.canonical.proofs.writing.copy_bits.Tie as tie
+use Rattle.writer.proofs.Copied.{copy-more}
+use Rattle.writer.proofs.copy_bits.Statement.{statement}
+use Rattle.writer.proofs.copy_bits.Tie as tie
 
 abbrev Inv-loop : tie.InvT-loop
 Inv-loop src from out₀ to width done₀ out done = (done ≤ width) × (out ≡ putBits out₀ to done (bitsAt src from done))

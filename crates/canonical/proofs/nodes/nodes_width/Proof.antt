@@ -7,26 +7,26 @@ use lib.ListN.{take}
 use Rattle.writer.specs.Packing.{widthOf}
 use Rattle.derivation.specs.NodeTable.{nodeIn}
 use Rattle.form.specs.Form.{partsOf}
-use Rattle.canonical.specs.Refinement.{heldIn}
+use Rattle.canonical.specs.Nodes.{heldIn}
 use Rattle.canonical.proofs.Order.{held-none}
 use Rattle.canonical.proofs.NodeFields.{width-most, width-more}
-use Rattle.canonical.proofs.writing.nodes_width.Statement.{statement}
-use Rattle.canonical.proofs.writing.nodes_width.Tie as tie
+use Rattle.canonical.proofs.nodes.nodes_width.Statement.{statement}
+use Rattle.canonical.proofs.nodes.nodes_width.Tie as tie
 
 abbrev Inv-loop : tie.InvT-loop
-Inv-loop nodes count width₀ i₀ width i = (i ≤ count) × (width ≡ widthOf (heldIn partsOf (take i nodes))) × (width ≤ 27 * i)
+Inv-loop nodes count width₀ i₀ i-end width i = (i ≤ i-end) × (width ≡ widthOf (heldIn partsOf (take i nodes))) × (width ≤ 27 * i)
 
 abbrev μ-loop : tie.MeasureT-loop
-μ-loop nodes count width₀ i₀ width i = count - i
+μ-loop nodes count width₀ i₀ i-end width i = i-end - i
 
 loop-holds : tie.Need-loop-holds Inv-loop μ-loop
 unfolding widthOf
-loop-holds c = (omega arith, rw (held-none partsOf (c .before .args .nodes .now)), omega arith)
+loop-holds c = (omega arith, rw (held-none partsOf (c .before .before .args .nodes .now)), omega arith)
 
 -- The bits of the node of this round.
 added : (c : tie.After-node-width Inv-loop μ-loop) →
     let l = c .before .before .before in
-    c .node-width .result ≡ widthOf (partsOf (nodeIn (l .before .before .args .nodes .now) (l .loop .i)))
+    c .node-width .result ≡ widthOf (partsOf (nodeIn (l .before .before .before .args .nodes .now) (l .loop .i)))
 added c = c .node-width .ensures ∙ ap (λ x. widthOf (partsOf x)) (c .before .node-at .ensures)
 
 few : (c : tie.After-node-width Inv-loop μ-loop) → c .node-width .result ≤ 27
@@ -35,13 +35,14 @@ few c = rw (added c) (width-most _)
 loop-again : tie.Need-loop-again Inv-loop μ-loop
 loop-again c =
     let l = c .before .before .before in
-    let more = width-more (l .before .before .args .nodes .now) (l .loop .i) (omega arith) in
+    let more = width-more (l .before .before .before .args .nodes .now) (l .loop .i) (omega arith) in
     (omega arith, omega (arith, l .loop .inv .1, added c, more), omega (arith, few c, l .loop .inv .2))
 
 returns : tie.Need-returns Inv-loop μ-loop
 returns c =
-    let all : c .before .loop .i ≡ c .before .before .before .args .count = omega arith in
-    rw all at (c .before .loop .inv .1)
+    let n = c .before .before in
+    let all : c .before .loop .i ≡ n .node-count .result = omega arith in
+    rw (all, n .node-count .ensures .2) at (c .before .loop .inv .1)
 
 pub nodes-width-spec : {M : Type 1} → statement M
 nodes-width-spec =
@@ -49,6 +50,7 @@ nodes-width-spec =
     (tie.spec
     Inv-loop
     μ-loop
+    (λ c κs. search needs)
     loop-holds
     (λ c κs. search needs)
     (λ c κs. search needs)
