@@ -1,0 +1,193 @@
+-- What 94 asks of the result, from the counts that the code has; and the files of a result that passes no limit.
+use Prim.Native.Nat.{ℕ, suc, _+_, _-_, _^_, _≤_, _<_, max}
+use mathlib.Core.Bool.{Bool, true, false, _&&_}
+use mathlib.Core.List.{List}
+use mathlib.Core.Path.{_≡_, refl, sym, _∙_, ap, subst}
+use native.Mathlib.Omega.{arith}
+use borrow.Author.Tests.{le-leb, lt-leb, leb-true, leb-false}
+use lib.Dec.{leb}
+use lib.ListN.{length}
+use Rattle.writer.specs.Packing.{packed}
+use Rattle.states.proofs.Search.{and-left, and-right}
+use Rattle.semantics.specs.Language.{par}
+use Rattle.semantics.specs.StepNumber.{steps}
+use Rattle.semantics.specs.Derivations.{Derivation, nodes, levels}
+use Rattle.handler.specs.declared.HandlerSummary.{HandlerSummary}
+use Rattle.handler.specs.StatementTable.{statements, stmtLevels}
+use Rattle.derivation.specs.Tables.{mostTables}
+use Rattle.derivation.proofs.NodeTable.{Known}
+use Rattle.form.specs.Members.{setWhere, relationWhere}
+use Rattle.form.specs.Form.{setsIn, relationsIn, numbered, formOf}
+use Rattle.form.proofs.Numbered.{numbered-known}
+use Rattle.composition.specs.declared.forms.Form.{Form}
+use Rattle.composition.specs.declared.numbering.SetNumbers.{SetNumbers}
+use Rattle.composition.specs.declared.numbering.RelationNumbers.{RelationNumbers}
+use Rattle.composition.specs.Joining.{rootSpec, leftSpec, rightSpec, joined, handlerParts}
+use Rattle.composition.specs.Composing.{Side, Composition, made, refused, plain, asked, inLimits, limited, handlerFile, proofFile}
+use Rattle.composition.specs.Refinement.{Kept, SetsNumbered, RelationsNumbered, AllSmall, handlerFields, nodeParts, proofParts, filesOf, smallCounts, Ready}
+use Rattle.composition.proofs.Absorbed.{sets-joined, relations-joined}
+use Rattle.composition.proofs.JoinedNames.{FewTables, ResultSets, ResultRelations, numbered-joined}
+use Rattle.composition.proofs.JoinedParts.{NodesHeld, nodes-joined, levels-joined, joined-parts}
+use Rattle.composition.proofs.HandlerFields.{handler-fields}
+
+-- A count over 16 stands for a list that is longer than 16.
+kept-test : (held seen : List ℕ) (count : ℕ) → Kept held count seen → length held ≡ count → leb count 16 ≡ leb (length seen) 16
+kept-test held seen count k long = by (leb count 16) refl
+  where
+    by : (t : Bool) → leb count 16 ≡ t → t ≡ leb (length seen) 16
+    by true e = sym (le-leb (length seen) 16 (omega (arith, leb-true count 16 e, long, ap length (k .0 (leb-true count 16 e)))))
+    by false e = sym (lt-leb (length seen) 16 (k .1 (leb-false count 16 e)))
+
+pub few-tables : (s l n d s′ l′ n′ d′ p q : ℕ) → smallCounts s l n d s′ l′ n′ d′ p q ≡ true → (p ≤ 16) × (q ≤ 16)
+unfolding smallCounts
+few-tables s l n d s′ l′ n′ d′ p q e =
+    let four = leb (1 + s + s′) 63 && leb (suc (max l l′)) 16 && leb (3 + n + n′) 127 && leb (suc (suc (max d d′))) 24 in
+    (leb-true p 16 (and-right four (leb p 16) (and-left (four && leb p 16) (leb q 16) e)), leb-true q 16 (and-right (four && leb p 16) (leb q 16) e))
+
+module _ (n : ℕ) (A B : Side) (a b : HandlerSummary) (f g : Form) (words others : List ℕ) (ra : Ready n A a f words) (rb : Ready n B b g others)
+    (m : SetNumbers) (k : RelationNumbers) (S T : List ℕ) where
+  abbrev x : Derivation
+  x = A .derivation
+
+  abbrev y : Derivation
+  y = B .derivation
+
+  abbrev D : Derivation
+  D = joined n (A .tables) (B .tables) x y
+
+  abbrev pub HeldSets : List ℕ → Type 0
+  HeldSets held = SetsNumbered (setWhere n (rootSpec n (A .tables) (B .tables) .P)) (setsIn x) (setsIn y) held m
+
+  abbrev pub HeldRelations : List ℕ → Type 0
+  HeldRelations held = RelationsNumbered
+      (relationWhere n (rootSpec n (A .tables) (B .tables) .R)) (relationWhere n (rootSpec n (A .tables) (B .tables) .G)) (relationWhere n (rootSpec n (A .tables) (B .tables) .Q))
+      (relationWhere n (leftSpec n (A .tables) (B .tables) .R)) (relationWhere n (leftSpec n (A .tables) (B .tables) .G)) (relationWhere n (leftSpec n (A .tables) (B .tables) .Q)) (relationsIn x)
+      (relationWhere n (rightSpec n (A .tables) (B .tables) .R)) (relationWhere n (rightSpec n (A .tables) (B .tables) .G)) (relationWhere n (rightSpec n (A .tables) (B .tables) .Q)) (relationsIn y)
+      held k
+
+  module _ (sets : HeldSets S) (relations : HeldRelations T) (long-S : length S ≡ m .count) (long-T : length T ≡ k .right .count) where
+    kept-S : Kept S (m .count) (setsIn D)
+    kept-S = subst (Kept S (m .count)) (sym (sets-joined n (A .tables) (B .tables) x y)) (sets .kept)
+
+    kept-T : Kept T (k .right .count) (relationsIn D)
+    kept-T = subst (Kept T (k .right .count)) (sym (relations-joined n (A .tables) (B .tables) x y)) (relations .kept)
+
+    abbrev small : Bool
+    small = smallCounts (a .statements) (a .levels) (f .head .nodes) (f .head .levels) (b .statements) (b .levels) (g .head .nodes) (g .head .levels)
+        (m .count) (k .right .count)
+
+    abbrev counts : Bool
+    counts =
+        leb (statements (par (A .statement) (B .statement))) 63 && leb (stmtLevels (par (A .statement) (B .statement))) 16
+        && leb (nodes D) 127 && leb (levels D) 24 && leb (length (setsIn D)) 16 && leb (length (relationsIn D)) 16
+
+    nodes-are : 3 + f .head .nodes + g .head .nodes ≡ nodes D
+    nodes-are = (λ i. 3 + ra .of-form .node-count i + rb .of-form .node-count i) ∙ sym (nodes-joined n (A .tables) (B .tables) x y)
+
+    levels-are : suc (suc (max (f .head .levels) (g .head .levels))) ≡ levels D
+    levels-are =
+        (λ i. suc (suc (max (ra .of-form .level-count i) (rb .of-form .level-count i)))) ∙ sym (levels-joined n (A .tables) (B .tables) x y)
+
+    small-is : small ≡ counts
+    unfolding smallCounts
+    small-is = λ i.
+        leb (1 + ra .of-handler .statements-are i + rb .of-handler .statements-are i) 63
+        && leb (suc (max (ra .of-handler .levels-are i) (rb .of-handler .levels-are i))) 16
+        && leb (nodes-are i) 127 && leb (levels-are i) 24
+        && kept-test S (setsIn D) (m .count) kept-S long-S i && kept-test T (relationsIn D) (k .right .count) kept-T long-T i
+
+    -- 94 without the lengths and the step number.
+    module _ (h h′ : List ℕ) where
+      limits-are : inLimits h h′ A B
+          ≡ (small && leb (length (handlerFile h h′ A B)) 16384 && leb (length (proofFile h h′ A B)) 16384
+          && leb (steps n (par (A .statement) (B .statement))) (2 ^ 32 - 1))
+      unfolding inLimits
+      limits-are =
+          rw (← ra .states-are)
+          (λ i. sym small-is i && leb (length (packed (handlerParts h (A .at) (A .statement) h′ (B .at) (B .statement)))) 16384
+          && leb (length (formOf n D)) 16384 && leb (steps n (par (A .statement) (B .statement))) (2 ^ 32 - 1))
+
+      pub limited-not : small ≡ false → limited h h′ A B ≡ refused 0 (plain 94)
+      limited-not e = rw (limits-are, e)
+
+      -- Where no count is over its limit.
+      module _ (few : small ≡ true) where
+        rooms : (m .count ≤ 16) × (k .right .count ≤ 16)
+        rooms = few-tables _ _ _ _ _ _ _ _ (m .count) (k .right .count) few
+
+        room-S : m .count ≤ 16
+        room-S = rooms .0
+
+        room-T : k .right .count ≤ 16
+        room-T = rooms .1
+
+        is-S : S ≡ setsIn D
+        is-S = kept-S .0 room-S
+
+        is-T : T ≡ relationsIn D
+        is-T = kept-T .0 room-T
+
+        few-D : FewTables D
+        few-D = record {
+          sets-most = omega (arith, room-S, long-S, ap length is-S);
+          relations-most = omega (arith, room-T, long-T, ap length is-T);
+        }
+
+        few-x : FewTables x
+        few-x = record { sets-most = ra .room .sets-most; relations-most = ra .room .relations-most }
+
+        few-y : FewTables y
+        few-y = record { sets-most = rb .room .sets-most; relations-most = rb .room .relations-most }
+
+        all-sets : ResultSets n (A .tables) (B .tables) x y m
+        all-sets = subst HeldSets is-S sets
+
+        all-relations : ResultRelations n (A .tables) (B .tables) x y k
+        all-relations = subst HeldRelations is-T relations
+
+        -- The new nodes name relations of the result.
+        pub names-small : AllSmall k
+        names-small =
+            let known = subst (Known (length (setsIn D)) (length (relationsIn D)))
+            (numbered-joined n (A .tables) (B .tables) x y few-D few-x few-y m k all-sets all-relations room-S room-T) (numbered-known D)
+            in
+            let most = few-D .relations-most in
+            let root = known .0 in
+            let left = known .1 .0 in
+            let right = known .2 .0 in (
+              (omega (arith, root .R-below, most), omega (arith, root .G-below, most), omega (arith, root .Q-below, most)),
+              (omega (arith, left .R-below, most), omega (arith, left .G-below, most), omega (arith, left .Q-below, most)),
+              (omega (arith, right .R-below, most), omega (arith, right .G-below, most), omega (arith, right .Q-below, most)),
+            )
+
+        handler-is : packed (handlerParts h (A .at) (A .statement) h′ (B .at) (B .statement))
+            ≡ packed (handlerFields h (a .at) (a .end - a .at) h′ (b .at) (b .end - b .at))
+        handler-is =
+            let ha = ra .of-handler in
+            let hb = rb .of-handler in
+            (λ i. packed (handlerParts h (sym (ha .at-is) i) (A .statement) h′ (sym (hb .at-is) i) (B .statement)))
+            ∙ ap packed (sym (handler-fields h (a .at) (a .end) (A .statement) h′ (b .at) (b .end) (B .statement)
+            (omega (arith, ha .end-is, ha .at-is)) (omega (arith, hb .end-is, hb .at-is))))
+
+        proof-is : formOf n D ≡ packed (proofParts n S T (nodeParts k m f g))
+        unfolding formOf proofParts nodeParts
+        proof-is =
+            ap packed (joined-parts n (A .tables) (B .tables) x y f g
+            (record { few-tables = few-x; nodes-most = ra .room .nodes-most; node-count = ra .of-form .node-count; table-is = ra .of-form .table-is })
+            (record { few-tables = few-y; nodes-most = rb .room .nodes-most; node-count = rb .of-form .node-count; table-is = rb .of-form .table-is })
+            few-D m k all-sets all-relations room-S room-T)
+            ∙ (λ i. packed (proofParts n (sym is-S i) (sym is-T i) (nodeParts k m f g)))
+
+        steps-are : steps n (par (A .statement) (B .statement)) ≡ a .steps + b .steps + 1
+        steps-are = λ i. sym (ra .of-handler .steps-are) i + sym (rb .of-handler .steps-are) i + 1
+
+        abbrev answerOf : ℕ → List ℕ → List ℕ → Composition
+        answerOf number handler proof =
+            asked 94 (leb (length handler) 16384 && leb (length proof) 16384 && leb number (2 ^ 32 - 1)) (made number handler proof)
+
+        limited-by : limited h h′ A B
+            ≡ answerOf (steps n (par (A .statement) (B .statement))) (packed (handlerParts h (A .at) (A .statement) h′ (B .at) (B .statement))) (formOf n D)
+        limited-by = rw (limits-are, few, ← ra .states-are)
+
+        pub limited-is : limited h h′ A B ≡ filesOf n h a f h′ b g S m T k
+        limited-is = limited-by ∙ (λ i. answerOf (steps-are i) (handler-is i) (proof-is i))

@@ -1,0 +1,25 @@
+-- The same tests, with the sums in another order.
+use Prim.Native.Nat.{suc, _+_, max}
+use mathlib.Core.Bool.{_&&_}
+use mathlib.Core.Path.{_≡_, ap}
+use native.Mathlib.Omega.{arith}
+use borrow.Author.Needs.{needs}
+use lib.Dec.{leb}
+use Rattle.composition.specs.Refinement.{smallCounts}
+use Rattle.composition.proofs.joining.is_small.Statement.{statement}
+use Rattle.composition.proofs.joining.is_small.Tie as tie
+
+returns : tie.Need-returns
+unfolding smallCounts
+returns c =
+    let a = c .before .before .before .before .before .before .args in
+    let statements : a .a .statements + a .b .statements + 1 ≡ 1 + a .a .statements + a .b .statements = omega arith in
+    let levels : c .before .before .before .higher .result + 1 ≡ suc (max (a .a .levels) (a .b .levels)) = omega (arith, c .before .before .before .higher .ensures) in
+    let nodes : a .f .nodes + a .g .nodes + 3 ≡ 3 + a .f .nodes + a .g .nodes = omega arith in
+    let depth : c .higher2 .result + 2 ≡ suc (suc (max (a .f .levels) (a .g .levels))) = omega (arith, c .higher2 .ensures) in
+    λ i. leb (statements i) 63 && leb (levels i) 16 && leb (nodes i) 127 && leb (depth i) 24 && leb (a .sets) 16 && leb (a .relations) 16
+
+pub is-small-spec : {M : Type 1} → statement M
+is-small-spec =
+    tie.close
+    (tie.spec (λ c. search needs) (λ c. search needs) (λ c. search needs) (λ c. search needs) (λ c κs. search needs) (λ c. search needs) (λ c. search needs) (λ c. search needs) (λ c. search needs) (λ c. search needs) (λ c. search needs) (λ c κs. search needs) (λ c. search needs) (λ c. search needs) returns)

@@ -1,0 +1,178 @@
+-- docs/COMPOSITION.md, "What is turned away": 1, 2 of the first pair, 2 of the second, the first pair's own number, the second's, then 90
+-- to 95; and what is left in the buffers.
+use Prim.Native.Nat.{ℕ, _-_, _^_, _≤_}
+use mathlib.Core.Bool.{Bool, false, cond, _&&_, _||_}
+use mathlib.Core.List.{List, [], _++_}
+use mathlib.Core.Path.{_≡_}
+use lib.Dec.{leb, ltb, eqb}
+use lib.ListN.{length, take, drop, getD}
+use Rattle.writer.specs.Packing.{packed}
+use Rattle.states.specs.Search.{all, must, holds}
+use Rattle.semantics.specs.Language.{Stmt, nil, par}
+use Rattle.semantics.specs.States.{product}
+use Rattle.semantics.specs.StepNumber.{steps}
+use Rattle.semantics.specs.Derivations.{Derivation, skip, namesOf, nodes, levels, Spec, specOf}
+use Rattle.semantics.specs.Conditions.{inSet, relationLiesIn}
+use Rattle.handler.specs.Reading as Handlers
+use Rattle.handler.specs.StatementTable.{statements, stmtLevels}
+use Rattle.derivation.specs.Tables.{workWords, written}
+use Rattle.derivation.specs.Reading as Proofs
+use Rattle.search.specs.declared.Named.the-variants.{Nothing}
+use Rattle.checker.specs.declared.Place.the-variants.{Bit}
+use Rattle.checker.specs.declared.Fault.{Fault}
+use Rattle.checker.specs.declared.Verdict.{Verdict}
+use Rattle.checker.specs.declared.Verdict.the-variants.{Accepted, Refused}
+use Rattle.checker.specs.Verdicts.{tablesOf, answer}
+use Rattle.form.specs.Members.{byMembers}
+use Rattle.form.specs.Form.{setsIn, relationsIn, formOf}
+use Rattle.composition.specs.declared.Made.{Made}
+use Rattle.composition.specs.declared.Composed.{Composed}
+use Rattle.composition.specs.declared.Composed.the-variants as Composed
+use Rattle.composition.specs.Joining.{rootSpec, joined, handlerParts}
+
+-- What is taken from a pair of files: the sizes of its variables, the statement's first bit and the statement; over that N, the root's
+-- tables, and the derivation with each table by its members.
+pub record Side : Type 0 where
+  pub sizes : List ℕ
+  pub at : ℕ
+  pub statement : Stmt
+  pub tables : Spec
+  pub derivation : Derivation
+
+-- Of files that are not read nothing is taken.
+abbrev pub noSide : Side
+noSide = record {
+  sizes = [];
+  at = 0;
+  statement = nil;
+  tables = record { P = λ s. false; R = λ s t. false; G = λ s t. false; Q = λ s t. false };
+  derivation = skip (record { p = 0; r = 0; g = 0; q = 0 });
+}
+
+module _ (pb : List ℕ) where
+  abbrev pub onProof : List ℕ → ℕ → Stmt → Proofs.ProofRead → Side
+  onProof sizes at S (Proofs.refused k place) = noSide
+  onProof sizes at S (Proofs.proof sets relations root d) = record {
+    sizes = sizes;
+    at = at;
+    statement = S;
+    tables = specOf (tablesOf pb sizes sets) (namesOf d);
+    derivation = byMembers pb (product sizes) sets d;
+  }
+
+  abbrev pub onHandler : Handlers.HandlerRead → Side
+  onHandler (Handlers.refused k place) = noSide
+  onHandler (Handlers.handler sizes at S) = onProof sizes at S (Proofs.readProof pb (product sizes))
+
+unfoldable pub sideOf : List ℕ → List ℕ → Side
+sideOf hb pb = onHandler pb (Handlers.readHandler hb)
+
+-- The result: the step number, the handler file and the proof file; or the pair whose fault it is, 1 or 2, or 0 for neither, and the fault.
+pub data Composition : Type 0 where
+  made : ℕ → List ℕ → List ℕ → Composition
+  refused : ℕ → Fault → Composition
+
+-- A fault with no place of its own is at bit 0.
+abbrev pub plain : ℕ → Fault
+plain k = record { number = k; place = Bit 0; states = Nothing }
+
+-- What is asked of both pairs together: k, unless it holds.
+abbrev pub asked : ℕ → Bool → Composition → Composition
+asked k held next = cond held next (refused 0 (plain k))
+
+unfoldable pub sameSizes : List ℕ → List ℕ → Bool
+sameSizes a b = eqb (length a) (length b) && all (length a) (λ v. eqb (getD a v 0) (getD b v 0))
+
+-- Over two handler files and what is taken from both pairs.
+module _ (h h′ : List ℕ) (a b : Side) where
+  abbrev pub N : ℕ
+  N = product (a .sizes)
+
+  abbrev pub statement : Stmt
+  statement = par (a .statement) (b .statement)
+
+  abbrev pub derivation : Derivation
+  derivation = joined N (a .tables) (b .tables) (a .derivation) (b .derivation)
+
+  abbrev pub handlerFile : List ℕ
+  handlerFile = packed (handlerParts h (a .at) (a .statement) h′ (b .at) (b .statement))
+
+  abbrev pub proofFile : List ℕ
+  proofFile = formOf N derivation
+
+  -- 93, for one of both G: s in P, (s,t) in G: t in P.
+  unfoldable pub staysIn : (ℕ → ℕ → Bool) → Bool
+  staysIn G = let P = rootSpec N (a .tables) (b .tables) .P in holds (inSet N P (λ s. inSet N (G s) (λ t. must (P t))))
+
+  -- 94: the result is within every limit.
+  unfoldable pub inLimits : Bool
+  inLimits =
+      leb (statements statement) 63 && leb (stmtLevels statement) 16
+      && leb (nodes derivation) 127 && leb (levels derivation) 24
+      && leb (length (setsIn derivation)) 16 && leb (length (relationsIn derivation)) 16
+      && leb (length handlerFile) 16384 && leb (length proofFile) 16384
+      && leb (steps N statement) (2 ^ 32 - 1)
+
+  abbrev pub limited : Composition
+  limited = asked 94 inLimits (made (steps N statement) handlerFile proofFile)
+
+  -- 90 sizes differ, 91 the second G is not within the first R, 92 the first G not within the second R, 93 a pair of either G leads out
+  -- of the met P, 94 a limit is passed.
+  unfoldable pub composition : Composition
+  composition =
+      asked 90 (sameSizes (a .sizes) (b .sizes))
+      (asked 91 (relationLiesIn N (b .tables .G) (a .tables .R))
+      (asked 92 (relationLiesIn N (a .tables .G) (b .tables .R))
+      (asked 93 (staysIn (a .tables .G) && staysIn (b .tables .G)) limited)))
+
+-- A pair's own refusal, or what follows if it is accepted.
+abbrev pub ofPair : ℕ → Verdict → Composition → Composition
+ofPair pair (Refused f) next = refused pair f
+ofPair pair (Accepted k) next = next
+
+unfoldable pub tooLong : List ℕ → List ℕ → Bool
+tooLong hb pb = ltb 16384 (length hb) || ltb 16384 (length pb)
+
+-- Two pairs of files, h with p and h′ with p′.
+module _ (h p h′ p′ : List ℕ) where
+  -- The composition, with so many work words.
+  unfoldable pub compose : ℕ → Composition
+  compose words =
+      cond (ltb words workWords) (refused 0 (plain 1))
+      (cond (tooLong h p) (refused 1 (plain 2))
+      (cond (tooLong h′ p′) (refused 2 (plain 2))
+      (ofPair 1 (answer h p words .verdict)
+      (ofPair 2 (answer h′ p′ words .verdict) (composition h h′ (sideOf h p) (sideOf h′ p′))))))
+
+  -- The work words at exit: 1 and 2 write nothing, and otherwise the table words end as 0.
+  unfoldable pub workAfter : List ℕ → List ℕ
+  workAfter work =
+      cond (ltb (length work) workWords || tooLong h p || tooLong h′ p′) work (written (λ j. 0) work)
+
+-- 95: either output buffer is too short.
+unfoldable pub withRoom : Composition → ℕ → ℕ → Composition
+withRoom (refused pair f) room room′ = refused pair f
+withRoom (made k handler proof) room room′ = asked 95 (leb (length handler) room && leb (length proof) room′) (made k handler proof)
+
+-- The answer.
+abbrev pub composed : Composition → Composed
+composed (refused pair f) = Composed.Refused pair f
+composed (made k handler proof) = Composed.Made (record { steps = k; handler = length handler; proof = length proof })
+
+-- A file at the front of a buffer, whose bytes past it stay.
+abbrev pub atFront : List ℕ → List ℕ → List ℕ
+atFront file out = file ++ drop (length file) out
+
+-- Both output buffers at exit: a refusal leaves them untouched.
+abbrev pub handlerAfter : Composition → List ℕ → List ℕ
+handlerAfter (refused pair f) out = out
+handlerAfter (made k handler proof) out = atFront handler out
+
+abbrev pub proofAfter : Composition → List ℕ → List ℕ
+proofAfter (refused pair f) out = out
+proofAfter (made k handler proof) out = atFront proof out
+
+-- What is promised of files that were written: the check accepts them, with any 1,040 work words or more, and with this step number.
+pub record MadeIsAccepted (answered : Composed) (hout pout : List ℕ) : Type 0 where
+  pub always : (m : Made) → answered ≡ Composed.Made m → (words : ℕ) → workWords ≤ words
+      → answer (take (m .handler) hout) (take (m .proof) pout) words .verdict ≡ Accepted (m .steps)

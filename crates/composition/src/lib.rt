@@ -1,0 +1,134 @@
+// Two handlers on one core (docs/COMPOSITION.md): the parallel of two accepted pairs, with a proof of it.
+use checker::Fault;
+use checker::MOST_BYTES;
+use checker::Place;
+use checker::Verdict;
+use checker::WORK_WORDS;
+use checker::check;
+use derivation::words::clear;
+use pairs::compose_accepted;
+use search::Named;
+ghost use mathlib.Core.Bool.{false};
+ghost use mathlib.Core.Path.{_≡_};
+ghost use Prim.Native.Nat.{_≤_};
+ghost use lib.ListN.{length};
+ghost use Rattle.derivation.specs.Tables.{workWords, written};
+ghost use Rattle.composition.specs.declared.Composed.the-variants.{Refused};
+ghost use Rattle.composition.specs.Composing.{plain, tooLong, compose as composeOf, workAfter, composed, handlerAfter, proofAfter, withRoom, MadeIsAccepted};
+
+mod asking;
+mod forms;
+mod joining;
+mod numbering;
+mod pairs;
+mod pool;
+mod proof;
+mod tables;
+mod writing;
+
+// What was written: the step number of the parallel, and the length of each file.
+pub struct Made {
+    pub steps: u32,
+    pub handler: u32,
+    pub proof: u32,
+}
+
+// The result: what was written; or the fault for which nothing was, with the pair whose fault it is, 1 or 2, or 0 for neither.
+pub enum Composed {
+    Made(Made),
+    Refused(u32, Fault),
+}
+
+// A refusal at bit 0, with no states.
+fn refused(pair: u32, number: u32) -> Composed
+    ensures { λ r. ⌜ r ≡ Refused pair (plain number) ⌝ }
+{
+    Composed::Refused(
+        pair,
+        Fault {
+            number,
+            place: Place::Bit(0),
+            states: Named::Nothing,
+        },
+    )
+}
+
+// The numbers of the first refusals: too few work words, and a file that is over its length.
+const FEW_WORDS: u32 = 1;
+
+const LONG_FILE: u32 = 2;
+
+// Whether a file of a pair is over its length.
+fn too_long(handler: &[u8], proof: &[u8]) -> bool
+    ensures { λ r. ⌜ r ≡ tooLong (now (handler .entry)) (now (proof .entry)) ⌝ }
+{
+    (handler.len() > MOST_BYTES) | (proof.len() > MOST_BYTES)
+}
+
+// Both checks, and then the composition of what they accepted. The work words hold the tables of the pair that was checked last.
+fn compose_checked(
+    h1: &[u8],
+    p1: &[u8],
+    h2: &[u8],
+    p2: &[u8],
+    work: &mut [u64],
+    hout: &mut [u8],
+    pout: &mut [u8],
+) -> Composed
+    requires { ⌜ (workWords ≤ length (now work)) × (tooLong (now h1) (now p1) ≡ false) × (tooLong (now h2) (now p2) ≡ false) ⌝ }
+    ensures answer { λ r.
+        ⌜ r ≡ composed (withRoom (composeOf (now (h1 .entry)) (now (p1 .entry)) (now (h2 .entry)) (now (p2 .entry)) (length (now (work .entry))))
+        (length (now (hout .entry))) (length (now (pout .entry)))) ⌝ }
+    ensures words { λ _. ⌜ written (λ j. 0) (now (work .exit)) ≡ written (λ j. 0) (now (work .entry)) ⌝ }
+    ensures handler { λ _.
+        ⌜ now (hout .exit) ≡ handlerAfter (withRoom (composeOf (now (h1 .entry)) (now (p1 .entry)) (now (h2 .entry)) (now (p2 .entry))
+        (length (now (work .entry)))) (length (now (hout .entry))) (length (now (pout .entry)))) (now (hout .entry)) ⌝ }
+    ensures proof { λ _.
+        ⌜ now (pout .exit) ≡ proofAfter (withRoom (composeOf (now (h1 .entry)) (now (p1 .entry)) (now (h2 .entry)) (now (p2 .entry))
+        (length (now (work .entry)))) (length (now (hout .entry))) (length (now (pout .entry)))) (now (pout .entry)) ⌝ }
+{
+    match check(h1, p1, work) {
+        Verdict::Refused(fault) => Composed::Refused(1, fault),
+        Verdict::Accepted(steps) => match check(h2, p2, work) {
+            Verdict::Refused(fault) => Composed::Refused(2, fault),
+            Verdict::Accepted(more) => compose_accepted(h1, p1, h2, p2, hout, pout),
+        },
+    }
+}
+
+// The composition of two pairs of files, for all files and buffers: both files are written, or none. `MadeIsAccepted` is what is promised of
+// files that were written.
+pub fn compose(
+    h1: &[u8],
+    p1: &[u8],
+    h2: &[u8],
+    p2: &[u8],
+    work: &mut [u64],
+    hout: &mut [u8],
+    pout: &mut [u8],
+) -> Composed
+    ensures answer { λ r.
+        ⌜ r ≡ composed (withRoom (composeOf (now (h1 .entry)) (now (p1 .entry)) (now (h2 .entry)) (now (p2 .entry)) (length (now (work .entry))))
+        (length (now (hout .entry))) (length (now (pout .entry)))) ⌝ }
+    ensures words { λ _. ⌜ now (work .exit) ≡ workAfter (now (h1 .entry)) (now (p1 .entry)) (now (h2 .entry)) (now (p2 .entry)) (now (work .entry)) ⌝ }
+    ensures handler { λ _.
+        ⌜ now (hout .exit) ≡ handlerAfter (withRoom (composeOf (now (h1 .entry)) (now (p1 .entry)) (now (h2 .entry)) (now (p2 .entry))
+        (length (now (work .entry)))) (length (now (hout .entry))) (length (now (pout .entry)))) (now (hout .entry)) ⌝ }
+    ensures proof { λ _.
+        ⌜ now (pout .exit) ≡ proofAfter (withRoom (composeOf (now (h1 .entry)) (now (p1 .entry)) (now (h2 .entry)) (now (p2 .entry))
+        (length (now (work .entry)))) (length (now (hout .entry))) (length (now (pout .entry)))) (now (pout .entry)) ⌝ }
+    ensures accepted { λ r. ⌜ MadeIsAccepted r (now (hout .exit)) (now (pout .exit)) ⌝ }
+{
+    if work.len() < WORK_WORDS {
+        return refused(0, FEW_WORDS);
+    }
+    if too_long(h1, p1) {
+        return refused(1, LONG_FILE);
+    }
+    if too_long(h2, p2) {
+        return refused(2, LONG_FILE);
+    }
+    let answer = compose_checked(h1, p1, h2, p2, work, hout, pout);
+    clear(work);
+    answer
+}

@@ -1,0 +1,119 @@
+// Two accepted pairs: their handler files are read again, their proof files are brought into their one form, and what both are asked
+// together is tested.
+use crate::Composed;
+use crate::asking::same_sizes;
+use crate::asking::unmet;
+use crate::forms::load_form;
+use crate::joining::join;
+use crate::refused;
+use checker::WORK_WORDS;
+use handler::HandlerFound;
+use handler::HandlerSummary;
+use handler::reading::read_handler;
+ghost use mathlib.Core.Path.{_≡_};
+ghost use lib.ListN.{length};
+ghost use Rattle.handler.specs.declared.HandlerFound.the-variants.{Handler};
+ghost use Rattle.composition.specs.Composing.{sideOf, composition, composed, handlerAfter, proofAfter, withRoom};
+ghost use Rattle.composition.specs.Refinement.{WasAccepted, SameStates, metOf};
+
+// The sizes differ.
+const OTHER_SIZES: u32 = 90;
+
+// What was read of a handler file that has no fault.
+fn summary_of(found: HandlerFound) -> HandlerSummary
+    ensures { λ r. ⌜ ((w : HandlerSummary) → found ≡ Handler w → r ≡ w) ⌝ }
+{
+    match found {
+        HandlerFound::Handler(summary) => summary,
+        HandlerFound::Fault(_number, place) => HandlerSummary {
+            at: place,
+            end: place,
+            statements: 0,
+            levels: 0,
+            steps: 0,
+        },
+    }
+}
+
+// Over the same variables: 91 to 93, and then the files.
+fn compose_sides(
+    n: u32,
+    h1: &[u8],
+    p1: &[u8],
+    a: HandlerSummary,
+    h2: &[u8],
+    p2: &[u8],
+    b: HandlerSummary,
+    hout: &mut [u8],
+    pout: &mut [u8],
+) -> Composed
+    requires { ⌜ SameStates n (now h1) (now p1) a (now h2) (now p2) b ⌝ }
+    ensures answer { λ r.
+        ⌜ r ≡ composed (withRoom (metOf n (now (h1 .entry)) (now (h2 .entry)) (sideOf (now (h1 .entry)) (now (p1 .entry)))
+        (sideOf (now (h2 .entry)) (now (p2 .entry)))) (length (now (hout .entry))) (length (now (pout .entry)))) ⌝ }
+    ensures handler { λ _.
+        ⌜ now (hout .exit) ≡ handlerAfter (withRoom (metOf n (now (h1 .entry)) (now (h2 .entry)) (sideOf (now (h1 .entry)) (now (p1 .entry)))
+        (sideOf (now (h2 .entry)) (now (p2 .entry)))) (length (now (hout .entry))) (length (now (pout .entry)))) (now (hout .entry)) ⌝ }
+    ensures proof { λ _.
+        ⌜ now (pout .exit) ≡ proofAfter (withRoom (metOf n (now (h1 .entry)) (now (h2 .entry)) (sideOf (now (h1 .entry)) (now (p1 .entry)))
+        (sideOf (now (h2 .entry)) (now (p2 .entry)))) (length (now (hout .entry))) (length (now (pout .entry)))) (now (pout .entry)) ⌝ }
+{
+    let mut words = [0u64; WORK_WORDS];
+    let mut others = [0u64; WORK_WORDS];
+    let f = load_form(h1, p1, n, &mut words);
+    let g = load_form(h2, p2, n, &mut others);
+    let fault = unmet(n, &words, f.names, &others, g.names);
+    if fault != 0 {
+        return refused(0, fault);
+    }
+    let mut relations = [0u64; WORK_WORDS];
+    join(
+        n,
+        h1,
+        a,
+        f,
+        &words,
+        h2,
+        b,
+        g,
+        &others,
+        &mut relations,
+        hout,
+        pout,
+    )
+}
+
+// The result of two accepted pairs.
+pub(crate) fn compose_accepted(
+    h1: &[u8],
+    p1: &[u8],
+    h2: &[u8],
+    p2: &[u8],
+    hout: &mut [u8],
+    pout: &mut [u8],
+) -> Composed
+    requires { ⌜ WasAccepted (now h1) (now p1) × WasAccepted (now h2) (now p2) ⌝ }
+    ensures answer { λ r.
+        ⌜ r ≡ composed (withRoom (composition (now (h1 .entry)) (now (h2 .entry)) (sideOf (now (h1 .entry)) (now (p1 .entry)))
+        (sideOf (now (h2 .entry)) (now (p2 .entry)))) (length (now (hout .entry))) (length (now (pout .entry)))) ⌝ }
+    ensures handler { λ _.
+        ⌜ now (hout .exit) ≡ handlerAfter (withRoom (composition (now (h1 .entry)) (now (h2 .entry)) (sideOf (now (h1 .entry)) (now (p1 .entry)))
+        (sideOf (now (h2 .entry)) (now (p2 .entry)))) (length (now (hout .entry))) (length (now (pout .entry)))) (now (hout .entry)) ⌝ }
+    ensures proof { λ _.
+        ⌜ now (pout .exit) ≡ proofAfter (withRoom (composition (now (h1 .entry)) (now (h2 .entry)) (sideOf (now (h1 .entry)) (now (p1 .entry)))
+        (sideOf (now (h2 .entry)) (now (p2 .entry)))) (length (now (hout .entry))) (length (now (pout .entry)))) (now (pout .entry)) ⌝ }
+{
+    let one = read_handler(h1);
+    let two = read_handler(h2);
+    let first = one.head;
+    let second = two.head;
+    let found = one.found;
+    let others = two.found;
+    if same_sizes(first, second) {
+        let a = summary_of(found);
+        let b = summary_of(others);
+        compose_sides(first.states, h1, p1, a, h2, p2, b, hout, pout)
+    } else {
+        refused(0, OTHER_SIZES)
+    }
+}
