@@ -60,7 +60,7 @@ fn judge_in_room(
 }
 
 /// The bytes around the room that is lent.
-const MARGIN: [u8; 32] = [0x5C; 32];
+pub(crate) const MARGIN: [u8; 32] = [0x5C; 32];
 
 /// The answer of a checker and the bytes of its room after it. Those next to the room must not
 /// change.
@@ -80,7 +80,7 @@ fn in_memory(
 
 /// What the room holds before a call. No byte is what the form has there, so that each byte of it
 /// that is written shows.
-fn marked(form: &[u8], room: usize) -> Vec<u8> {
+pub(crate) fn marked(form: &[u8], room: usize) -> Vec<u8> {
     let mark = |index: usize| (index as u8).wrapping_mul(37) ^ 0xA7;
     (0..room).map(|index| form.get(index).map_or(mark(index), |byte| !byte)).collect()
 }

@@ -1,13 +1,16 @@
 //! Runs checkers beside each other and against what holds of every call.
 
 pub mod answer;
+pub mod composed;
 pub mod form;
 pub mod lawful;
 #[cfg(feature = "proved")]
 pub mod proved;
 
+pub use composed::{judge_composition, judge_lent};
 pub use form::{judge_canonical, judge_form};
 
+use composed::{Files, Lent};
 use reference::view::{BIT, NODE};
 use reference::{Place, Verdict};
 
@@ -24,6 +27,9 @@ pub trait Checker {
     /// Writes the proof file in its one form, and gives its length or the refusal; none where the
     /// checker cannot.
     fn canonical(&self, handler: &[u8], proof: &[u8], out: &mut [u8]) -> Option<Written>;
+    /// Composes two pairs, and gives the one word of the C interface; none where the checker
+    /// cannot.
+    fn compose(&self, pairs: [Files; 2], lent: &mut Lent) -> Option<u64>;
 }
 
 /// The length of a file that was written, or why it was not.
@@ -51,6 +57,12 @@ impl Checker for Reference {
             out[..bytes.len()].copy_from_slice(bytes);
         }
         Some(form.map(|bytes| bytes.len()).map_err(Verdict::from))
+    }
+
+    fn compose(&self, pairs: [Files; 2], lent: &mut Lent) -> Option<u64> {
+        let composition = composed::by_reference(pairs, lent.sizes());
+        lent.carry_out(&composition);
+        Some(answer::of_composition(&composition))
     }
 }
 

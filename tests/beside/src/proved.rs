@@ -1,5 +1,6 @@
 //! The proved checker, over its C interface.
 
+use crate::composed::{Files, Lent};
 use crate::{answer, Checker, Written};
 use reference::Verdict;
 
@@ -49,6 +50,26 @@ extern "C" {
     ) -> u64;
 }
 
+#[cfg(feature = "compose")]
+extern "C" {
+    fn handover_compose(
+        first_handler: *const u8,
+        first_handler_len: usize,
+        first_proof: *const u8,
+        first_proof_len: usize,
+        second_handler: *const u8,
+        second_handler_len: usize,
+        second_proof: *const u8,
+        second_proof_len: usize,
+        work: *mut u64,
+        work_len: usize,
+        handler_out: *mut u8,
+        handler_out_len: usize,
+        proof_out: *mut u8,
+        proof_out_len: usize,
+    ) -> u64;
+}
+
 #[cfg(feature = "former")]
 extern "C" {
     fn former_check(
@@ -70,6 +91,7 @@ pub struct Proved {
     check: Call<u64>,
     states: Option<Call<u64>>,
     canonical: Option<Call<u8>>,
+    compose: Option<fn([Files; 2], &mut Lent) -> u64>,
 }
 
 /// The library of this checkout.
@@ -78,12 +100,16 @@ pub const PROVED: Proved = Proved {
     check: handover_check,
     states: Some(handover_states),
     canonical: Some(handover_canonical),
+    #[cfg(feature = "compose")]
+    compose: Some(compose),
+    #[cfg(not(feature = "compose"))]
+    compose: None,
 };
 
 /// The library of an earlier checkout, which `tools/former` puts beside this one's.
 #[cfg(feature = "former")]
 pub const FORMER: Proved =
-    Proved { name: "former", check: former_check, states: None, canonical: None };
+    Proved { name: "former", check: former_check, states: None, canonical: None, compose: None };
 
 impl Checker for Proved {
     fn name(&self) -> &'static str {
@@ -101,6 +127,10 @@ impl Checker for Proved {
     fn canonical(&self, handler: &[u8], proof: &[u8], out: &mut [u8]) -> Option<Written> {
         self.canonical.map(|function| answer::written(call(function, handler, proof, out)))
     }
+
+    fn compose(&self, pairs: [Files; 2], lent: &mut Lent) -> Option<u64> {
+        self.compose.map(|function| function(pairs, lent))
+    }
 }
 
 fn call<T>(function: Call<T>, handler: &[u8], proof: &[u8], buffer: &mut [T]) -> u64 {
@@ -114,6 +144,30 @@ fn call<T>(function: Call<T>, handler: &[u8], proof: &[u8], buffer: &mut [T]) ->
             proof.len(),
             buffer.as_mut_ptr(),
             buffer.len(),
+        )
+    }
+}
+
+/// The composition of two pairs, by the library of this checkout.
+#[cfg(feature = "compose")]
+fn compose([(h1, p1), (h2, p2)]: [Files; 2], lent: &mut Lent) -> u64 {
+    // SAFETY: as above; only the three buffers are written, and nothing else holds them.
+    unsafe {
+        handover_compose(
+            h1.as_ptr(),
+            h1.len(),
+            p1.as_ptr(),
+            p1.len(),
+            h2.as_ptr(),
+            h2.len(),
+            p2.as_ptr(),
+            p2.len(),
+            lent.work.as_mut_ptr(),
+            lent.work.len(),
+            lent.handler.as_mut_ptr(),
+            lent.handler.len(),
+            lent.proof.as_mut_ptr(),
+            lent.proof.len(),
         )
     }
 }

@@ -1,6 +1,7 @@
 //! Calls from several threads at once, each with its own buffers, answer as calls alone do.
 #![cfg(feature = "proved")]
 
+use beside::composed::Lent;
 use beside::proved::{self, PROVED};
 use beside::{Checker, Written};
 use generate::damage::{damaged, Files};
@@ -24,10 +25,12 @@ struct Answer {
     view: u64,
     written: Option<Written>,
     form: Vec<u8>,
+    composed: Option<u64>,
+    rooms: [Vec<u8>; 2],
 }
 
 /// All calls, over the words that an earlier call has left. The view is that of node 0. The room
-/// for the form is that of the file.
+/// for the form is that of the file. The pair is composed with itself.
 fn answer((handler, proof): &Files, work: &mut [u64]) -> Answer {
     let verdict = PROVED.check(handler, proof, work);
     let states = PROVED.states(handler, proof, work);
@@ -35,7 +38,12 @@ fn answer((handler, proof): &Files, work: &mut [u64]) -> Answer {
     let view = proved::view(handler, proof, 30, NODE, 0);
     let mut form = vec![0xA7; proof.len()];
     let written = PROVED.canonical(handler, proof, &mut form);
-    Answer { verdict, states, words: work.to_vec(), root, view, written, form }
+    let words = work.to_vec();
+    let mut rooms = [handler, proof].map(|file| vec![0xA7; 3 * file.len() + 64]);
+    let [handler_room, proof_room] = &mut rooms;
+    let mut lent = Lent { work, handler: handler_room, proof: proof_room };
+    let composed = PROVED.compose([(handler, proof); 2], &mut lent);
+    Answer { verdict, states, words, root, view, written, form, composed, rooms }
 }
 
 /// Accepted pairs and four damaged versions of each.

@@ -1,6 +1,5 @@
 //! Derivations whose nodes hold their tables themselves, and their numbering for a file.
 
-use crate::programs::parts;
 use reference::language::Statement;
 use reference::proof_file::{Node, Proof, Rule};
 use reference::states::{Relation, StateSet};
@@ -31,7 +30,7 @@ impl Step {
     pub fn below<'a>(&self, statement: &'a Statement) -> Vec<&'a Statement> {
         match self {
             Step::Weaken => vec![statement],
-            _ => parts(statement),
+            _ => statement.parts(),
         }
     }
 }

@@ -280,7 +280,7 @@ fn fitted(node: Derivation, p: StateSet) -> Derivation {
     node.weakened(p, r)
 }
 
-fn settled(mut node: Derivation, g: &Relation) -> Derivation {
+pub(crate) fn settled(mut node: Derivation, g: &Relation) -> Derivation {
     let q = node.tables.q.clone();
     node.settle(g.clone(), q);
     node

@@ -6,6 +6,7 @@
 use crate::steps::{turn, Turn};
 use reference::language::{Handler, Statement};
 use reference::states::{Relation, StateSet};
+use reference::{check, handler_file, proof_file, Verdict, TABLE_WORDS};
 use std::collections::HashMap;
 
 /// The root's tables.
@@ -42,6 +43,20 @@ pub enum Exploration {
     Broken(Breach),
     /// Given up: too many moments.
     TooLarge,
+}
+
+/// Explores a pair of files, up to `most` moments, if it is accepted; what is promised is read from
+/// the files.
+pub fn explore_files(handler: &[u8], proof: &[u8], most: usize) -> Option<Exploration> {
+    let mut work = vec![0; TABLE_WORDS];
+    let Verdict::Accepted(steps) = check(handler, proof, &mut work) else { return None };
+    let handler = handler_file::read(handler).expect("it was accepted");
+    let proof = proof_file::read(proof, handler.space.states()).expect("it was accepted");
+    let root = &proof.root;
+    let relation = |number: usize| proof.relations[number].clone();
+    let [r, g, q] = [root.r, root.g, root.q].map(relation);
+    let promise = Promise { p: proof.sets[root.p], r, g, q, steps };
+    Some(explore(&handler, &promise, most))
 }
 
 /// A remaining handler by number, and the present state.

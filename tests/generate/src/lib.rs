@@ -8,6 +8,7 @@ pub mod damage;
 pub mod derivation;
 pub mod derive;
 pub mod explore;
+pub mod guests;
 pub mod longest;
 pub mod pack;
 pub mod pairs;

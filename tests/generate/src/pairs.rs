@@ -1,7 +1,7 @@
 //! Accepted pairs: random handlers with derivations that hold.
 
 use crate::author::{Author, Direction, Scope};
-use crate::derivation::Derivation;
+use crate::derivation::{Derivation, Tables};
 use crate::derive::{starting_in, then, Demand, Deriver};
 use crate::pack::{self, Packed};
 use crate::random::Random;
@@ -60,8 +60,7 @@ pub fn accepted(random: &mut Random, scale: Scale) -> Pair {
 fn attempt(random: &mut Random, scale: Scale) -> Option<Pair> {
     let space = random_space(random, scale.most_states);
     let variables = space.sizes().len();
-    let kinds = [Direction::Free, Direction::Free, Direction::Rising, Direction::Falling];
-    let directions: Vec<Direction> = (0..variables).map(|_| *random.pick(&kinds)).collect();
+    let directions = random_directions(random, variables);
     let (moved, own): (Vec<usize>, Vec<usize>) = (0..variables).partition(|_| random.chance(25));
     let rely = random_rely(random, &space, &moved, &directions);
     let mut writable = own.clone();
@@ -95,13 +94,18 @@ pub fn random_space(random: &mut Random, most: usize) -> Space {
     Space::new(&sizes)
 }
 
-fn random_set(random: &mut Random, all: StateSet) -> StateSet {
+pub(crate) fn random_directions(random: &mut Random, variables: usize) -> Vec<Direction> {
+    let kinds = [Direction::Free, Direction::Free, Direction::Rising, Direction::Falling];
+    (0..variables).map(|_| *random.pick(&kinds)).collect()
+}
+
+pub(crate) fn random_set(random: &mut Random, all: StateSet) -> StateSet {
     let share = *random.pick(&[0, 5, 10, 50, 50, 100, 100, 100, 100, 100]);
     random.thinned(all, share)
 }
 
 /// Interference that moves the given variables in their directions.
-fn random_rely(
+pub(crate) fn random_rely(
     random: &mut Random,
     space: &Space,
     moved: &[usize],
@@ -129,16 +133,29 @@ fn random_rely(
     rely
 }
 
-/// A wider G and Q at the root, within what the closure conditions bear, and pairs of Q from
-/// outside P, which no condition at the root minds.
+/// A wider G and Q at the root.
 fn enlarge(random: &mut Random, space: &Space, root: &mut Derivation) {
     let share = *random.pick(&[0, 0, 3, 50]);
-    let states = 0..space.states();
-    let mut some = || Relation::of_rows(states.clone().map(|_| random.thinned(space.all(), share)));
-    let g = root.tables.g.join(&some());
-    let (p, reach) = (root.tables.p, root.tables.r.reach());
-    let inside = then(&then(&starting_in(p, &reach), &some()), &reach);
-    let outside = starting_in(space.all().minus(p), &some());
-    let q = root.tables.q.join(&starting_in(p, &inside)).join(&outside);
+    let g = root.tables.g.join(&some_pairs(random, space, share));
+    let q = wider_q(random, space, &root.tables, share);
     root.settle(g, q);
+}
+
+/// Q with more pairs, within what the closure conditions bear, and with pairs from outside P,
+/// which no condition at the root minds.
+pub(crate) fn wider_q(
+    random: &mut Random,
+    space: &Space,
+    tables: &Tables,
+    share: usize,
+) -> Relation {
+    let (p, reach) = (tables.p, tables.r.reach());
+    let inside = then(&then(&starting_in(p, &reach), &some_pairs(random, space, share)), &reach);
+    let outside = starting_in(space.all().minus(p), &some_pairs(random, space, share));
+    tables.q.join(&starting_in(p, &inside)).join(&outside)
+}
+
+/// Each pair of states with this chance.
+fn some_pairs(random: &mut Random, space: &Space, share: usize) -> Relation {
+    Relation::of_rows((0..space.states()).map(|_| random.thinned(space.all(), share)))
 }

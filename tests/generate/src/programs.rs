@@ -49,15 +49,6 @@ pub fn test_of(e: u64) -> Expression {
     operate(Operation::Equal, left, right)
 }
 
-/// The statements within a statement, in file order.
-pub fn parts(statement: &Statement) -> Vec<&Statement> {
-    match statement {
-        Statement::Nil | Statement::Assignment(..) => vec![],
-        Statement::Sequence(left, right) | Statement::Parallel(left, right) => vec![left, right],
-        Statement::If(_, body) | Statement::While(_, body) => vec![body],
-    }
-}
-
 pub fn sequence(left: Statement, right: Statement) -> Statement {
     Statement::Sequence(Box::new(left), Box::new(right))
 }

@@ -3,11 +3,9 @@
 
 use crate::arbitrary::{some_relation, some_set};
 use crate::random::Random;
+pub use reference::proof_file::MOST_TABLES;
 use reference::proof_file::{Node, Proof, Rule};
 use reference::states::StateSet;
-
-/// The most sets, and the most relations, that a proof file has.
-pub const MOST_TABLES: usize = 16;
 
 /// The same proof with its tables in another order. At times some of them are there more than
 /// once, with the mentions spread over the copies, and some are there that no node mentions.

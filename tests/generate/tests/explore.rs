@@ -2,29 +2,17 @@
 
 use generate::author::operate;
 use generate::damage::damaged;
-use generate::explore::{explore, Breach, Exploration, Promise};
+use generate::explore::{explore, explore_files, Breach, Exploration, Promise};
+use generate::guests::guests;
 use generate::pairs::{accepted, Scale};
 use generate::programs::{count_down, number, parallel, read, sequence, store};
 use generate::random::Random;
 use reference::language::{Handler, Operation, Statement};
 use reference::space::Space;
 use reference::states::{Relation, StateSet};
-use reference::{check, handler_file, proof_file, Verdict, TABLE_WORDS};
+use reference::{compose, Composition, TABLE_WORDS};
 
 const MOST_MOMENTS: usize = 60_000;
-
-/// Explores a pair of files if it is accepted; what is promised is read from the files.
-fn explore_files(handler: &[u8], proof: &[u8]) -> Option<Exploration> {
-    let mut work = vec![0; TABLE_WORDS];
-    let Verdict::Accepted(steps) = check(handler, proof, &mut work) else { return None };
-    let handler = handler_file::read(handler).expect("it was accepted");
-    let proof = proof_file::read(proof, handler.space.states()).expect("it was accepted");
-    let root = &proof.root;
-    let relation = |number: usize| proof.relations[number].clone();
-    let [r, g, q] = [root.r, root.g, root.q].map(relation);
-    let promise = Promise { p: proof.sets[root.p], r, g, q, steps };
-    Some(explore(&handler, &promise, MOST_MOMENTS))
-}
 
 /// How many own steps the longest run makes, or none where the exploration was given up.
 fn longest_run(exploration: Exploration, handler: &[u8], proof: &[u8]) -> Option<u32> {
@@ -43,18 +31,57 @@ fn accepted_pairs_keep_demand_3() {
     for _ in 0..600 {
         let pair = accepted(&mut random, Scale::SMALL);
         let (handler, proof) = (&pair.handler_file.bytes, &pair.proof_file.bytes);
-        let exploration = explore_files(handler, proof).expect("a generated pair is accepted");
+        let exploration =
+            explore_files(handler, proof, MOST_MOMENTS).expect("a generated pair is accepted");
         let longest = longest_run(exploration, handler, proof);
         whole += usize::from(longest.is_some());
         long += usize::from(longest > Some(10));
         for _ in 0..12 {
             let (handler, proof) = damaged(&mut random, &pair);
-            let explored = explore_files(&handler, &proof);
+            let explored = explore_files(&handler, &proof, MOST_MOMENTS);
             let longest = explored.and_then(|found| longest_run(found, &handler, &proof));
             damaged_too += usize::from(longest.is_some());
         }
     }
     assert!(whole > 500 && damaged_too > 1000 && long > 100, "{whole} {damaged_too} {long}");
+}
+
+/// The parallel of two small guests, and of three where that is explored too.
+#[test]
+fn composed_pairs_keep_demand_3() {
+    let mut random = Random::new(0xE4);
+    let (mut whole, mut long, mut again) = (0, 0, 0);
+    for _ in 0..600 {
+        let pairs = guests(&mut random, Scale::SMALL, 3);
+        let [one, two, three] = [0, 1, 2].map(|index| {
+            let pair = &pairs[index];
+            (pair.handler_file.bytes.clone(), pair.proof_file.bytes.clone())
+        });
+        let Some(both) = composed(&one, &two) else { continue };
+        let longest = explored(&both);
+        whole += usize::from(longest.is_some());
+        long += usize::from(longest > Some(10));
+        let all = composed(&both, &three).and_then(|all| explored(&all));
+        again += usize::from(all.is_some());
+    }
+    assert!(whole > 550 && long > 100 && again > 500, "{whole} {long} {again}");
+}
+
+type Files = (Vec<u8>, Vec<u8>);
+
+/// None where a limit is passed.
+fn composed(first: &Files, second: &Files) -> Option<Files> {
+    let ((h1, p1), (h2, p2)) = (first, second);
+    match compose(h1, p1, h2, p2, TABLE_WORDS, usize::MAX, usize::MAX) {
+        Composition::Made { handler, proof, .. } => Some((handler, proof)),
+        Composition::Refused { .. } => None,
+    }
+}
+
+/// How many own steps the longest run of an accepted pair makes, or none where it was given up.
+fn explored((handler, proof): &Files) -> Option<u32> {
+    let exploration = explore_files(handler, proof, MOST_MOMENTS).expect("it is accepted");
+    longest_run(exploration, handler, proof)
 }
 
 fn handler(sizes: &[usize], statement: Statement) -> Handler {

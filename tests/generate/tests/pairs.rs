@@ -2,7 +2,6 @@
 
 use generate::derivation::{Derivation, Step, Tables};
 use generate::pairs::{accepted, Pair, Scale};
-use generate::programs::parts;
 use generate::random::Random;
 use reference::language::Statement;
 use reference::space::Space;
@@ -109,9 +108,9 @@ type Is = fn(&Statement) -> bool;
 /// Whether a statement of the first kind has one of the second somewhere within.
 fn nested(statement: &Statement, outer: Is, inner: Is) -> bool {
     fn contains(statement: &Statement, is: Is) -> bool {
-        is(statement) || parts(statement).into_iter().any(|part| contains(part, is))
+        is(statement) || statement.parts().into_iter().any(|part| contains(part, is))
     }
     let within = |part: &&Statement| contains(part, inner);
-    outer(statement) && parts(statement).iter().any(within)
-        || parts(statement).into_iter().any(|part| nested(part, outer, inner))
+    outer(statement) && statement.parts().iter().any(within)
+        || statement.parts().into_iter().any(|part| nested(part, outer, inner))
 }

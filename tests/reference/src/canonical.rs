@@ -2,7 +2,7 @@
 
 use crate::fault::Fault;
 use crate::proof_file::{Node, Proof, Rule};
-use crate::states::StateSet;
+use crate::states::{Relation, StateSet};
 use crate::writer::Writer;
 
 /// The number of the refusal of a room that is shorter than the file.
@@ -12,34 +12,61 @@ pub const ROOM_TOO_SHORT: u32 = 3;
 /// 18 and 20 to 25 as in the check, and then 3. No condition is looked at.
 pub fn canonical(handler: &[u8], proof: &[u8], room: usize) -> Result<Vec<u8>, Fault> {
     let (handler, proof) = crate::read(handler, proof)?;
-    let bytes = write(&proof, handler.space.states());
+    let bytes = Form::of(&proof).write(handler.space.states());
     if bytes.len() > room {
         return Err(Fault::at_bit(ROOM_TOO_SHORT, 0));
     }
     Ok(bytes)
 }
 
-/// The counts, the tables that are kept, and the nodes with the new numbers.
-fn write(proof: &Proof, states: usize) -> Vec<u8> {
-    let nodes = in_file_order(&proof.root);
-    let sets = Kept::by_mentions(&proof.sets, nodes.iter().flat_map(|node| sets_of(node)));
-    let relations =
-        Kept::by_mentions(&proof.relations, nodes.iter().flat_map(|node| relations_of(node)));
-    let mut writer = Writer::new();
-    writer.field(sets.tables.len() as u64, 5);
-    writer.field(relations.tables.len() as u64, 5);
-    for set in &sets.tables {
-        write_set(&mut writer, **set, states);
+/// The nodes of a proof, and the tables that its form has.
+pub struct Form<'a> {
+    nodes: Vec<&'a Node>,
+    sets: Kept<'a, StateSet>,
+    relations: Kept<'a, Relation>,
+}
+
+impl<'a> Form<'a> {
+    /// The proof may have more tables than a file holds.
+    pub fn of(proof: &'a Proof) -> Form<'a> {
+        let nodes = in_file_order(&proof.root);
+        let sets = Kept::by_mentions(&proof.sets, nodes.iter().flat_map(|node| sets_of(node)));
+        let relations =
+            Kept::by_mentions(&proof.relations, nodes.iter().flat_map(|node| relations_of(node)));
+        Form { nodes, sets, relations }
     }
-    for relation in &relations.tables {
-        for row in &relation.rows()[..states] {
-            write_set(&mut writer, *row, states);
+
+    pub fn nodes(&self) -> usize {
+        self.nodes.len()
+    }
+
+    pub fn sets(&self) -> usize {
+        self.sets.tables.len()
+    }
+
+    pub fn relations(&self) -> usize {
+        self.relations.tables.len()
+    }
+
+    /// The counts, the tables and the nodes with the new numbers. There are at most 16 sets and
+    /// 16 relations.
+    pub fn write(&self, states: usize) -> Vec<u8> {
+        let mut writer = Writer::new();
+        writer.field(self.sets() as u64, 5);
+        writer.field(self.relations() as u64, 5);
+        for set in &self.sets.tables {
+            write_set(&mut writer, **set, states);
         }
+        for relation in &self.relations.tables {
+            for row in &relation.rows()[..states] {
+                write_set(&mut writer, *row, states);
+            }
+        }
+        for node in &self.nodes {
+            write_node(&mut writer, node, &self.sets.numbers, &self.relations.numbers);
+        }
+        writer.finish()
     }
-    for node in nodes {
-        write_node(&mut writer, node, &sets.numbers, &relations.numbers);
-    }
-    writer.finish()
 }
 
 /// A node before its children, the left child with all below it before the right one.

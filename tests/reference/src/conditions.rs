@@ -60,11 +60,23 @@ fn least_chain(
 }
 
 /// The four tables of a node.
-struct Tables<'a> {
-    p: StateSet,
-    r: &'a Relation,
-    g: &'a Relation,
-    q: &'a Relation,
+pub struct Tables<'a> {
+    pub p: StateSet,
+    pub r: &'a Relation,
+    pub g: &'a Relation,
+    pub q: &'a Relation,
+}
+
+impl<'a> Tables<'a> {
+    pub fn of(proof: &'a Proof, node: &Node) -> Tables<'a> {
+        let relation = |number: usize| &proof.relations[number];
+        Tables {
+            p: proof.sets[node.p],
+            r: relation(node.r),
+            g: relation(node.g),
+            q: relation(node.q),
+        }
+    }
 }
 
 struct Examiner<'a> {
@@ -73,7 +85,7 @@ struct Examiner<'a> {
     next: u32,
 }
 
-impl<'a> Examiner<'a> {
+impl Examiner<'_> {
     /// A node, then its children: file order is the order of the numbers.
     fn node(&mut self, node: &Node, statement: &Statement) -> Result<(), Fault> {
         let number = self.next;
@@ -94,21 +106,12 @@ impl<'a> Examiner<'a> {
         Ok(())
     }
 
-    fn tables(&self, node: &Node) -> Tables<'a> {
-        let relation = |number: usize| &self.proof.relations[number];
-        Tables {
-            p: self.proof.sets[node.p],
-            r: relation(node.r),
-            g: relation(node.g),
-            q: relation(node.q),
-        }
-    }
-
     fn conditions(&self, node: &Node, statement: &Statement) -> Outcome {
         must(fits(node.rule, statement), 30)?;
-        let own = self.tables(node);
+        let own = Tables::of(self.proof, node);
         stable(&own)?;
-        let children: Vec<Tables> = node.children.iter().map(|c| self.tables(c)).collect();
+        let below = node.children.iter();
+        let children: Vec<Tables> = below.map(|child| Tables::of(self.proof, child)).collect();
         match (statement, node.rule, children.as_slice()) {
             (_, Rule::Weaken, [child]) => weaken(&own, child),
             (Statement::Nil, ..) => skip(&own),

@@ -115,6 +115,29 @@ pub enum Statement {
     While(Expression, Box<Statement>),
 }
 
+impl Statement {
+    /// The statements within, in file order.
+    pub fn parts(&self) -> Vec<&Statement> {
+        match self {
+            Statement::Nil | Statement::Assignment(..) => vec![],
+            Statement::Sequence(left, right) | Statement::Parallel(left, right) => {
+                vec![left, right]
+            }
+            Statement::If(_, body) | Statement::While(_, body) => vec![body],
+        }
+    }
+
+    /// How many statements there are, this one among them.
+    pub fn count(&self) -> u32 {
+        1 + self.parts().into_iter().map(Statement::count).sum::<u32>()
+    }
+
+    /// The levels, this statement being on the first.
+    pub fn levels(&self) -> u32 {
+        1 + self.parts().into_iter().map(Statement::levels).max().unwrap_or(0)
+    }
+}
+
 /// What a handler file holds.
 #[derive(Clone, PartialEq, Eq, Debug)]
 pub struct Handler {

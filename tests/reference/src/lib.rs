@@ -4,9 +4,11 @@
 //! words it. It shares no code with the proved checker, so that agreement means something.
 
 pub mod canonical;
+pub mod compose;
 pub mod conditions;
 pub mod fault;
 pub mod handler_file;
+pub mod handler_writer;
 pub mod language;
 pub mod proof_file;
 pub mod reader;
@@ -17,6 +19,7 @@ pub mod view;
 pub mod writer;
 
 pub use canonical::canonical;
+pub use compose::{compose, Composition};
 pub use fault::{Fault, Place, Verdict};
 pub use view::view;
 
@@ -70,19 +73,33 @@ fn read(handler: &[u8], proof: &[u8]) -> Result<(Handler, Proof), Fault> {
     Ok((handler, proof))
 }
 
-/// The order of faults (docs/FORMAT.md): the host, handler file, proof file, nodes, and 80 last.
+/// An accepted pair and its step number.
+pub(crate) struct Accepted {
+    pub handler: Handler,
+    pub proof: Proof,
+    pub steps: u32,
+}
+
+/// The order of faults (docs/FORMAT.md) without 1: length, handler file, proof file, nodes, and
+/// 80 last.
+fn accept(handler: &[u8], proof: &[u8]) -> Result<Accepted, Fault> {
+    let (handler, proof) = read(handler, proof)?;
+    conditions::examine(&handler, &proof)?;
+    let steps = step_number::of(&handler.statement, handler.space.states());
+    let steps = u32::try_from(steps).map_err(|_| Fault::at_node(80, 0, Vec::new()))?;
+    Ok(Accepted { handler, proof, steps })
+}
+
+/// Fault 1, and then as above; the words are 0 but after 1, 2 and acceptance.
 fn decide(handler: &[u8], proof: &[u8], work: &mut [u64]) -> Result<u32, Fault> {
     if work.len() < TABLE_WORDS {
         return Err(Fault::at_bit(1, 0));
     }
-    let files = read(handler, proof);
-    if !matches!(files, Err(Fault { number: 2, .. })) {
+    let accepted = accept(handler, proof);
+    if !matches!(accepted, Err(Fault { number: 2, .. })) {
         work[..TABLE_WORDS].fill(0);
     }
-    let (handler, proof) = files?;
-    conditions::examine(&handler, &proof)?;
-    let steps = step_number::of(&handler.statement, handler.space.states());
-    let steps = u32::try_from(steps).map_err(|_| Fault::at_node(80, 0, Vec::new()))?;
+    let Accepted { proof, steps, .. } = accepted?;
     write_tables(&proof, work);
     Ok(steps)
 }

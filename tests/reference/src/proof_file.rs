@@ -4,6 +4,8 @@ use crate::fault::Fault;
 use crate::reader::Reader;
 use crate::states::{Relation, StateSet};
 
+/// The most sets, and the most relations, that a proof file has.
+pub const MOST_TABLES: usize = 16;
 pub const MOST_NODES: u32 = 127;
 pub const NODE_LEVELS: u32 = 24;
 
@@ -28,6 +30,13 @@ pub struct Node {
     pub g: usize,
     pub q: usize,
     pub children: Vec<Node>,
+}
+
+impl Node {
+    /// The levels, this node being on the first.
+    pub fn levels(&self) -> u32 {
+        1 + self.children.iter().map(Node::levels).max().unwrap_or(0)
+    }
 }
 
 /// What a proof file holds.
@@ -59,7 +68,7 @@ pub fn read(bytes: &[u8], states: usize) -> Result<Proof, Fault> {
 fn read_count(reader: &mut Reader) -> Result<usize, Fault> {
     let place = reader.bit();
     let count = reader.field(5)? as usize;
-    if !(1..=16).contains(&count) {
+    if !(1..=MOST_TABLES).contains(&count) {
         return Err(Fault::at_bit(21, place));
     }
     Ok(count)

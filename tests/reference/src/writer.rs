@@ -36,6 +36,15 @@ impl Writer {
     }
 }
 
+/// The bytes of bits that are spelled out, with spaces anywhere, and of the fill after them.
+pub fn spelled(bits: &str) -> Vec<u8> {
+    let mut writer = Writer::new();
+    for bit in bits.bytes().filter(|bit| !bit.is_ascii_whitespace()) {
+        writer.field(u64::from(bit - b'0'), 1);
+    }
+    writer.finish()
+}
+
 #[cfg(test)]
 mod tests {
     use super::*;
@@ -59,6 +68,11 @@ mod tests {
         // 1 and 0x123 in 12 bits: 1000 1001 0001 1000.
         assert_eq!(written(&[(1, 1), (0x123, 12)]), [0x89, 0x18]);
         assert_eq!(written(&[(u64::MAX, 64)]), [0xFF; 8]);
+    }
+
+    #[test]
+    fn bits_as_bytes() {
+        assert_eq!(spelled("0010 0011 1"), [0x23, 0x80]);
     }
 
     /// Fields of every width behind every number of bits read back as they were.

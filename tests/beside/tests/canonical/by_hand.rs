@@ -1,10 +1,10 @@
 //! Small proofs and their forms, both spelled out field by field from the request.
 
-use super::spelled;
 use beside::{at_bit, at_node, judge, judge_canonical, judge_form, HANDLER, PROOF};
 use generate::{longest, pack, vacuous};
 use reference::language::Statement;
 use reference::proof_file::Proof;
+use reference::writer::spelled;
 use reference::Verdict;
 
 /// The proof over the two states of HANDLER has this form, which is its own form.
@@ -18,7 +18,6 @@ fn written(proof: &str, form: &str) {
 fn bits_as_bytes() {
     let sample = "00001 00011  11  0000 0100 0101  001 0000 0000 0001 0010";
     assert_eq!(spelled(sample), PROOF);
-    assert_eq!(spelled("0010 0011 1"), [0x23, 0x80]);
 }
 
 /// The sample is in its form. With G as in the refused sample, relation 1 has no mention, and Q

@@ -1,8 +1,8 @@
 //! What is not written: every number, its place, and which of two goes first.
 
-use super::spelled;
 use beside::lawful::FORM_NUMBERS;
 use beside::{at_bit, judge, judge_canonical, judge_form, number, HANDLER, PROOF};
+use reference::writer::spelled;
 use reference::{Verdict, LONGEST_FILE};
 use std::collections::BTreeSet;
 
