@@ -1,6 +1,7 @@
 //! The samples of examples/: a handler, its proof, and a page that gives both exactly.
 
 mod findp;
+mod guests;
 mod small;
 pub mod words;
 
@@ -30,7 +31,16 @@ impl Sample {
 }
 
 pub fn all() -> Vec<Sample> {
-    vec![small::first(), small::slot(), small::countdown(), small::counters(), findp::sample()]
+    vec![
+        small::first(),
+        small::slot(),
+        small::countdown(),
+        small::counters(),
+        findp::sample(),
+        guests::producer(),
+        guests::consumer(),
+        guests::guests(),
+    ]
 }
 
 /// The folder examples/ of the repository.

@@ -37,7 +37,7 @@ counters have arrived, which neither side's Q says alone (condition 66). The con
 [RULES.md](../../docs/RULES.md).";
 
 /// The pair with the least tables for this precondition and rely.
-fn derived(sizes: &[usize], statement: Statement, p: StateSet, r: &Relation) -> Pair {
+pub(crate) fn derived(sizes: &[usize], statement: Statement, p: StateSet, r: &Relation) -> Pair {
     let space = Space::new(sizes);
     let derivation =
         least(&space, &statement, Demand { p, r, coarse: false }).expect("the sample holds");
@@ -45,7 +45,7 @@ fn derived(sizes: &[usize], statement: Statement, p: StateSet, r: &Relation) -> 
 }
 
 /// The states at which the values are as wanted.
-fn states(sizes: &[usize], wanted: impl Fn(&[i64; 4]) -> bool) -> StateSet {
+pub(crate) fn states(sizes: &[usize], wanted: impl Fn(&[i64; 4]) -> bool) -> StateSet {
     let space = Space::new(sizes);
     (0..space.states()).filter(|s| wanted(space.values(*s))).collect()
 }

@@ -2,7 +2,7 @@
 //! what the program writes.
 
 use generate::explore::{explore, Exploration, Promise};
-use reference::{check, Verdict, TABLE_WORDS};
+use reference::{check, compose, Composition, Verdict, TABLE_WORDS};
 use samples::{all, folder, Sample};
 
 fn steps(sample: &Sample) -> u32 {
@@ -22,6 +22,35 @@ fn accepted_with_their_step_numbers() {
     assert_eq!(known("countdown"), Some(28));
     // Two loops with N = 16 and E = 2, over stores of 3 steps, and one step for the parallel.
     assert_eq!(known("counters"), Some(2 * (16 * 4 + 15 * 4) + 1));
+    // A store of a constant. Then a loop with N = 12 and E = 5, an if with E = 2, the sequence.
+    assert_eq!(known("producer"), Some(1));
+    assert_eq!(known("consumer"), Some((12 * 7 + 11 * 4) + (2 + 1 + 1) + 1));
+    assert_eq!(known("guests"), Some(1 + 133 + 1));
+}
+
+/// A sample by its name, from the files of its folder.
+fn files(name: &str) -> (Vec<u8>, Vec<u8>) {
+    let read = |file| std::fs::read(folder().join(name).join(file)).expect("the sample is there");
+    (read("handler.bin"), read("proof.bin"))
+}
+
+/// The files of `guests` are the composition of the other two, the producer first.
+#[test]
+fn the_guests_are_composed() {
+    let [(h1, p1), (h2, p2), (handler, proof)] = ["producer", "consumer", "guests"].map(files);
+    let made = compose(&h1, &p1, &h2, &p2, TABLE_WORDS, handler.len(), proof.len());
+    assert_eq!(made, Composition::Made { steps: 135, handler, proof });
+}
+
+/// A guest is not composed with itself: what the producer does, its own R does not have.
+#[test]
+fn a_guest_beside_itself() {
+    for name in ["producer", "consumer"] {
+        let (handler, proof) = files(name);
+        let made = compose(&handler, &proof, &handler, &proof, TABLE_WORDS, 100, 1_000);
+        let Composition::Refused { pair: 0, fault } = made else { panic!("{name}: {made:?}") };
+        assert_eq!(fault.number, 91, "{name}");
+    }
 }
 
 /// The bytes are fixed: other pages and tests show them.
