@@ -1,18 +1,16 @@
 -- What acceptance gives of each pair, and what both are asked.
 use Prim.Native.Nat.{ℕ, _+_, _^_, _≤_, min}
-use mathlib.Core.Bool.{true, false, cond}
+use mathlib.Core.Bool.{true, false}
 use mathlib.Core.List.{List}
 use mathlib.Core.Path.{_≡_, refl, sym, _∙_, ap, subst}
 use native.Mathlib.Nat.{min-eq-left}
 use native.Mathlib.Omega.{arith}
 use borrow.Author.Tests.{eq-eqb, ne-eqb}
-use lib.Dec.{eqb}
 use lib.ListN.{length}
 use Rattle.semantics.specs.States.{product}
 use Rattle.semantics.specs.StepNumber.{steps}
 use Rattle.handler.specs.declared.HandlerSummary.{HandlerSummary}
 use Rattle.handler.specs.declared.HandlerFound.the-variants.{Handler}
-use Rattle.handler.specs.declared.head.Head.{Head}
 use Rattle.handler.specs.Header.{headOf}
 use Rattle.handler.specs.Kinds.{stmtWidth}
 use Rattle.handler.specs.StatementTable.{statements, stmtLevels}
@@ -20,7 +18,6 @@ use Rattle.handler.specs.Reading.{readHandler}
 use Rattle.handler.specs.Shapes.{handlerFile}
 use Rattle.handler.proofs.Heads.{head-read}
 use Rattle.handler.proofs.Handlers.{known-handler}
-use Rattle.states.specs.Sets.{capacity}
 use Rattle.form.proofs.Forms.{Writable}
 use Rattle.checker.proofs.Acceptance.{accepted-exactly}
 use Rattle.composition.specs.declared.forms.Form.{Form}

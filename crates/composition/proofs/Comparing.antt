@@ -1,7 +1,7 @@
 -- Tables that are compared by their members: they are the same exactly if their numbers are equal.
 use Prim.Native.Nat.{ℕ, _+_, _*_, _/_, _%_, _<_}
 use mathlib.Core.Bool.{Bool, true, Bool·beq}
-use mathlib.Core.Path.{_≡_, sym, _∙_, ap, ap₂}
+use mathlib.Core.Path.{_≡_, sym, _∙_, ap₂}
 use native.Mathlib.Nat.{mul-comm, mod-lt, div-lt-iff-lt-mul}
 use lib.Arith.{digits-div, digits-mod}
 use Rattle.states.specs.Search.{all}

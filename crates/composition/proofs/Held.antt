@@ -4,7 +4,6 @@ use mathlib.Core.List.{List}
 use mathlib.Core.Path.{_≡_, _∙_, ap, subst, fun-ext}
 use Rattle.states.specs.Sets.{has}
 use Rattle.states.specs.Relations.{rel}
-use Rattle.semantics.specs.Derivations.{Spec}
 use Rattle.handler.specs.declared.HandlerSummary.{HandlerSummary}
 use Rattle.rules.specs.Words.{wordRelation, wordSpec}
 use Rattle.form.specs.Members.{setWhere, relationWhere}

@@ -6,6 +6,7 @@ pub mod Sides
 pub mod HandlerFile
 pub mod Outcomes
 pub mod Theorems
+pub mod Decoding
 mod Asked
 mod Loading
 mod Filled

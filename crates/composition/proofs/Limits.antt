@@ -1,5 +1,5 @@
 -- What 94 asks of the result, from the counts that the code has; and the files of a result that passes no limit.
-use Prim.Native.Nat.{ℕ, suc, _+_, _-_, _^_, _≤_, _<_, max}
+use Prim.Native.Nat.{ℕ, suc, _+_, _-_, _^_, _≤_, max}
 use mathlib.Core.Bool.{Bool, true, false, _&&_}
 use mathlib.Core.List.{List}
 use mathlib.Core.Path.{_≡_, refl, sym, _∙_, ap, subst}
@@ -14,10 +14,9 @@ use Rattle.semantics.specs.StepNumber.{steps}
 use Rattle.semantics.specs.Derivations.{Derivation, nodes, levels}
 use Rattle.handler.specs.declared.HandlerSummary.{HandlerSummary}
 use Rattle.handler.specs.StatementTable.{statements, stmtLevels}
-use Rattle.derivation.specs.Tables.{mostTables}
 use Rattle.derivation.proofs.NodeTable.{Known}
 use Rattle.form.specs.Members.{setWhere, relationWhere}
-use Rattle.form.specs.Form.{setsIn, relationsIn, numbered, formOf}
+use Rattle.form.specs.Form.{setsIn, relationsIn, formOf}
 use Rattle.form.proofs.Numbered.{numbered-known}
 use Rattle.composition.specs.declared.forms.Form.{Form}
 use Rattle.composition.specs.declared.numbering.SetNumbers.{SetNumbers}
@@ -27,7 +26,7 @@ use Rattle.composition.specs.Composing.{Side, Composition, made, refused
 use Rattle.composition.specs.Refinement.{Kept, SetsNumbered, RelationsNumbered, AllSmall, handlerFields, nodeParts, proofParts, filesOf, smallCounts, Ready}
 use Rattle.composition.proofs.Absorbed.{sets-joined, relations-joined}
 use Rattle.composition.proofs.JoinedNames.{FewTables, ResultSets, ResultRelations, numbered-joined}
-use Rattle.composition.proofs.JoinedParts.{NodesHeld, nodes-joined, levels-joined, joined-parts}
+use Rattle.composition.proofs.JoinedParts.{nodes-joined, levels-joined, joined-parts}
 use Rattle.composition.proofs.HandlerFields.{handler-fields}
 
 -- A count over 16 stands for a list that is longer than 16.

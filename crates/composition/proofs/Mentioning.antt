@@ -10,7 +10,7 @@ use borrow.Author.Tests.{eq-eqb, ne-eqb, lt-ltb, le-ltb, ltb-true, ltb-false}
 use lib.Dec.{ltb}
 use lib.ListN.{length, getD, set, length-append, List·getD-append}
 use lib.Seq.{getD-at, getD-set-same, getD-set-other}
-use Rattle.states.proofs.Search.{or-right, below-cases}
+use Rattle.states.proofs.Search.{below-cases}
 use Rattle.derivation.specs.Tables.{mostTables, tabulate}
 use Rattle.derivation.proofs.Buffers.{length-tabulate}
 use Rattle.form.specs.Mentions.{isIn, placeIn, mentioned, allMentioned}

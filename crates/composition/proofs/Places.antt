@@ -1,7 +1,7 @@
 -- The places of tables in the whole list, from those at the time of their mention: later mentions keep them.
-use Prim.Native.Nat.{ℕ, _≤_, _<_}
+use Prim.Native.Nat.{ℕ, _≤_}
 use mathlib.Core.Bool.{true}
-use mathlib.Core.List.{List, [], _∷_, _++_}
+use mathlib.Core.List.{List, [], _++_}
 use mathlib.Core.Path.{_≡_, refl, sym, _∙_, ap}
 use borrow.Author.Tests.{eq-eqb}
 use lib.Dec.{eqb}
@@ -13,7 +13,7 @@ use Rattle.form.proofs.Mentions.{in-append, place-kept, all-in, all-getD, all-a
 use Rattle.composition.specs.declared.pool.Mention.{Mention}
 use Rattle.composition.specs.declared.pool.Three.{Three}
 use Rattle.composition.specs.declared.numbering.SideNumbers.{SideNumbers}
-use Rattle.composition.specs.Refinement.{Kept, Mentioned, ThreeMentioned, Listed, Merged, NamedIn, SetsNumbered, threeOf, ThreeIn, SideNumbered, RelationsNumbered}
+use Rattle.composition.specs.Refinement.{Kept, Mentioned, ThreeMentioned, Merged, NamedIn, SetsNumbered, threeOf, ThreeIn, SideNumbered, RelationsNumbered}
 use Rattle.composition.proofs.Mentioning.{room-before}
 
 pub kept-merged : (before xs after : List ℕ) (count : ℕ) (names : List ℕ) → Merged before xs after count names → Kept after count (allMentioned before xs)

@@ -1,20 +1,21 @@
 -- The first refusals, and what is promised of files that were written.
 use Prim.Native.Nat.{ℕ, _≤_, _<_}
-use mathlib.Core.Bool.{Bool, true, false, cond, _&&_}
+use mathlib.Core.Bool.{Bool, true, false, _&&_}
 use mathlib.Core.List.{List, _++_}
-use mathlib.Core.Path.{_≡_, refl, subst}
+use mathlib.Core.Path.{_≡_, refl, sym, subst}
 use native.Mathlib.Omega.{arith}
 use borrow.Author.Tests.{lt-ltb, le-ltb}
 use lib.Dec.{leb}
 use lib.ListN.{length, take, drop}
 use lib.Seq.{take-at}
 use Rattle.derivation.specs.Tables.{workWords, written}
+use Rattle.checker.specs.declared.Fault.{Fault}
 use Rattle.checker.specs.declared.Verdict.the-variants.{Accepted}
 use Rattle.checker.specs.Verdicts.{answer}
 use Rattle.composition.specs.declared.Made.{Made}
 use Rattle.composition.specs.declared.Composed.{Composed}
 use Rattle.composition.specs.declared.Composed.the-variants as Composed
-use Rattle.composition.specs.Composing.{Composition, made, refused, plain, asked, tooLong, compose, workAfter, withRoom, composed, handlerAfter, proofAfter, MadeIsAccepted}
+use Rattle.composition.specs.Composing.{Composition, made, refused, plain, asked, tooLong, compose, workAfter, withRoom, composeInto, composed, handlerAfter, proofAfter, MadeIsAccepted}
 use Rattle.composition.proofs.Theorems.{made-accepted}
 
 module _ (h p h′ p′ : List ℕ) (work : List ℕ) where
@@ -55,7 +56,7 @@ module _ (h p h′ p′ : List ℕ) (words : ℕ) (hout pout : List ℕ) where
         (made-accepted h p h′ p′ words k H P e words′ enough));
   }
 
-  pub promised : Promised whole
+  promised : Promised whole
   unfolding withRoom
   promised = by (compose h p h′ p′ words) refl
     where
@@ -66,3 +67,24 @@ module _ (h p h′ p′ : List ℕ) (words : ℕ) (hout pout : List ℕ) where
       by : (o : Composition) → compose h p h′ p′ words ≡ o → Promised (withRoom o (length hout) (length pout))
       by (refused pair f) e = refused-promised pair f
       by (made k H P) e = room k H P e (leb (length H) (length hout) && leb (length P) (length pout))
+
+-- The contract of `compose`: its answer, and the three buffers at exit.
+module _ (h p h′ p′ work hout pout : List ℕ) where
+  abbrev Contract : Composed → List ℕ → List ℕ → List ℕ → Type 0
+  Contract r words H P =
+      (r ≡ composed (composeInto h p h′ p′ work hout pout)) × ((words ≡ workAfter h p h′ p′ work)
+      × ((H ≡ handlerAfter (composeInto h p h′ p′ work hout pout) hout) × ((P ≡ proofAfter (composeInto h p h′ p′ work hout pout) pout)
+      × MadeIsAccepted r H P)))
+
+  -- The promise follows from the rest.
+  pub contract : (r : Composed) (words H P : List ℕ)
+      → r ≡ composed (composeInto h p h′ p′ work hout pout) → words ≡ workAfter h p h′ p′ work
+      → H ≡ handlerAfter (composeInto h p h′ p′ work hout pout) hout → P ≡ proofAfter (composeInto h p h′ p′ work hout pout) pout
+      → Contract r words H P
+  contract r words H P e₁ e₂ e₃ e₄ = (e₁, (e₂, (e₃, (e₄, rw (e₁, e₃, e₄) (promised h p h′ p′ (length work) hout pout)))))
+
+  -- A refusal that writes nothing.
+  pub untouched : (pair : ℕ) (f : Fault) → (compose h p h′ p′ (length work) ≡ refused pair f) × (workAfter h p h′ p′ work ≡ work)
+      → (r : Composed) → r ≡ Composed.Refused pair f → Contract r work hout pout
+  unfolding withRoom
+  untouched pair f e r is = contract r work hout pout (rw (e .0) is) (sym (e .1)) (rw (e .0)) (rw (e .0))

@@ -7,7 +7,6 @@ use Rattle.states.specs.Sets.{has}
 use Rattle.states.specs.Relations.{rel, reach}
 use Rattle.semantics.specs.Derivations.{Spec}
 use Rattle.composition.specs.declared.tables.Roots.{Roots}
-use Rattle.composition.specs.Joining.{rootSpec}
 use Rattle.composition.specs.Refinement.{Joint}
 
 module _ (n : ℕ) (a b : Spec) (x : Roots) (moves : List ℕ)

@@ -7,11 +7,9 @@ use mathlib.Core.List.{List}
 use mathlib.Core.Option.{none}
 use mathlib.Core.Path.{_≡_, refl, sym, _∙_, subst}
 use native.Mathlib.Omega.{arith}
-use borrow.Author.Tests.{leb-true, eqb-true}
-use lib.Dec.{eqb}
+use borrow.Author.Tests.{leb-true}
 use lib.ListN.{length}
-use lib.Seq.{ext-getD}
-use Rattle.states.proofs.Search.{and-left, and-right, all-at, holds-none}
+use Rattle.states.proofs.Search.{and-left, and-right, holds-none}
 use Rattle.semantics.specs.Language.{Stmt, par}
 use Rattle.semantics.specs.States.{Machine, product, machineOf}
 use Rattle.semantics.specs.StepNumber.{steps}
@@ -37,33 +35,27 @@ use Rattle.form.proofs.Verdicts.{memberTables}
 use Rattle.form.proofs.Where.{where-below}
 use Rattle.form.proofs.Forms.{Writable, any-read, any-fault}
 use Rattle.composition.specs.Joining.{rootSpec, leftSpec, rightSpec, membersOf, joined}
-use Rattle.composition.specs.Composing.{Side, sideOf, made, sameSizes, statement, derivation, handlerFile, proofFile, staysIn, inLimits, compose}
+use Rattle.composition.specs.Composing.{Side, sideOf, made, statement, derivation, handlerFile, proofFile, staysIn, inLimits, compose}
+use Rattle.composition.proofs.Asked.{sizes-same}
 use Rattle.composition.proofs.Rules.{root-within}
 use Rattle.composition.proofs.Joined.{named-spec, joined-fault}
 use Rattle.composition.proofs.Sides.{AcceptedSide, accepted-side}
 use Rattle.composition.proofs.HandlerFile.{joined-read}
 use Rattle.composition.proofs.Outcomes.{stepsOut, handlerOut, proofOut, BothAccepted, Compatible, Success, succeeded}
 
--- 90: both have the same variables.
-same-sizes : (xs ys : List ℕ) → sameSizes xs ys ≡ true → xs ≡ ys
-unfolding sameSizes
-same-sizes xs ys e =
-    let lengths = eqb (length xs) (length ys) in
-    ext-getD 0 xs ys (eqb-true _ _ (and-left lengths _ e)) (λ i l. eqb-true _ _ (all-at (length xs) _ (and-right lengths _ e) i l))
-
 -- 94: the result is within each limit.
-record Limits (h h′ : List ℕ) (a b : Side) : Type 0 where
-  statements-most : statements (statement h h′ a b) ≤ 63
-  statement-levels : stmtLevels (statement h h′ a b) ≤ 16
-  nodes-most : nodes (derivation h h′ a b) ≤ 127
-  levels-most : levels (derivation h h′ a b) ≤ 24
-  sets-most : length (setsIn (derivation h h′ a b)) ≤ 16
-  relations-most : length (relationsIn (derivation h h′ a b)) ≤ 16
-  handler-length : length (handlerFile h h′ a b) ≤ 16384
-  proof-length : length (proofFile h h′ a b) ≤ 16384
-  steps-most : steps (product (a .sizes)) (statement h h′ a b) ≤ 2 ^ 32 - 1
+pub record Limits (h h′ : List ℕ) (a b : Side) : Type 0 where
+  pub statements-most : statements (statement h h′ a b) ≤ 63
+  pub statement-levels : stmtLevels (statement h h′ a b) ≤ 16
+  pub nodes-most : nodes (derivation h h′ a b) ≤ 127
+  pub levels-most : levels (derivation h h′ a b) ≤ 24
+  pub sets-most : length (setsIn (derivation h h′ a b)) ≤ 16
+  pub relations-most : length (relationsIn (derivation h h′ a b)) ≤ 16
+  pub handler-length : length (handlerFile h h′ a b) ≤ 16384
+  pub proof-length : length (proofFile h h′ a b) ≤ 16384
+  pub steps-most : steps (product (a .sizes)) (statement h h′ a b) ≤ 2 ^ 32 - 1
 
-limits : (h h′ : List ℕ) (a b : Side) → inLimits h h′ a b ≡ true → Limits h h′ a b
+pub limits : (h h′ : List ℕ) (a b : Side) → inLimits h h′ a b ≡ true → Limits h h′ a b
 unfolding inLimits
 limits h h′ a b e =
     let tests = simp and-eq-true-iff at e in
@@ -121,7 +113,7 @@ module _ (h p h′ p′ : List ℕ) (words k : ℕ) (hout pout : List ℕ) (s : 
 
   right : AcceptedSide h′ p′ (both .second-steps) (a .sizes) b
   right =
-      subst (λ sizes. AcceptedSide h′ p′ (both .second-steps) sizes b) (sym (same-sizes (a .sizes) (b .sizes) (c .same-variables)))
+      subst (λ sizes. AcceptedSide h′ p′ (both .second-steps) sizes b) (sym (sizes-same (a .sizes) (b .sizes) (c .same-variables)))
       (accepted-side h′ p′ words _ (both .second))
 
   within : Limits h h′ a b

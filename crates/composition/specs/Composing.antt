@@ -154,6 +154,10 @@ unfoldable pub withRoom : Composition → ℕ → ℕ → Composition
 withRoom (refused pair f) room room′ = refused pair f
 withRoom (made k handler proof) room room′ = asked 95 (leb (length handler) room && leb (length proof) room′) (made k handler proof)
 
+-- The outcome over the buffers that are lent: the work words and both output buffers.
+abbrev pub composeInto : List ℕ → List ℕ → List ℕ → List ℕ → List ℕ → List ℕ → List ℕ → Composition
+composeInto h p h′ p′ work hout pout = withRoom (compose h p h′ p′ (length work)) (length hout) (length pout)
+
 -- The answer.
 abbrev pub composed : Composition → Composed
 composed (refused pair f) = Composed.Refused pair f

@@ -23,11 +23,14 @@ use Rattle.derivation.specs.NodeTable.{nodeTable}
 use Rattle.rules.specs.Words.{wordSet, wordRelation, wordSpec}
 use Rattle.checker.specs.declared.Verdict.the-variants.{Accepted}
 use Rattle.checker.specs.Verdicts.{answer}
+use Rattle.report.specs.Code.{indexOf}
 use Rattle.form.specs.Members.{nodeBy, setWhere, relationWhere}
 use Rattle.form.specs.Mentions.{placeIn, mentioned, allMentioned}
 use Rattle.form.specs.Form.{setsIn, relationsIn, numbered, partsOf}
 use Rattle.form.proofs.Forms.{Writable}
 use Rattle.canonical.specs.Nodes.{nameIn, heldIn}
+use Rattle.composition.specs.declared.Composed.{Composed}
+use Rattle.composition.specs.declared.Composed.the-variants as Composed
 use Rattle.composition.specs.declared.tables.Roots.{Roots}
 use Rattle.composition.specs.declared.forms.Form.{Form}
 use Rattle.composition.specs.declared.joining.Lengths.{Lengths}
@@ -266,3 +269,8 @@ pub record SameStates (n : ℕ) (h p : List ℕ) (a : HandlerSummary) (h′ p′
 unfoldable pub metOf : ℕ → List ℕ → List ℕ → Side → Side → Composition
 metOf n h h′ A B =
     cond (eqb (firstUnmet n (A .tables) (B .tables)) 0) (limited h h′ A B) (refused 0 (plain (firstUnmet n (A .tables) (B .tables))))
+
+-- An answer whose parts are small enough for one number of 64 bits.
+abbrev pub Small : Composed → Type 0
+Small (Composed.Made m) = (m .steps < 2 ^ 32) × (m .handler ≤ 16384) × (m .proof ≤ 16384)
+Small (Composed.Refused pair f) = (pair ≤ 2) × (0 < f .number) × (f .number ≤ 95) × (indexOf (f .place) < 2 ^ 32)

@@ -7,6 +7,7 @@ use checker::WORK_WORDS;
 use checker::check;
 use derivation::words::clear;
 use pairs::compose_accepted;
+use report::code_of;
 use search::Named;
 ghost use mathlib.Core.Bool.{false};
 ghost use mathlib.Core.Path.{_≡_};
@@ -14,7 +15,9 @@ ghost use Prim.Native.Nat.{_≤_};
 ghost use lib.ListN.{length};
 ghost use Rattle.derivation.specs.Tables.{workWords, written};
 ghost use Rattle.composition.specs.declared.Composed.the-variants.{Refused};
-ghost use Rattle.composition.specs.Composing.{plain, tooLong, compose as composeOf, workAfter, composed, handlerAfter, proofAfter, withRoom, MadeIsAccepted};
+ghost use Rattle.composition.specs.Coding.{numberOf, ofNumber, withoutStates};
+ghost use Rattle.composition.specs.Composing.{plain, tooLong, composeInto, workAfter, composed, handlerAfter, proofAfter, MadeIsAccepted};
+ghost use Rattle.composition.specs.Refinement.{Small};
 
 mod asking;
 mod forms;
@@ -77,15 +80,15 @@ fn compose_checked(
 ) -> Composed
     requires { ⌜ (workWords ≤ length (now work)) × (tooLong (now h1) (now p1) ≡ false) × (tooLong (now h2) (now p2) ≡ false) ⌝ }
     ensures answer { λ r.
-        ⌜ r ≡ composed (withRoom (composeOf (now (h1 .entry)) (now (p1 .entry)) (now (h2 .entry)) (now (p2 .entry)) (length (now (work .entry))))
-        (length (now (hout .entry))) (length (now (pout .entry)))) ⌝ }
+        ⌜ r ≡ composed (composeInto (now (h1 .entry)) (now (p1 .entry)) (now (h2 .entry)) (now (p2 .entry))
+        (now (work .entry)) (now (hout .entry)) (now (pout .entry))) ⌝ }
     ensures words { λ _. ⌜ written (λ j. 0) (now (work .exit)) ≡ written (λ j. 0) (now (work .entry)) ⌝ }
     ensures handler { λ _.
-        ⌜ now (hout .exit) ≡ handlerAfter (withRoom (composeOf (now (h1 .entry)) (now (p1 .entry)) (now (h2 .entry)) (now (p2 .entry))
-        (length (now (work .entry)))) (length (now (hout .entry))) (length (now (pout .entry)))) (now (hout .entry)) ⌝ }
+        ⌜ now (hout .exit) ≡ handlerAfter (composeInto (now (h1 .entry)) (now (p1 .entry)) (now (h2 .entry)) (now (p2 .entry))
+        (now (work .entry)) (now (hout .entry)) (now (pout .entry))) (now (hout .entry)) ⌝ }
     ensures proof { λ _.
-        ⌜ now (pout .exit) ≡ proofAfter (withRoom (composeOf (now (h1 .entry)) (now (p1 .entry)) (now (h2 .entry)) (now (p2 .entry))
-        (length (now (work .entry)))) (length (now (hout .entry))) (length (now (pout .entry)))) (now (pout .entry)) ⌝ }
+        ⌜ now (pout .exit) ≡ proofAfter (composeInto (now (h1 .entry)) (now (p1 .entry)) (now (h2 .entry)) (now (p2 .entry))
+        (now (work .entry)) (now (hout .entry)) (now (pout .entry))) (now (pout .entry)) ⌝ }
 {
     match check(h1, p1, work) {
         Verdict::Refused(fault) => Composed::Refused(1, fault),
@@ -108,15 +111,15 @@ pub fn compose(
     pout: &mut [u8],
 ) -> Composed
     ensures answer { λ r.
-        ⌜ r ≡ composed (withRoom (composeOf (now (h1 .entry)) (now (p1 .entry)) (now (h2 .entry)) (now (p2 .entry)) (length (now (work .entry))))
-        (length (now (hout .entry))) (length (now (pout .entry)))) ⌝ }
+        ⌜ r ≡ composed (composeInto (now (h1 .entry)) (now (p1 .entry)) (now (h2 .entry)) (now (p2 .entry))
+        (now (work .entry)) (now (hout .entry)) (now (pout .entry))) ⌝ }
     ensures words { λ _. ⌜ now (work .exit) ≡ workAfter (now (h1 .entry)) (now (p1 .entry)) (now (h2 .entry)) (now (p2 .entry)) (now (work .entry)) ⌝ }
     ensures handler { λ _.
-        ⌜ now (hout .exit) ≡ handlerAfter (withRoom (composeOf (now (h1 .entry)) (now (p1 .entry)) (now (h2 .entry)) (now (p2 .entry))
-        (length (now (work .entry)))) (length (now (hout .entry))) (length (now (pout .entry)))) (now (hout .entry)) ⌝ }
+        ⌜ now (hout .exit) ≡ handlerAfter (composeInto (now (h1 .entry)) (now (p1 .entry)) (now (h2 .entry)) (now (p2 .entry))
+        (now (work .entry)) (now (hout .entry)) (now (pout .entry))) (now (hout .entry)) ⌝ }
     ensures proof { λ _.
-        ⌜ now (pout .exit) ≡ proofAfter (withRoom (composeOf (now (h1 .entry)) (now (p1 .entry)) (now (h2 .entry)) (now (p2 .entry))
-        (length (now (work .entry)))) (length (now (hout .entry))) (length (now (pout .entry)))) (now (pout .entry)) ⌝ }
+        ⌜ now (pout .exit) ≡ proofAfter (composeInto (now (h1 .entry)) (now (p1 .entry)) (now (h2 .entry)) (now (p2 .entry))
+        (now (work .entry)) (now (hout .entry)) (now (pout .entry))) (now (pout .entry)) ⌝ }
     ensures accepted { λ r. ⌜ MadeIsAccepted r (now (hout .exit)) (now (pout .exit)) ⌝ }
 {
     if work.len() < WORK_WORDS {
@@ -131,4 +134,54 @@ pub fn compose(
     let answer = compose_checked(h1, p1, h2, p2, work, hout, pout);
     clear(work);
     answer
+}
+
+// The parts of the answer as one number: the length of the handler file from bit 32 on, and that of the proof file from bit 47 on; or the top bit,
+// and the pair from bit 48 on.
+const HANDLERS: u64 = 4294967296;
+
+const PROOFS: u64 = 140737488355328;
+
+const PAIRS: u64 = 281474976710656;
+
+const REFUSED: u64 = 9223372036854775808;
+
+// The answer as one number.
+fn number_of(answer: Composed) -> u64
+    requires { ⌜ Small answer ⌝ }
+    ensures { λ r. ⌜ r ≡ numberOf answer ⌝ }
+{
+    match answer {
+        Composed::Made(made) => made.steps as u64
+            + HANDLERS * made.handler as u64
+            + PROOFS * made.proof as u64,
+        Composed::Refused(pair, fault) => REFUSED
+            + PAIRS * pair as u64
+            + code_of(Verdict::Refused(fault)),
+    }
+}
+
+// The same with the answer as one number, for a host that calls over the C interface. `ofNumber` of it is the answer but for the states of a
+// pair's own fault.
+pub fn compose_number(
+    h1: &[u8],
+    p1: &[u8],
+    h2: &[u8],
+    p2: &[u8],
+    work: &mut [u64],
+    hout: &mut [u8],
+    pout: &mut [u8],
+) -> u64
+    ensures number { λ r. ⌜ r ≡ numberOf (composed (composeInto (now (h1 .entry)) (now (p1 .entry)) (now (h2 .entry)) (now (p2 .entry))
+        (now (work .entry)) (now (hout .entry)) (now (pout .entry)))) ⌝ }
+    ensures answer { λ r. ⌜ ofNumber r ≡ withoutStates (composed (composeInto (now (h1 .entry)) (now (p1 .entry)) (now (h2 .entry)) (now (p2 .entry))
+        (now (work .entry)) (now (hout .entry)) (now (pout .entry)))) ⌝ }
+    ensures words { λ _. ⌜ now (work .exit) ≡ workAfter (now (h1 .entry)) (now (p1 .entry)) (now (h2 .entry)) (now (p2 .entry)) (now (work .entry)) ⌝ }
+    ensures handler { λ _. ⌜ now (hout .exit) ≡ handlerAfter (composeInto (now (h1 .entry)) (now (p1 .entry)) (now (h2 .entry)) (now (p2 .entry))
+        (now (work .entry)) (now (hout .entry)) (now (pout .entry))) (now (hout .entry)) ⌝ }
+    ensures proof { λ _. ⌜ now (pout .exit) ≡ proofAfter (composeInto (now (h1 .entry)) (now (p1 .entry)) (now (h2 .entry)) (now (p2 .entry))
+        (now (work .entry)) (now (hout .entry)) (now (pout .entry))) (now (pout .entry)) ⌝ }
+    ensures accepted { λ r. ⌜ MadeIsAccepted (ofNumber r) (now (hout .exit)) (now (pout .exit)) ⌝ }
+{
+    number_of(compose(h1, p1, h2, p2, work, hout, pout))
 }

@@ -13,7 +13,6 @@ use semantics::Names;
 use states::RELATION_WORDS;
 use states::StateSet;
 ghost use mathlib.Core.List.{List, []};
-ghost use mathlib.Core.Path.{_≡_};
 ghost use Prim.Native.Nat.{ℕ, _≤_};
 ghost use lib.ListN.{length};
 ghost use Rattle.states.specs.Sets.{capacity, has};

@@ -16,7 +16,6 @@ ghost use lib.ListN.{length};
 ghost use Rattle.states.specs.Sets.{capacity, has};
 ghost use Rattle.states.specs.Relations.{rel};
 ghost use Rattle.derivation.specs.Tables.{mostTables, workWords};
-ghost use Rattle.rules.specs.Words.{wordRelation};
 ghost use Rattle.form.specs.Members.{setWhere, relationWhere};
 ghost use Rattle.form.specs.Mentions.{placeIn};
 ghost use Rattle.composition.specs.Refinement.{setsHeld, relationsHeld, RelationStored, Kept, Mentioned, ThreeMentioned, Merged};

@@ -42,7 +42,7 @@ unfolding decoded codeOf withoutStates
 decoded-back (Accepted n) h = rw (lt-ltb n (2 ^ 32) h)
 decoded-back (Refused f) h = refused-back (f .number) (f .place) (h .0) (h .1) (h .2)
 
-place-small : (place : Place) → PlaceBounded place → indexOf place < 2 ^ 32
+pub place-small : (place : Place) → PlaceBounded place → indexOf place < 2 ^ 32
 unfolding indexOf
 place-small (Bit i) h = omega arith
 place-small (Node k) h = omega arith

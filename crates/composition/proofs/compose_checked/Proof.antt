@@ -3,7 +3,6 @@ use mathlib.Core.Path.{_≡_, sym, _∙_, ap}
 use borrow.Author.Needs.{needs}
 use lib.ListN.{length}
 use Rattle.derivation.specs.Tables.{written}
-use Rattle.checker.specs.declared.Verdict.{Verdict}
 use Rattle.checker.specs.Verdicts.{answer}
 use Rattle.composition.specs.Composing.{composed, handlerAfter, proofAfter, withRoom}
 use Rattle.composition.proofs.Checked.{first-refuses, second-refuses, both-accept, cleared-after}

@@ -1,7 +1,7 @@
 -- The same tests, with the sums in another order.
 use Prim.Native.Nat.{suc, _+_, max}
 use mathlib.Core.Bool.{_&&_}
-use mathlib.Core.Path.{_≡_, ap}
+use mathlib.Core.Path.{_≡_}
 use native.Mathlib.Omega.{arith}
 use borrow.Author.Needs.{needs}
 use lib.Dec.{leb}

@@ -1,7 +1,5 @@
 -- Both handler files are read; other sizes are 90, and the rest is decided over the same variables.
-use mathlib.Core.Bool.{true, false}
 use mathlib.Core.Path.{_≡_, sym, _∙_, ap, subst}
-use native.Mathlib.Omega.{arith}
 use borrow.Author.Needs.{needs}
 use lib.ListN.{length}
 use Rattle.semantics.specs.States.{product}

@@ -1,6 +1,6 @@
 -- By cases of what was found.
 use Prim.Native.Nat.{ℕ}
-use mathlib.Core.Path.{_≡_, refl, sym, _∙_}
+use mathlib.Core.Path.{_≡_}
 use native.Mathlib.Omega.{arith}
 use borrow.Author.Needs.{needs}
 use Rattle.composition.proofs.pairs.summary_of.Statement.{statement}

@@ -1,11 +1,9 @@
 -- The rows below s are stored.
-use Prim.Native.Nat.{_+_, _*_, _-_, _≤_}
+use Prim.Native.Nat.{_-_, _≤_}
 use mathlib.Core.Path.{_≡_}
 use native.Mathlib.Omega.{arith}
 use borrow.Author.Needs.{needs}
-use Rattle.states.specs.Sets.{capacity}
 use Rattle.states.specs.Relations.{rel}
-use Rattle.derivation.specs.Tables.{mostTables}
 use Rattle.composition.proofs.Stored.{RowsStored, rows-start, rows-next, relation-stored}
 use Rattle.composition.proofs.pool.store_relation.Statement.{statement}
 use Rattle.composition.proofs.pool.store_relation.Tie as tie

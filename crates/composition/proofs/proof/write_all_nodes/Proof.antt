@@ -1,6 +1,4 @@
 -- The root, then the first side, then the second, each where the one before ends.
-use Prim.Native.Nat.{_+_}
-use mathlib.Core.Path.{_∙_, ap}
 use native.Mathlib.Omega.{arith}
 use borrow.Author.Needs.{needs}
 use Rattle.composition.specs.Refinement.{formBits, nodeParts}

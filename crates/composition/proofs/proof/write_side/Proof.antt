@@ -1,6 +1,5 @@
 -- The weaken node, then the nodes of the form.
 use mathlib.Core.Path.{_≡_, sym}
-use native.Mathlib.Omega.{arith}
 use borrow.Author.Needs.{needs}
 use lib.ListN.{length}
 use Rattle.composition.specs.Refinement.{formBits}
