@@ -1,4 +1,5 @@
--- Worked examples: the lines of the least and the greatest step number, of a file that was written, and the roots of some pairs.
+-- Worked examples: the lines of the least and the greatest step number, of a file that was written, of two pairs that were composed or not,
+-- and the roots of some pairs.
 use Prim.Native.Nat.{ℕ, _+_, _*_, _^_}
 use mathlib.Core.List.{List, [], _∷_}
 use mathlib.Core.Path.{_≡_, refl}
@@ -10,8 +11,10 @@ use Rattle.handler.specs.Reading.{readHandler}
 use Rattle.derivation.specs.Tables.{rowAt, tablesThere, isCount, relationsRead, setsRead, tablesAt}
 use Rattle.derivation.specs.Nodes.{onName, namedTable, loopHead, namesHead, ruleHead, nodeHead, nodeAt, wholeNode}
 use Rattle.derivation.specs.Reading.{readProof}
+use Rattle.checker.specs.declared.Place.the-variants.{Bit, Node}
 use Rattle.checker.specs.declared.Verdict.the-variants.{Accepted}
-use Rattle.report.specs.Line.{ascii, digits, decimal, placeText, verdictText, lineOf, writtenLine}
+use Rattle.checker.specs.Verdicts.{refusedAt}
+use Rattle.report.specs.Line.{ascii, digits, decimal, placeText, verdictText, lineOf, pairText, pairLine, writtenLine, composedLine}
 use Rattle.report.specs.Root.{rootOf}
 use Rattle.report.proofs.Marked.{sample-handler, sample-proof}
 
@@ -23,6 +26,14 @@ step-numbers = (refl, refl)
 pub length-written : writtenLine 388 ≡ ascii "written 388\n"
 unfolding writtenLine decimal digits
 length-written = refl
+
+pub pairs-composed :
+    (composedLine 4294967295 ≡ ascii "composed 4294967295\n")
+    × (pairLine (refusedAt 31 (Node 2)) 1 ≡ ascii "refused 31 node 2 first pair\n")
+    × (pairLine (refusedAt 2 (Bit 0)) 2 ≡ ascii "refused 2 bit 0 second pair\n")
+    × (pairLine (refusedAt 90 (Bit 0)) 0 ≡ ascii "refused 90 bit 0\n")
+unfolding composedLine pairLine pairText verdictText placeText decimal digits
+pairs-composed = (refl, refl, refl, refl)
 
 -- The sample: 2 states, and P 0, R 0, G 1, Q 2. A pair that is refused, because with G 0 it breaks 43, has a root all the same. A handler
 -- file that is a byte short, and a proof file with a byte too many, give 0.

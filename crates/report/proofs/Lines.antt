@@ -1,18 +1,18 @@
--- Every line fits in 64 bytes, and what is written fits in its buffer.
+-- Every line fits in 80 bytes, and what is written fits in its buffer.
 use Prim.Native.Nat.{ℕ, _^_, _≤_, _<_}
 use mathlib.Core.Path.{_≡_, refl}
 use mathlib.Core.Bool.{Bool, true, false, cond}
-use mathlib.Core.List.{List, _++_}
+use mathlib.Core.List.{List, [], _++_}
 use native.Mathlib.Omega.{arith}
 use lib.ListN.{length, length-append}
-use lib.Dec.{leb}
+use lib.Dec.{leb, eqb}
 use borrow.Author.Tests.{leb-true}
 use Rattle.checker.specs.declared.Place.{Place}
 use Rattle.checker.specs.declared.Place.the-variants.{Bit, Node}
 use Rattle.checker.specs.declared.Verdict.{Verdict}
 use Rattle.checker.specs.declared.Verdict.the-variants.{Accepted, Refused}
 use Rattle.report.specs.Code.{indexOf}
-use Rattle.report.specs.Line.{ascii, decimal, placeText, verdictText, lineOf, lineLength, WithinTypes}
+use Rattle.report.specs.Line.{ascii, decimal, placeText, verdictText, lineOf, pairText, pairLine, lineLength, WithinTypes}
 use Rattle.report.proofs.Decimal.{decimal-short}
 
 place-short : (place : Place) → indexOf place < 2 ^ 64 → length (placeText place) ≤ 26
@@ -31,10 +31,30 @@ words-short (Refused f) h =
       place-short (f .place) (h .1),
     )
 
--- 64 bytes hold every line.
-pub line-short : (v : Verdict) → WithinTypes v → length (lineOf v) ≤ 64
+pair-short : (pair : ℕ) → length (pairText pair) ≤ 12
+unfolding pairText
+pair-short pair = by (eqb pair 1) (eqb pair 2)
+  where
+    by : (b c : Bool) → length (cond b (ascii " first pair") (cond c (ascii " second pair") [])) ≤ 12
+    by true c = omega arith
+    by false true = omega arith
+    by false false = omega arith
+
+-- 80 bytes hold every line.
+pub line-short : (v : Verdict) → WithinTypes v → length (lineOf v) ≤ 80
 unfolding lineOf
 line-short v h = rw length-append (omega (arith, words-short v h))
+
+pub pair-line-short : (v : Verdict) (pair : ℕ) → WithinTypes v → length (pairLine v pair) ≤ 80
+unfolding pairLine
+pair-line-short v pair h =
+    omega (
+      arith,
+      length-append (verdictText v ++ pairText pair) (ascii "\n"),
+      length-append (verdictText v) (pairText pair),
+      words-short v h,
+      pair-short pair,
+    )
 
 -- No more is written than there is room for.
 pub line-within : (line out : List ℕ) → lineLength line out ≤ length out

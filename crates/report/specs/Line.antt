@@ -1,12 +1,13 @@
 -- The check program prints one line in full: the word and the step number, or the word, the number, `node` or `bit`, and the place; of a
--- file that it wrote, the word and the length. A text is the list of its bytes.
+-- file that it wrote, the word and the length; of two pairs that it composed, the word and the step number, or the refusal and its pair.
+-- A text is the list of its bytes.
 use Prim.Native.Nat.{ℕ, zero, suc, _+_, _/_, _%_, _^_, _<_}
 use Prim.Native.Char.{code}
 use Prim.Native.String.{String, [] as []ˢ, _∷_ as _∷ˢ_}
 use mathlib.Core.Bool.{cond}
 use mathlib.Core.List.{List, [], _∷_, _++_}
 use lib.ListN.{length, drop}
-use lib.Dec.{leb, ltb}
+use lib.Dec.{leb, ltb, eqb}
 use Rattle.checker.specs.declared.Place.{Place}
 use Rattle.checker.specs.declared.Place.the-variants.{Bit, Node}
 use Rattle.checker.specs.declared.Verdict.{Verdict}
@@ -46,6 +47,18 @@ lineOf v = verdictText v ++ ascii "\n"
 -- The line of a file that was written: the word and the file's length.
 unfoldable pub writtenLine : ℕ → List ℕ
 writtenLine length = (ascii "written " ++ decimal length) ++ ascii "\n"
+
+-- The line of two pairs that were composed: the word and the step number of the result.
+unfoldable pub composedLine : ℕ → List ℕ
+composedLine steps = (ascii "composed " ++ decimal steps) ++ ascii "\n"
+
+-- Which pair a refusal is about: 1 the first, 2 the second, and any other number neither.
+unfoldable pub pairText : ℕ → List ℕ
+pairText pair = cond (eqb pair 1) (ascii " first pair") (cond (eqb pair 2) (ascii " second pair") [])
+
+-- The line of a verdict on one of two pairs.
+unfoldable pub pairLine : Verdict → ℕ → List ℕ
+pairLine v pair = (verdictText v ++ pairText pair) ++ ascii "\n"
 
 -- The range of the code's types: every number is below 2 ^ 64.
 abbrev pub WithinTypes : Verdict → Type 0

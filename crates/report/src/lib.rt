@@ -6,7 +6,7 @@ ghost use lib.ListN.{length, take};
 ghost use Rattle.search.specs.Named.{listed};
 ghost use Rattle.report.specs.Code.{codeOf};
 ghost use Rattle.report.specs.States.{statesOf, statesNumber};
-ghost use Rattle.report.specs.Line.{ascii, decimal, placeText, verdictText, lineOf, writtenLine, lineInto, lineLength};
+ghost use Rattle.report.specs.Line.{ascii, decimal, placeText, verdictText, pairText, pairLine, lineOf, writtenLine, composedLine, lineInto, lineLength};
 ghost use Rattle.report.specs.Put.{Put};
 use checker::Place;
 use checker::Verdict;
@@ -27,7 +27,7 @@ const SECOND: u64 = 256;
 const THIRD: u64 = 65536;
 
 // So many bytes hold every line.
-pub const LINE_BYTES: usize = 64;
+pub const LINE_BYTES: usize = 80;
 
 // The verdict as one number, for a host that calls over the C interface.
 pub fn code_of(v: Verdict) -> u64
@@ -133,6 +133,21 @@ fn put_words(out: &mut [u8], v: Verdict) -> usize
     }
 }
 
+// Puts which pair is meant, where one is.
+fn put_pair(out: &mut [u8], at: usize, pair: u32) -> usize
+    requires { ⌜ at + 12 ≤ length (now out) ⌝ }
+    ensures { λ r. ⌜ Put (now (out .entry)) at (pairText pair) (now (out .exit)) r ⌝ }
+    ensures { λ r. ⌜ r ≤ at + 12 ⌝ }
+{
+    if pair == 1 {
+        return put(out, at, b" first pair");
+    }
+    if pair == 2 {
+        return put(out, at, b" second pair");
+    }
+    put(out, at, b"")
+}
+
 // Ends the line in the first `end` bytes with a newline and puts it at the front of `out`; returns its length, or 0 if there is no room.
 fn put_line(line: &mut [u8], end: usize, out: &mut [u8]) -> usize
     requires { ⌜ end < length (now line) ⌝ }
@@ -156,12 +171,40 @@ pub fn write_line(v: Verdict, out: &mut [u8]) -> usize
     put_line(&mut line, end, out)
 }
 
+// Does the same with the line of a verdict on one of two pairs, 1 or 2; any other number names no pair.
+pub fn write_pair(v: Verdict, pair: u32, out: &mut [u8]) -> usize
+    ensures { λ r. ⌜ (r ≡ lineLength (pairLine v pair) (now (out .entry)))
+        × (now (out .exit) ≡ lineInto (pairLine v pair) (now (out .entry))) ⌝ }
+{
+    let mut line = [0u8; LINE_BYTES];
+    let words = put_words(&mut line, v);
+    let end = put_pair(&mut line, words, pair);
+    put_line(&mut line, end, out)
+}
+
+// Does the same with a word of at most 9 bytes and a number.
+fn write_named(word: &[u8], n: u64, out: &mut [u8]) -> usize
+    requires { ⌜ length (now word) ≤ 9 ⌝ }
+    ensures { λ r. ⌜ (r ≡ lineLength ((now (word .entry) ++ decimal n) ++ ascii "\n") (now (out .entry)))
+        × (now (out .exit) ≡ lineInto ((now (word .entry) ++ decimal n) ++ ascii "\n") (now (out .entry))) ⌝ }
+{
+    let mut line = [0u8; LINE_BYTES];
+    let end = put_named(&mut line, 0, word, n);
+    put_line(&mut line, end, out)
+}
+
 // Does the same with the line of a file that was written, `written` and its length.
 pub fn write_length(length: u32, out: &mut [u8]) -> usize
     ensures { λ r. ⌜ (r ≡ lineLength (writtenLine length) (now (out .entry)))
         × (now (out .exit) ≡ lineInto (writtenLine length) (now (out .entry))) ⌝ }
 {
-    let mut line = [0u8; LINE_BYTES];
-    let end = put_named(&mut line, 0, b"written ", length as u64);
-    put_line(&mut line, end, out)
+    write_named(b"written ", length as u64, out)
+}
+
+// Does the same with the line of two pairs that were composed, `composed` and the step number of the result.
+pub fn write_composed(steps: u32, out: &mut [u8]) -> usize
+    ensures { λ r. ⌜ (r ≡ lineLength (composedLine steps) (now (out .entry)))
+        × (now (out .exit) ≡ lineInto (composedLine steps) (now (out .entry))) ⌝ }
+{
+    write_named(b"composed ", steps as u64, out)
 }

@@ -1,4 +1,4 @@
--- The line is built in 64 bytes, which hold every line; its text is that of the verdict.
+-- The line is built in 80 bytes, which hold every line; its text is that of the verdict.
 use borrow.Author.Needs.{needs}
 use Rattle.report.specs.Line.{lineOf}
 use Rattle.report.proofs.write_line.Statement.{statement}
