@@ -1,9 +1,10 @@
-/* bounds FILE: the five calls read and write nothing outside their buffers, over the pairs of a file (pairs.h).
+/* bounds FILE: the six calls read and write nothing outside their buffers, over the pairs of a file (pairs.h).
 
    The files, the work words and the output are put right before a page that cannot be accessed, and then right after one, so that
    an access one byte outside ends the program by a signal. The answers, the words and the output must be those of a call with
-   ordinary buffers, and the files must be unchanged. The output has just as many bytes as the form, and then one fewer. Ends with 1
-   where something differs, with 2 where nothing was tested. */
+   ordinary buffers, and the files must be unchanged. The output has just as many bytes as the form, and then one fewer. Each pair is
+   composed with itself and with one that bears it, into just as many bytes as both files have, and then one fewer in either. Ends
+   with 1 where something differs, with 2 where nothing was tested. */
 #define _GNU_SOURCE
 #include "pairs.h"
 
@@ -28,11 +29,16 @@ static uint8_t *placed(uint8_t *room, size_t length, bool at_end)
     return at_end ? room + ROOM - length : room;
 }
 
-static struct pair pair;
+static struct pair pair, quiet;
 static uint64_t plain_work[HANDOVER_WORK_WORDS];
 static uint64_t plain_states_work[HANDOVER_WORK_WORDS];
 static uint8_t plain_out[HANDOVER_MOST_BYTES];
-static uint8_t *rooms[4];
+static uint8_t plain_handler[HANDOVER_MOST_BYTES];
+static uint8_t plain_proof[HANDOVER_MOST_BYTES];
+
+enum { ROOMS = 7 };
+
+static uint8_t *rooms[ROOMS];
 
 /* Places that are asked for with each pair, besides that of its refusal: in the files and just past them, nodes and bits. */
 enum { PLACES = 7 };
@@ -68,6 +74,70 @@ static bool same_form(const uint8_t *handler, const uint8_t *proof, bool at_end,
             same = same && short_out[i] == 0x77;
         }
     }
+    return same;
+}
+
+/* The composition of two pairs in buffers that begin or end at a page, with output of so many bytes. */
+static uint64_t compose_at(const struct pair *second, bool at_end, uint8_t **outs, size_t hroom, size_t proom)
+{
+    const uint8_t *sources[4] = {pair.handler, pair.proof, second->handler, second->proof};
+    const size_t lengths[4] = {pair.handler_len, pair.proof_len, second->handler_len, second->proof_len};
+    uint8_t *files[4];
+    uint64_t *work = (uint64_t *)(void *)placed(rooms[4], sizeof plain_work, at_end);
+    for (int i = 0; i < 4; i++) {
+        files[i] = placed(rooms[i], lengths[i], at_end);
+        memcpy(files[i], sources[i], lengths[i]);
+    }
+    outs[0] = placed(rooms[5], hroom, at_end);
+    outs[1] = placed(rooms[6], proom, at_end);
+    memset(work, 0x77, sizeof plain_work);
+    memset(outs[0], 0x77, hroom);
+    memset(outs[1], 0x77, proom);
+    uint64_t answer = handover_compose(files[0], lengths[0], files[1], lengths[1], files[2], lengths[2], files[3], lengths[3], work,
+                                       HANDOVER_WORK_WORDS, outs[0], hroom, outs[1], proom);
+    bool same = memcmp(work, plain_work, sizeof plain_work) == 0;
+    for (int i = 0; i < 4; i++) {
+        same = same && memcmp(files[i], sources[i], lengths[i]) == 0;
+    }
+    return same ? answer : UINT64_MAX;
+}
+
+/* Whether so many bytes are as they were set. */
+static bool is_left(const uint8_t *bytes, size_t length)
+{
+    for (size_t i = 0; i < length; i++) {
+        if (bytes[i] != 0x77) {
+            return false;
+        }
+    }
+    return true;
+}
+
+/* Whether output of one byte fewer, in the handler's room or in the proof's, is refused and left. */
+static bool left_short(const struct pair *second, bool at_end, size_t hroom, size_t proom)
+{
+    uint8_t *outs[2];
+    uint64_t fault = handover_composed_fault(compose_at(second, at_end, outs, hroom, proom));
+    return handover_number(fault) == HANDOVER_COMPOSE_OUTPUT && is_left(outs[0], hroom) && is_left(outs[1], proom);
+}
+
+/* Whether a composition does with guarded buffers what it does with ordinary ones; counts those that are written. */
+static bool same_composition(const struct pair *second, size_t *compositions)
+{
+    uint8_t *outs[2];
+    memset(plain_work, 0x77, sizeof plain_work);
+    uint64_t known = handover_compose(pair.handler, pair.handler_len, pair.proof, pair.proof_len, second->handler,
+                                      second->handler_len, second->proof, second->proof_len, plain_work, HANDOVER_WORK_WORDS,
+                                      plain_handler, sizeof plain_handler, plain_proof, sizeof plain_proof);
+    bool written = handover_composed(known), same = true;
+    size_t h = written ? handover_composed_handler(known) : 0, p = written ? handover_composed_proof(known) : 0;
+    for (int at_end = 0; at_end < 2; at_end++) {
+        same = same && compose_at(second, at_end == 1, outs, h, p) == known && memcmp(outs[0], plain_handler, h) == 0
+            && memcmp(outs[1], plain_proof, p) == 0;
+        same = same
+            && (!written || (left_short(second, at_end == 1, h - 1, p) && left_short(second, at_end == 1, h, p - 1)));
+    }
+    *compositions += written;
     return same;
 }
 
@@ -136,22 +206,24 @@ static struct answers answers_of_pair(void)
 int main(int argc, char **argv)
 {
     FILE *file = argc == 2 ? fopen(argv[1], "rb") : NULL;
-    size_t pairs = 0, forms = 0;
+    size_t pairs = 0, forms = 0, compositions = 0;
     if (file == NULL) {
         give_up("usage: bounds FILE");
     }
-    for (int i = 0; i < 4; i++) {
+    for (int i = 0; i < ROOMS; i++) {
         rooms[i] = guarded();
     }
     for (; next_pair(file, &pair); pairs++) {
         struct answers known = answers_of_pair();
         bool same = memcmp(plain_work, plain_states_work, sizeof plain_work) == 0;
         forms += form_length(&known) > 0;
-        if (!same || !same_at(true, &known) || !same_at(false, &known)) {
+        make_quiet(&pair, &quiet);
+        same = same && same_at(true, &known) && same_at(false, &known);
+        if (!same || !same_composition(&pair, &compositions) || !same_composition(&quiet, &compositions)) {
             printf("bounds: pair %zu differs\n", pairs);
             return 1;
         }
     }
-    printf("bounds: %zu pairs, %zu forms\n", pairs, forms);
-    return forms > 0 ? 0 : 2;
+    printf("bounds: %zu pairs, %zu forms, %zu compositions\n", pairs, forms, compositions);
+    return forms > 0 && compositions > 0 ? 0 : 2;
 }

@@ -36,11 +36,25 @@ static const uint8_t formed[] = {0x08, 0xF0, 0x45, 0xC0, 0x02, 0x44, 0x00, 0x48}
 /* The one form of `refused`, in which no node names relation 1. */
 static const uint8_t refused_formed[] = {0x08, 0xB0, 0x52, 0x00, 0x02};
 
+/* `nil` over the same variable, with all states in P, R {(0,1)}, an empty G, and Q {(0,0), (0,1), (1,1)}: the smallest pair and this one
+   bear each other. The files of their composition. */
+static const uint8_t quiet[] = {0x22, 0x00};
+static const uint8_t quiet_proof[] = {0x08, 0xF4, 0x0D, 0x00, 0x02, 0x40};
+static const uint8_t composed[] = {0x22, 0x64, 0x00, 0x40};
+static const uint8_t composed_proof[] = {0x09, 0x30, 0x45, 0xD6, 0x00, 0x25, 0x80, 0x04, 0x88, 0x00, 0x96, 0x01, 0x03, 0x00, 0x20, 0x60};
+
+/* `nil` over a variable of size 3, with every table empty. */
+static const uint8_t wider[] = {0x23, 0x00};
+static const uint8_t wider_proof[] = {0x08, 0x40, 0x00, 0x00, 0x00, 0x00};
+
 static uint64_t work[HANDOVER_WORK_WORDS];
 static uint64_t other_work[HANDOVER_WORK_WORDS];
 static uint8_t longest[HANDOVER_MOST_BYTES + 1];
 static uint8_t out[HANDOVER_MOST_BYTES];
+static uint8_t other_out[HANDOVER_MOST_BYTES];
 static uint8_t untouched[HANDOVER_MOST_BYTES];
+static uint64_t untouched_work[HANDOVER_WORK_WORDS];
+static const uint64_t cleared_work[HANDOVER_WORK_WORDS] = {0};
 
 /* Every fault number, in the order of the header. */
 static const enum handover_fault faults[] = {
@@ -297,9 +311,105 @@ static void forms_turned_away(void)
                 0);
 }
 
+/* Answers of a composition put together by hand at their limits, and taken apart. */
+static void compositions_apart(void)
+{
+    const uint64_t most = HANDOVER_MOST_BYTES;
+    const uint64_t answer = HANDOVER_MOST_STEPS + (most << 32) + (most << 47);
+    same("composed", handover_composed(answer), 1);
+    same("steps", handover_composed_steps(answer), HANDOVER_MOST_STEPS);
+    same("handler length", handover_composed_handler(answer), most);
+    same("proof length", handover_composed_proof(answer), most);
+    same("no pair", handover_composed_pair(answer), 0);
+    same("no fault", handover_composed_fault(answer), 0);
+    for (uint64_t pair = 0; pair < 3; pair++) {
+        uint64_t fault = UINT64_C(95) << 33 | UINT64_C(1) << 32 | UINT32_MAX;
+        uint64_t refusal = UINT64_C(1) << 63 | pair << 48 | fault;
+        same("not composed", handover_composed(refusal), 0);
+        same("pair", handover_composed_pair(refusal), pair);
+        same("fault", handover_composed_fault(refusal), fault);
+        same("its number", handover_number(handover_composed_fault(refusal)), HANDOVER_COMPOSE_OUTPUT);
+    }
+}
+
+/* Two files of a pair. */
+struct files {
+    const uint8_t *handler;
+    size_t handler_len;
+    const uint8_t *proof;
+    size_t proof_len;
+};
+
+static const struct files smallest = {handler, sizeof handler, proof, sizeof proof};
+static const struct files beside = {quiet, sizeof quiet, quiet_proof, sizeof quiet_proof};
+static const struct files wide = {wider, sizeof wider, wider_proof, sizeof wider_proof};
+static const struct files broken = {handler, sizeof handler, refused, sizeof refused};
+static const struct files long_proof = {handler, sizeof handler, longest, sizeof longest};
+static const struct files no_handler = {handler, 0, proof, sizeof proof};
+
+/* Composes two pairs with so many words and bytes. */
+static uint64_t compose(const struct files *a, const struct files *b, size_t words, size_t hroom, size_t proom)
+{
+    memset(out, 0x77, sizeof out);
+    memset(other_out, 0x77, sizeof other_out);
+    memset(work, 0x77, sizeof work);
+    return handover_compose(a->handler, a->handler_len, a->proof, a->proof_len, b->handler, b->handler_len, b->proof, b->proof_len,
+                            work, words, out, hroom, other_out, proom);
+}
+
+/* The composition in so much room: both files are there in full, and the bytes past them are left. */
+static void composes(const char *name, size_t hroom, size_t proom)
+{
+    const size_t h = sizeof composed, p = sizeof composed_proof;
+    uint64_t answer = compose(&smallest, &beside, HANDOVER_WORK_WORDS, hroom, proom);
+    same(name, answer, 2 + ((uint64_t)h << 32) + ((uint64_t)p << 47));
+    same("the handler", memcmp(out, composed, h) == 0, 1);
+    same("the bytes past it", memcmp(out + h, untouched + h, sizeof out - h) == 0, 1);
+    same("the proof", memcmp(other_out, composed_proof, p) == 0, 1);
+    same("the bytes past that", memcmp(other_out + p, untouched + p, sizeof other_out - p) == 0, 1);
+    same("the words", memcmp(work, cleared_work, sizeof work) == 0, 1);
+    same("accepted", handover_check(out, h, other_out, p, work, HANDOVER_WORK_WORDS), handover_composed_steps(answer));
+}
+
+/* A call that writes nothing: its pair and number, with both buffers as they were; 1 and 2 leave the words too. */
+static void not_composed(const char *name, const struct files *a, const struct files *b, size_t words, size_t hroom, size_t proom,
+                         uint32_t pair, uint32_t number)
+{
+    uint64_t answer = compose(a, b, words, hroom, proom);
+    uint64_t fault = handover_composed_fault(answer);
+    const uint64_t *wanted = number <= HANDOVER_FAULT_FILE_LENGTH ? untouched_work : cleared_work;
+    same(name, handover_number(fault), number);
+    same("not composed", handover_composed(answer), 0);
+    same("its pair", handover_composed_pair(answer), pair);
+    same("its kind", (uint64_t)handover_kind(fault), number >= 30 && number <= 80 ? HANDOVER_NODE : HANDOVER_BIT);
+    same("its place", handover_place(fault), 0);
+    same("the handler's buffer", memcmp(out, untouched, sizeof out) == 0, 1);
+    same("the proof's buffer", memcmp(other_out, untouched, sizeof other_out) == 0, 1);
+    same("the words", memcmp(work, wanted, sizeof work) == 0, 1);
+}
+
+/* Compositions in buffers that are just long enough and in the longest; and each fault before those after it. */
+static void compositions(void)
+{
+    const size_t words = HANDOVER_WORK_WORDS, h = sizeof composed, p = sizeof composed_proof, most = sizeof out;
+    composes("composed in just enough room", h, p);
+    composes("composed in the longest buffers", most, most);
+    not_composed("a word short", &long_proof, &long_proof, words - 1, 0, 0, 0, HANDOVER_FAULT_WORK_WORDS);
+    not_composed("too long a first file", &long_proof, &long_proof, words, 0, 0, 1, HANDOVER_FAULT_FILE_LENGTH);
+    not_composed("too long a second file", &broken, &long_proof, words, 0, 0, 2, HANDOVER_FAULT_FILE_LENGTH);
+    not_composed("no first handler", &no_handler, &broken, words, 0, 0, 1, HANDOVER_FAULT_HANDLER_SHORT);
+    not_composed("the first pair's own", &broken, &no_handler, words, 0, 0, 1, HANDOVER_FAULT_ASSIGNMENT_G);
+    not_composed("the second pair's own", &wide, &broken, words, 0, 0, 2, HANDOVER_FAULT_ASSIGNMENT_G);
+    not_composed("other sizes", &smallest, &wide, words, 0, 0, 0, HANDOVER_COMPOSE_SIZES);
+    not_composed("the second G", &smallest, &smallest, words, 0, 0, 0, HANDOVER_COMPOSE_SECOND_G);
+    not_composed("a byte short for the handler", &smallest, &beside, words, h - 1, p, 0, HANDOVER_COMPOSE_OUTPUT);
+    not_composed("a byte short for the proof", &smallest, &beside, words, h, p - 1, 0, HANDOVER_COMPOSE_OUTPUT);
+}
+
 int main(void)
 {
     memset(untouched, 0x77, sizeof untouched);
+    memset(untouched_work, 0x77, sizeof untouched_work);
     fault_numbers();
     step_numbers();
     roots();
@@ -311,5 +421,7 @@ int main(void)
     views_apart();
     forms();
     forms_turned_away();
+    compositions_apart();
+    compositions();
     return failures == 0 ? 0 : 1;
 }

@@ -1,11 +1,11 @@
-/* stack FILE: how much stack each of the five calls takes at most, over the pairs of a file (pairs.h).
+/* stack FILE: how much stack each of the six calls takes at most, over the pairs of a file (pairs.h).
 
    Every call is made in a thread of its own whose stack was painted beforehand. What is counted reaches from the frame that makes
    the call down to the lowest byte that is no longer paint. A byte that happens to be written in the colour of the paint is not
    seen, so each call is made with two colours.
 
-   Prints the largest figures, and for comparison what a thread takes that makes no call. Ends with 1 where a call takes more than
-   HANDOVER_STACK_BYTES, with 2 where nothing could be measured. */
+   Prints the largest figures with what the header allows, and for comparison what a thread takes that makes no call. Ends with 1
+   where a call takes more than it is allowed, with 2 where nothing could be measured. */
 #define _GNU_SOURCE
 #include "pairs.h"
 
@@ -19,9 +19,10 @@ enum { STACK_BYTES = 256 * 1024 };
 static uint8_t *stack;
 static uint8_t *frame;
 
-static struct pair pair;
+static struct pair pair, quiet;
 static uint64_t work[HANDOVER_WORK_WORDS];
 static uint8_t out[HANDOVER_MOST_BYTES];
+static uint8_t other_out[HANDOVER_MOST_BYTES];
 static uint64_t answer;
 
 static void *call_check(void *unused)
@@ -68,6 +69,15 @@ static void *call_canonical(void *unused)
     return unused;
 }
 
+/* The pair with one that bears it, so that most accepted pairs are composed. */
+static void *call_compose(void *unused)
+{
+    frame = (uint8_t *)__builtin_frame_address(0);
+    answer = handover_compose(pair.handler, pair.handler_len, pair.proof, pair.proof_len, quiet.handler, quiet.handler_len,
+                              quiet.proof, quiet.proof_len, work, HANDOVER_WORK_WORDS, out, sizeof out, other_out, sizeof other_out);
+    return unused;
+}
+
 /* The same, with no call. */
 static void *call_nothing(void *unused)
 {
@@ -106,29 +116,32 @@ static size_t most_of(void *(*call)(void *))
     return one > other ? one : other;
 }
 
-/* The calls, and the largest figure of each so far. */
+/* The calls, what the header allows each, and its largest figure so far. */
 struct measured {
     const char *name;
     void *(*call)(void *);
+    size_t allowed;
     size_t most;
 };
 
 static struct measured calls[] = {
-    {"handover_check", call_check, 0},
-    {"handover_root", call_root, 0},
-    {"handover_states", call_states, 0},
-    {"handover_view", call_view, 0},
-    {"handover_view of the root", call_view_root, 0},
-    {"handover_canonical", call_canonical, 0},
+    {"handover_check", call_check, HANDOVER_STACK_BYTES, 0},
+    {"handover_root", call_root, HANDOVER_STACK_BYTES, 0},
+    {"handover_states", call_states, HANDOVER_STACK_BYTES, 0},
+    {"handover_view", call_view, HANDOVER_STACK_BYTES, 0},
+    {"handover_view of the root", call_view_root, HANDOVER_STACK_BYTES, 0},
+    {"handover_canonical", call_canonical, HANDOVER_STACK_BYTES, 0},
+    {"handover_compose", call_compose, HANDOVER_COMPOSE_STACK_BYTES, 0},
 };
 
 enum { CALLS = sizeof calls / sizeof calls[0] };
 
-/* How many pairs there are, how many of them are accepted, and for how many states are named. */
+/* How many pairs there are, how many of them are accepted, for how many states are named, and how many are composed. */
 struct counts {
     size_t pairs;
     size_t accepted;
     size_t with_states;
+    size_t composed;
 };
 
 static void measure(const char *name, struct counts *counts)
@@ -138,11 +151,13 @@ static void measure(const char *name, struct counts *counts)
         give_up("the file of pairs cannot be opened");
     }
     for (; next_pair(file, &pair); counts->pairs++) {
+        make_quiet(&pair, &quiet);
         for (int i = 0; i < CALLS; i++) {
             size_t bytes = most_of(calls[i].call);
             calls[i].most = bytes > calls[i].most ? bytes : calls[i].most;
             counts->accepted += calls[i].call == call_check && handover_accepted(answer);
             counts->with_states += calls[i].call == call_states && answer != 0;
+            counts->composed += calls[i].call == call_compose && handover_composed(answer);
         }
     }
     fclose(file);
@@ -150,7 +165,7 @@ static void measure(const char *name, struct counts *counts)
 
 int main(int argc, char **argv)
 {
-    struct counts counts = {0, 0, 0};
+    struct counts counts = {0, 0, 0, 0};
     bool enough = true;
     if (argc != 2) {
         give_up("usage: stack FILE");
@@ -162,17 +177,18 @@ int main(int argc, char **argv)
     stack = (uint8_t *)memory;
     measure(argv[1], &counts);
     size_t nothing = most_of(call_nothing);
-    if (counts.accepted == 0 || counts.accepted == counts.pairs || counts.with_states == 0) {
+    if (counts.accepted == 0 || counts.accepted == counts.pairs || counts.with_states == 0 || counts.composed == 0) {
         give_up("the pairs are too few to measure anything");
     }
-    printf("stack: %zu pairs, %zu accepted, %zu with states:", counts.pairs, counts.accepted, counts.with_states);
+    printf("stack: %zu pairs, %zu accepted, %zu with states, %zu composed:", counts.pairs, counts.accepted, counts.with_states,
+           counts.composed);
     for (int i = 0; i < CALLS; i++) {
         if (calls[i].most <= nothing) {
             give_up("a call takes no stack");
         }
-        printf(" %s %zu bytes,", calls[i].name, calls[i].most);
-        enough = enough && calls[i].most <= HANDOVER_STACK_BYTES;
+        printf(" %s %zu of %zu bytes,", calls[i].name, calls[i].most, calls[i].allowed);
+        enough = enough && calls[i].most <= calls[i].allowed;
     }
-    printf(" a thread alone %zu; allowed %d\n", nothing, HANDOVER_STACK_BYTES);
+    printf(" a thread alone %zu\n", nothing);
     return enough ? 0 : 1;
 }

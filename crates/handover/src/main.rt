@@ -2,8 +2,10 @@
 //
 // Without arguments the files are handler.bin and proof.bin of the working folder; two arguments name them. Three arguments, the first
 // the word explain, name them too, and then what the verdict means is printed after the line. Four arguments, the first the word
-// canonical, name them and the file to which the proof file's one form is written. Any other arguments print the usage on standard
-// error. A file that cannot be opened, read or written is named on standard error. In both cases no line is printed.
+// canonical, name them and the file to which the proof file's one form is written. Seven arguments, the first the word compose, name
+// the files of two pairs and the two files to which their parallel is written. Any other arguments print the usage on standard error.
+// A file that cannot be opened, read or written is named on standard error. In both cases no line is printed.
+mod compose;
 mod save;
 
 ghost use Prim.Native.Nat.{_≤_, _<_};
@@ -246,6 +248,7 @@ fn print_usage() {
        handover HANDLER PROOF                  checks these two files
        handover explain HANDLER PROOF          checks them, and says below the line what the verdict means
        handover canonical HANDLER PROOF OUT    writes the proof file in its one form to the file OUT
+       handover compose H1 P1 H2 P2 HOUT POUT  writes the parallel of two accepted pairs to the files HOUT and POUT
 Checks a handler against its proof and prints one line, the verdict:
   accepted K               the proof is right: while others keep its rely, the handler takes at most K steps
   refused NUMBER bit B     a file is too long or ill-formed: the first fault is at its bit B
@@ -253,6 +256,11 @@ Checks a handler against its proof and prints one line, the verdict:
 With canonical the line is one of these:
   written LENGTH           OUT holds the form, of so many bytes
   refused NUMBER bit B     a file is too long or ill-formed, and OUT is as it was
+With compose the line is one of these:
+  composed K               HOUT and POUT hold the handler and its proof, which the check accepts with K
+  refused .. first pair    the first pair is refused, or a file of it is too long; HOUT and POUT are as they were
+  refused .. second pair   the same of the second pair
+  refused NUMBER bit 0     the pairs are accepted but cannot be composed; HOUT and POUT are as they were
 The numbers are explained in docs/FAULTS.md. The exit status is always 0.
 ";
     io::write_all(STDERR_FILENO, usage);
@@ -269,6 +277,8 @@ fn main() {
         do_with_arguments(2, Task::Explain);
     } else if (count == 5) & asks_to(b"canonical") {
         do_with_arguments(2, Task::Write);
+    } else if (count == 8) & asks_to(b"compose") {
+        compose::compose_arguments();
     } else {
         print_usage();
     }

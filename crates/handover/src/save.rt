@@ -1,6 +1,7 @@
 // A file is replaced as a whole or not at all: the bytes go into a new file beside it, which then takes its name.
 //
 // Whatever fails is named on standard error; the old file is then as it was, and the new one is removed.
+ghost use mathlib.Core.Path.{_≡_};
 ghost use Prim.Native.Nat.{_<_};
 ghost use lib.ListN.{length};
 ghost use Rattle.libc.specs.Io.{Ended};
@@ -100,11 +101,8 @@ fn write_new(path: &[u8], bytes: &[u8]) -> bool {
     true
 }
 
-// Writes a new file beside the one at a path, and lets it take that name.
-fn replace(path: &[u8], beside: &[u8], bytes: &[u8]) -> bool {
-    if !write_new(beside, bytes) {
-        return false;
-    }
+// Lets the new file beside the one at a path take its name, or removes it.
+fn take_name(path: &[u8], beside: &[u8]) -> bool {
     if os::rename(beside, path) < 0 {
         os::fail(path);
         os::unlink(beside);
@@ -113,20 +111,106 @@ fn replace(path: &[u8], beside: &[u8], bytes: &[u8]) -> bool {
     true
 }
 
+// Writes a new file beside the one at a path, and lets it take that name.
+fn replace(path: &[u8], beside: &[u8], bytes: &[u8]) -> bool {
+    if !write_new(beside, bytes) {
+        return false;
+    }
+    take_name(path, beside)
+}
+
+// Whether there is no file at a path.
+fn is_free(path: &[u8]) -> bool {
+    let fd = os::open_update(path);
+    if fd >= 0 {
+        libc::close(fd);
+        return false;
+    }
+    os::errno() == libc::ENOENT
+}
+
+// Writes two new files, or none. A free path that is taken then is the second new file's own name.
+fn write_two(path: &[u8], beside: &[u8], bytes: &[u8], other: &[u8], more: &[u8]) -> bool {
+    let free = is_free(path);
+    if !write_new(beside, bytes) {
+        return false;
+    }
+    if write_new(other, more) {
+        if free == is_free(path) {
+            return true;
+        }
+        report(path, b": Is the name of a new file\n");
+        os::unlink(other);
+    }
+    os::unlink(beside);
+    false
+}
+
+// Lets two new files take their names, both or neither; only if the second one fails after the first one, the first is left, and named.
+fn take_names(path: &[u8], beside: &[u8], second: &[u8], other: &[u8]) -> bool {
+    if !take_name(path, beside) {
+        os::unlink(other);
+        return false;
+    }
+    if !take_name(second, other) {
+        report(path, b": Written, but not the other file\n");
+        return false;
+    }
+    true
+}
+
+// Says that a path is too long for the new file's name.
+fn too_long(path: &[u8]) -> bool {
+    report(path, b": File name too long\n");
+    false
+}
+
+// The name of the new file beside the one at a path.
+fn new_name(path: &[u8]) -> [u8; PATH_MAX]
+    requires { ⌜ length (now path) < 4092 ⌝ }
+    ensures { λ r. ⌜ length r ≡ 4096 ⌝ }
+{
+    let n = path.len();
+    let mut name = ended(path);
+    name[n] = b'.';
+    name[n + 1] = b'n';
+    name[n + 2] = b'e';
+    name[n + 3] = b'w';
+    name
+}
+
 // Makes the bytes the file at a path, and answers whether that was done.
 pub(crate) fn save(path: &[u8], bytes: &[u8]) -> bool {
     let n = path.len();
     if n > LONGEST {
-        report(path, b": File name too long\n");
-        return false;
+        return too_long(path);
     }
     if !may_replace(path) {
         return false;
     }
-    let mut beside = ended(path);
-    beside[n] = b'.';
-    beside[n + 1] = b'n';
-    beside[n + 2] = b'e';
-    beside[n + 3] = b'w';
+    let beside = new_name(path);
     replace(path, &beside[..n + 4], bytes)
+}
+
+// Does the same with two files, both or neither.
+pub(crate) fn save_both(path: &[u8], bytes: &[u8], second: &[u8], more: &[u8]) -> bool {
+    let n = path.len();
+    let m = second.len();
+    if n > LONGEST {
+        return too_long(path);
+    }
+    if m > LONGEST {
+        return too_long(second);
+    }
+    if !may_replace(path) | !may_replace(second) {
+        return false;
+    }
+    let beside = new_name(path);
+    let other = new_name(second);
+    let beside = &beside[..n + 4];
+    let other = &other[..m + 4];
+    if !write_two(path, beside, bytes, other, more) {
+        return false;
+    }
+    take_names(path, beside, second, other)
 }

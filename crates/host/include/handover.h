@@ -4,29 +4,31 @@
    the program may start, which changes by others it tolerates, which changes it makes, and where it ends. handover_check decides
    whether the derivation is right. Where it is, handover_root says which of its tables the decision is about. Where it is not,
    handover_states gives the states that break a condition, and handover_view the bytes at the place of the fault.
-   handover_canonical writes a proof file in its one form, so that equal proofs are equal files. All five are in
-   target/staticlib/libhost.a, which `rt staticlib host` writes: an archive for x86-64 and the System V calling convention that has
-   no other global symbols.
+   handover_canonical writes a proof file in its one form, so that equal proofs are equal files. handover_compose writes the two
+   files of the parallel of two accepted pairs. All six are in target/staticlib/libhost.a, which `rt staticlib host` writes: an
+   archive for x86-64 and the System V calling convention that has no other global symbols.
 
-   docs/FORMAT.md describes the two files, docs/RULES.md the rules and what acceptance promises, docs/FAULTS.md every fault number.
-   examples/c has a program that uses all this.
+   docs/FORMAT.md describes the two files, docs/RULES.md the rules and what acceptance promises, docs/COMPOSITION.md the parallel of
+   two pairs, docs/FAULTS.md every fault number. examples/c has two programs that use all this.
 
    What the host owes, in every call:
    - No pointer is null, also where its length is 0. (Pass the address of any object then.)
    - handler and proof point to handler_len and proof_len readable bytes; work points to work_len readable and writable words, and
-     out to out_len readable and writable bytes. Every length may be passed: if a file has more than HANDOVER_MOST_BYTES bytes, the
-     pair is refused with number 2. Only handover_view wants files of fewer than 2^32 bytes, so that its answer can be taken apart.
+     out to out_len readable and writable bytes. In handover_compose that holds for h1, p1, h2 and p2 as for handler and proof, and
+     for hout and pout as for out. Every length may be passed: if a file has more than HANDOVER_MOST_BYTES bytes, the pair is
+     refused with number 2. Only handover_view wants files of fewer than 2^32 bytes, so that its answer can be taken apart.
    - work is aligned to 8 bytes, as every array of uint64_t is. The files and out need no alignment.
    - work and out overlap neither handler nor proof: that is what `restrict` says below. Where they do, the behaviour is undefined,
-     and the answer can be `accepted` for a pair that must be refused. The two files are only read, and may overlap each other.
+     and the answer can be `accepted` for a pair that must be refused. In handover_compose no two of work, hout and pout overlap
+     either. The files are only read, and may overlap each other.
    - Until the call returns, nothing else (no thread, guest or device) writes the files, or reads or writes the work words or out.
      If a guest can write the memory that its files are in, the host copies them first.
-   - HANDOVER_STACK_BYTES of stack are free at the call.
+   - HANDOVER_STACK_BYTES of stack are free at the call, for handover_compose HANDOVER_COMPOSE_STACK_BYTES.
 
    What the host gets, from every call:
    - It returns. No content of the files makes it run forever, or read or write outside the buffers.
    - It allocates no memory, makes no system call, and has no global variables, so nothing is kept from one call to the next. Calls
-     from several threads at once are safe if each call has its own work words or its own out; they may share the files.
+     from several threads at once are safe if each call has its own work words and its own out; they may share the files.
    - It writes the first HANDOVER_WORK_WORDS work words at most (handover_root, handover_view and handover_canonical have none), of
      out only as many bytes as the answer says, and never the files.
    - Its answer depends on what is passed alone: on the bytes of the files, the number of work words or of bytes of out (not what
@@ -50,13 +52,14 @@ extern "C" {
 #endif
 
 /* Limits. */
-#define HANDOVER_WORK_WORDS 1040                     /* work words that handover_check and handover_states need and write */
+#define HANDOVER_WORK_WORDS 1040                     /* work words that are needed and written where work words are passed */
 #define HANDOVER_MOST_BYTES 16384                    /* the longest handler file or proof file that is read or written */
 #define HANDOVER_MOST_STEPS UINT32_C(4294967295)     /* the largest step number that is accepted */
 #define HANDOVER_MOST_STATES 64                      /* the largest N, the number of states */
 #define HANDOVER_MOST_SETS 16                        /* sets in a proof file */
 #define HANDOVER_MOST_RELATIONS 16                   /* relations in a proof file */
 #define HANDOVER_STACK_BYTES 65536                   /* stack that is enough for a call; tests/c/stack.c measures it */
+#define HANDOVER_COMPOSE_STACK_BYTES 98304           /* the same for handover_compose */
 
 /* Whether the place of a fault is a bit of a file or a node of the derivation. */
 enum handover_place_kind {
@@ -132,6 +135,17 @@ enum handover_fault {
     HANDOVER_FAULT_WEAKEN_G = 72,          /* weaken: the child's G is not within G */
     HANDOVER_FAULT_WEAKEN_Q = 73,          /* weaken: the child's Q is not within Q */
     HANDOVER_FAULT_STEPS = 80              /* the step number is over HANDOVER_MOST_STEPS (node 0) */
+};
+
+/* The numbers of faults of two accepted pairs, which handover_compose alone gives, each at bit 0. At 1 to 80 the fault is that of
+   enum handover_fault. */
+enum handover_compose_fault {
+    HANDOVER_COMPOSE_SIZES = 90,     /* the sizes of the variables differ */
+    HANDOVER_COMPOSE_SECOND_G = 91,  /* the second pair's G is not within the first pair's R */
+    HANDOVER_COMPOSE_FIRST_G = 92,   /* the first pair's G is not within the second pair's R */
+    HANDOVER_COMPOSE_P = 93,         /* a pair of either G leads out of the states that both P have */
+    HANDOVER_COMPOSE_LIMIT = 94,     /* the result is over a limit of its files or of the step number */
+    HANDOVER_COMPOSE_OUTPUT = 95     /* hout or pout has fewer bytes than its file */
 };
 
 /* Checks a handler file against a proof file. The functions below take the answer apart.
@@ -211,6 +225,31 @@ uint64_t handover_canonical(const uint8_t *HANDOVER_RESTRICT handler, size_t han
                             const uint8_t *HANDOVER_RESTRICT proof, size_t proof_len,
                             uint8_t *HANDOVER_RESTRICT out, size_t out_len);
 
+/* Composes two pairs: the handler that runs the first handler and the second one in parallel, with a proof of it (docs/COMPOSITION.md).
+   Its handler file, h1's statement left and h2's right, is written at the start of hout, and its proof file at the start of pout.
+   handover_check accepts the two, with the step number of the answer. At the root of the proof P has the states that both P have, R
+   the pairs that both R have, G the pairs of either G, and Q the pairs of both Q that can be reached.
+
+   If both files are written, the top bit of the answer is 0, and it is steps + 2^32 (length in hout) + 2^47 (length in pout).
+   If not, the top bit is 1, and it is 2^63 + 2^48 pair + the fault as in an answer of handover_check, (number * 2 + kind) * 2^32 +
+   place. The pair is 1 or 2, or 0 if the fault is that of neither. It is the first of these:
+
+       number      pair    place     fault
+       1           0       bit 0     fewer than HANDOVER_WORK_WORDS work words
+       2           1       bit 0     h1 or p1 longer than HANDOVER_MOST_BYTES
+       2           2       bit 0     h2 or p2 longer than HANDOVER_MOST_BYTES
+       10 to 80    1       its own   that for which handover_check refuses h1 with p1
+       10 to 80    2       its own   that for which handover_check refuses h2 with p2
+       90 to 94    0       bit 0     see enum handover_compose_fault
+       95          0       bit 0     hout or pout shorter than its file; HANDOVER_MOST_BYTES bytes are enough for each
+
+   After a fault all of hout and of pout is as it was; otherwise their bytes past the files are. Refusals 1 and 2 write no work words;
+   every other answer leaves the first HANDOVER_WORK_WORDS of them 0. Words after them never change. */
+uint64_t handover_compose(const uint8_t *HANDOVER_RESTRICT h1, size_t h1_len, const uint8_t *HANDOVER_RESTRICT p1, size_t p1_len,
+                          const uint8_t *HANDOVER_RESTRICT h2, size_t h2_len, const uint8_t *HANDOVER_RESTRICT p2, size_t p2_len,
+                          uint64_t *HANDOVER_RESTRICT work, size_t work_len, uint8_t *HANDOVER_RESTRICT hout, size_t hout_len,
+                          uint8_t *HANDOVER_RESTRICT pout, size_t pout_len);
+
 /* Taking an answer of handover_check apart. The last three are for an answer of handover_canonical too. */
 
 /* Whether the pair was accepted. */
@@ -238,6 +277,33 @@ static inline bool handover_written(uint64_t answer) { return answer <= UINT32_M
 
 /* The length of the form in bytes, if it was written. */
 static inline size_t handover_length(uint64_t answer) { return (size_t)(answer & UINT32_MAX); }
+
+/* Taking an answer of handover_compose apart. */
+
+/* Whether both files were written. */
+static inline bool handover_composed(uint64_t answer) { return answer >> 63 == 0; }
+
+/* The step number of the result, if it was written. */
+static inline uint32_t handover_composed_steps(uint64_t answer) { return (uint32_t)(answer & HANDOVER_MOST_STEPS); }
+
+/* The length of the handler file in bytes, if it was written. */
+static inline size_t handover_composed_handler(uint64_t answer) { return (size_t)(answer >> 32 & 0x7FFF); }
+
+/* The length of the proof file in bytes, if it was written. */
+static inline size_t handover_composed_proof(uint64_t answer) { return (size_t)(answer >> 47 & 0xFFFF); }
+
+/* The pair that a refusal is about: 1 the first, 2 the second; 0 if it is neither, or both files were written. */
+static inline uint32_t handover_composed_pair(uint64_t answer)
+{
+    return handover_composed(answer) ? 0 : (uint32_t)(answer >> 48 & 0x7FFF);
+}
+
+/* The fault of a refusal as in an answer of handover_check, for handover_number, handover_kind and handover_place; 0 if both files
+   were written. */
+static inline uint64_t handover_composed_fault(uint64_t answer)
+{
+    return handover_composed(answer) ? 0 : answer & ((UINT64_C(1) << 48) - 1);
+}
 
 /* Taking an answer of handover_root apart, where it is not 0. */
 

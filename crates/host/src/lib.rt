@@ -1,5 +1,5 @@
 // The C interface for hosts (include/handover.h): the check of two files with the verdict as one number, the states that its refusal
-// names, the root of two files, where a refusal is shown, and the one form of a proof file.
+// names, the root of two files, where a refusal is shown, the one form of a proof file, and the composition of two pairs.
 ghost use mathlib.Core.Path.{_≡_};
 ghost use lib.ListN.{length};
 ghost use Rattle.checker.specs.Verdicts.{answer, workAfter, AcceptedIsSound};
@@ -8,6 +8,10 @@ ghost use Rattle.report.specs.States.{statesOf, statesNumber, statesDecoded};
 ghost use Rattle.report.specs.Root.{rootOf};
 ghost use Rattle.viewer.specs.View.{viewOf};
 ghost use Rattle.canonical.specs.Canonical.{canonical, outcome, outAfter, asVerdict};
+ghost use Rattle.composition.specs.Composing.{composeInto, composed, handlerAfter, proofAfter, MadeIsAccepted};
+ghost use Rattle.composition.specs.Composing as Composing;
+ghost use Rattle.composition.specs.Coding.{numberOf, ofNumber};
+ghost use Rattle.composition.specs.Coding as Coding;
 
 // The check of two files over the host's work words. The result is the verdict as one number, `codeOf`: below 2 ^ 32 it is the step number
 // of an accepted pair, else the fault's number, the kind of its place and the place. `decoded` of it is the verdict but for the states,
@@ -64,4 +68,32 @@ pub extern "C" fn handover_canonical(handler: &[u8], proof: &[u8], out: &mut [u8
     ensures bytes { λ _. ⌜ now (out .exit) ≡ outAfter (canonical (now (handler .entry)) (now (proof .entry))) (now (out .entry)) ⌝ }
 {
     canonical::form_number(handler, proof, out)
+}
+
+// The files of the parallel of two accepted pairs, at the start of the host's two output buffers, over the host's work words. The result is
+// one number, `numberOf`: the step number and the lengths of both files, or a refusal with the pair that it is about. `ofNumber` of it is the
+// answer but for the states of a pair's own fault, and what it says was made is accepted by the check.
+#[no_mangle]
+pub extern "C" fn handover_compose(
+    h1: &[u8],
+    p1: &[u8],
+    h2: &[u8],
+    p2: &[u8],
+    work: &mut [u64],
+    hout: &mut [u8],
+    pout: &mut [u8],
+) -> u64
+    ensures number { λ r. ⌜ r ≡ numberOf (composed (composeInto (now (h1 .entry)) (now (p1 .entry)) (now (h2 .entry)) (now (p2 .entry))
+        (now (work .entry)) (now (hout .entry)) (now (pout .entry)))) ⌝ }
+    ensures answer { λ r. ⌜ ofNumber r ≡ Coding.withoutStates (composed (composeInto (now (h1 .entry)) (now (p1 .entry)) (now (h2 .entry)) (now (p2 .entry))
+        (now (work .entry)) (now (hout .entry)) (now (pout .entry)))) ⌝ }
+    ensures words { λ _.
+        ⌜ now (work .exit) ≡ Composing.workAfter (now (h1 .entry)) (now (p1 .entry)) (now (h2 .entry)) (now (p2 .entry)) (now (work .entry)) ⌝ }
+    ensures handler { λ _. ⌜ now (hout .exit) ≡ handlerAfter (composeInto (now (h1 .entry)) (now (p1 .entry)) (now (h2 .entry)) (now (p2 .entry))
+        (now (work .entry)) (now (hout .entry)) (now (pout .entry))) (now (hout .entry)) ⌝ }
+    ensures proof { λ _. ⌜ now (pout .exit) ≡ proofAfter (composeInto (now (h1 .entry)) (now (p1 .entry)) (now (h2 .entry)) (now (p2 .entry))
+        (now (work .entry)) (now (hout .entry)) (now (pout .entry))) (now (pout .entry)) ⌝ }
+    ensures accepted { λ r. ⌜ MadeIsAccepted (ofNumber r) (now (hout .exit)) (now (pout .exit)) ⌝ }
+{
+    composition::compose_number(h1, p1, h2, p2, work, hout, pout)
 }

@@ -1,4 +1,4 @@
--- The line's length is within the 64 bytes: `line-within`.
+-- The line's length is within the 80 bytes: `line-within`.
 use Prim.Native.Nat.{_≤_}
 use borrow.Author.Needs.{needs}
 use lib.ListN.{length}
