@@ -1,5 +1,5 @@
 // The tables of the result, by first mention: a table that is mentioned is looked up among those that are there, and added if it is new.
-// Sets are kept in words of their own, relations in the work words, laid out as the check lays them out.
+// Sets are kept in words of their own, relations in the words that are lent for them, laid out as the check lays them out.
 use derivation::MOST_TABLES;
 use rules::tables::rows_of;
 use rules::tables::same_set;
