@@ -48,10 +48,7 @@ extern "C" {
         out: *mut u8,
         out_len: usize,
     ) -> u64;
-}
 
-#[cfg(feature = "compose")]
-extern "C" {
     fn handover_compose(
         first_handler: *const u8,
         first_handler_len: usize,
@@ -100,10 +97,7 @@ pub const PROVED: Proved = Proved {
     check: handover_check,
     states: Some(handover_states),
     canonical: Some(handover_canonical),
-    #[cfg(feature = "compose")]
     compose: Some(compose),
-    #[cfg(not(feature = "compose"))]
-    compose: None,
 };
 
 /// The library of an earlier checkout, which `tools/former` puts beside this one's.
@@ -149,7 +143,6 @@ fn call<T>(function: Call<T>, handler: &[u8], proof: &[u8], buffer: &mut [T]) ->
 }
 
 /// The composition of two pairs, by the library of this checkout.
-#[cfg(feature = "compose")]
 fn compose([(h1, p1), (h2, p2)]: [Files; 2], lent: &mut Lent) -> u64 {
     // SAFETY: as above; only the three buffers are written, and nothing else holds them.
     unsafe {
