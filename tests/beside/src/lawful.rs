@@ -16,9 +16,13 @@ pub const NUMBERS: [u32; 49] = [
 pub const FORM_NUMBERS: [u32; 17] =
     [2, ROOM_TOO_SHORT, 10, 11, 12, 13, 14, 15, 16, 17, 18, 20, 21, 22, 23, 24, 25];
 
+/// The numbers that a refusal to compose two pairs can have besides those of a check.
+pub const COMPOSE_NUMBERS: [u32; 6] = [90, 91, 92, 93, 94, 95];
+
 /// The numbers of all refusals, in order: those that the pages and the C header list.
 pub fn all_numbers() -> Vec<u32> {
-    let all: BTreeSet<u32> = NUMBERS.into_iter().chain(FORM_NUMBERS).collect();
+    let numbers = NUMBERS.into_iter().chain(FORM_NUMBERS).chain(COMPOSE_NUMBERS);
+    let all: BTreeSet<u32> = numbers.collect();
     all.into_iter().collect()
 }
 

@@ -1,7 +1,7 @@
 //! The numbers of the C header are those that a refusal can have, each with its states, and its
 //! limits the reference's.
 
-use beside::lawful::{all_numbers, states_named};
+use beside::lawful::{all_numbers, states_named, COMPOSE_NUMBERS};
 use reference::handler_file::MOST_STATES;
 use reference::{LONGEST_FILE, TABLE_WORDS};
 
@@ -14,10 +14,14 @@ fn limit(name: &str) -> usize {
     line.and_then(|words| words[2].parse().ok()).unwrap_or_else(|| panic!("no {name}"))
 }
 
-/// The numbers of the faults, each with the comment after it.
-fn faults() -> Vec<(u32, &'static str)> {
+/// What the names of the faults of a check and of a composition begin with.
+const CHECK: &str = "HANDOVER_FAULT_";
+const COMPOSE: &str = "HANDOVER_COMPOSE_";
+
+/// The numbers of the faults whose names begin so, each with the comment after it.
+fn faults(names: &str) -> Vec<(u32, &'static str)> {
     let rest = |line: &'static str| {
-        let (_, rest) = line.trim().strip_prefix("HANDOVER_FAULT_")?.split_once(" = ")?;
+        let (_, rest) = line.trim().strip_prefix(names)?.split_once(" = ")?;
         let number = rest.split([',', ' ']).next().and_then(|number| number.parse().ok());
         Some((number.expect("a number follows"), rest))
     };
@@ -26,15 +30,18 @@ fn faults() -> Vec<(u32, &'static str)> {
 
 #[test]
 fn fault_numbers() {
-    let mut numbers: Vec<u32> = faults().into_iter().map(|(number, _)| number).collect();
-    assert_eq!(numbers.remove(0), 0, "acceptance has the number 0");
-    assert_eq!(numbers, all_numbers());
+    let numbers = |names| faults(names).into_iter().map(|(number, _)| number).collect::<Vec<u32>>();
+    let (mut all, composing) = (numbers(CHECK), numbers(COMPOSE));
+    assert_eq!(all.remove(0), 0, "acceptance has the number 0");
+    assert_eq!(composing, COMPOSE_NUMBERS);
+    all.extend(composing);
+    assert_eq!(all, all_numbers());
 }
 
 /// The comment of a number that comes with states ends with them, as in `[s, t]`.
 #[test]
 fn states_of_the_faults() {
-    for (number, comment) in faults() {
+    for (number, comment) in [faults(CHECK), faults(COMPOSE)].concat() {
         let states = comment.strip_suffix("] */").and_then(|text| text.rsplit('[').next());
         let count = states.map_or(0, |states| states.split(", ").count() as u64);
         assert_eq!(count, states_named(number), "{number}: {comment}");

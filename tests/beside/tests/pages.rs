@@ -1,9 +1,9 @@
-//! docs/FORMAT.md and docs/RULES.md: the worked example is true, and every number has an entry,
-//! with its states as docs/FAULTS.md has them too.
+//! docs/FORMAT.md, docs/RULES.md and docs/COMPOSITION.md: the worked example is true, and every
+//! number has an entry, with its states as docs/FAULTS.md has them too.
 
 use std::collections::BTreeSet;
 
-use beside::lawful::{all_numbers, states_named};
+use beside::lawful::{all_numbers, states_named, COMPOSE_NUMBERS};
 use beside::{judge, judge_view_of, line, page};
 use reference::TABLE_WORDS;
 
@@ -159,12 +159,43 @@ fn entries<'a>(tables: impl Iterator<Item = &'a Table>) -> Vec<usize> {
 
 #[test]
 fn every_number_has_an_entry() {
-    let numbers = all_numbers().into_iter().map(|number| number as usize);
-    let (reading, conditions): (BTreeSet<usize>, BTreeSet<usize>) =
-        numbers.partition(|number| *number < 30);
-    let of_page = |name: &str| entries(tables(&page(name)).iter()).into_iter().collect();
-    assert_eq!(reading, of_page("FORMAT.md"));
-    assert_eq!(conditions, of_page("RULES.md"));
+    let composing = *COMPOSE_NUMBERS.first().expect("there are some");
+    let pages =
+        [("FORMAT.md", 1..30), ("RULES.md", 30..composing), ("COMPOSITION.md", composing..100)];
+    for (name, range) in pages {
+        let numbers = all_numbers().into_iter().filter(|number| range.contains(number));
+        let numbers: BTreeSet<usize> = numbers.map(|number| number as usize).collect();
+        assert_eq!(numbers, entries(tables(&page(name)).iter()).into_iter().collect(), "{name}");
+    }
+}
+
+/// The first and the last number of each part of a cell such as "34, 36 to 38".
+fn ranges(cell: &str) -> Vec<(u32, u32)> {
+    let number = |text: &str| text.parse().unwrap_or_else(|_| panic!("{text} in {cell}"));
+    let range = |part: &str| match part.split_once(" to ") {
+        Some((first, last)) => (number(first), number(last)),
+        None => (number(part), number(part)),
+    };
+    cell.split(", ").map(range).collect()
+}
+
+/// The tables of who causes which numbers have each number once, and begin and end with one.
+#[test]
+fn every_number_has_a_cause() {
+    for name in ["FAULTS.md", "../README.md"] {
+        let tables = tables(&page(name));
+        let table = tables.iter().find(|table| table.has("who causes them")).expect(name);
+        let mut found = Vec::new();
+        for (first, last) in table.column("numbers").iter().flat_map(|cell| ranges(cell)) {
+            let within = all_numbers().into_iter().filter(|number| (first..=last).contains(number));
+            let within: Vec<u32> = within.collect();
+            let ends = (within.first().copied(), within.last().copied());
+            assert_eq!(ends, (Some(first), Some(last)), "{name}");
+            found.extend(within);
+        }
+        found.sort_unstable();
+        assert_eq!(found, all_numbers(), "{name}");
+    }
 }
 
 /// The states of a number, as the pages write them.
