@@ -1,5 +1,6 @@
 //! Small compositions spelled out field by field from the request, and 91 to 93 pair by pair.
 
+use super::promise::Trees;
 use super::skips::Skip;
 use super::{composed, refused};
 use generate::damage::Files;
@@ -7,7 +8,7 @@ use generate::guests::limits::{self, Limit};
 use generate::guests::numbered;
 use generate::random::Random;
 use reference::writer::spelled;
-use reference::{Composition, Verdict};
+use reference::Composition;
 
 /// c ← 1 over one variable of size 2, with P {0,1}, R none, G {(0,1)} and Q {(0,1), (1,1)}.
 fn store() -> Files {
@@ -157,17 +158,38 @@ fn limits() {
             let pairs = limits::pairs(&mut random, limit, over);
             let composition = composed(&pairs.map(|pair| numbered(&mut random, &pair)));
             match over {
-                0 => assert!(matches!(composition, Composition::Made { .. }), "{limit:?}"),
+                0 => assert_eq!(of_made(limit, &composition), limit.most(), "{limit:?}"),
                 _ => assert_eq!(composition, refused(94), "{limit:?} {over}"),
             }
         }
     }
 }
 
-/// The check accepts the worked example; beside itself it is turned away.
+/// How much the two files have that were made.
+fn of_made(limit: Limit, composition: &Composition) -> u64 {
+    let Composition::Made { handler, proof, .. } = composition else {
+        panic!("{limit:?}: {composition:?}");
+    };
+    let trees = Trees::read(handler, proof);
+    limit.of(&trees.handler, &trees.proof)
+}
+
+/// The files of an example.
+fn example(name: &str) -> Files {
+    let file = |file| {
+        let path = format!("{}/../../examples/{name}/{file}", env!("CARGO_MANIFEST_DIR"));
+        std::fs::read(&path).unwrap_or_else(|why| panic!("{path}: {why}"))
+    };
+    (file("handler.bin"), file("proof.bin"))
+}
+
+/// The examples that docs/COMPOSITION.md composes.
 #[test]
-fn the_worked_example() {
-    let sample = store();
-    assert_eq!(beside::judge(&sample.0, &sample.1), Verdict::Accepted(1));
-    assert_eq!(composed(&[sample.clone(), sample]), refused(91));
+fn worked_examples() {
+    let [first, producer, consumer] = ["first", "producer", "consumer"].map(example);
+    let (handler, proof) = example("guests");
+    let guests = Composition::Made { steps: 135, handler, proof };
+    assert_eq!(composed(&[producer, consumer.clone()]), guests);
+    assert_eq!(composed(&[first.clone(), first.clone()]), refused(91));
+    assert_eq!(composed(&[first, consumer]), refused(90));
 }

@@ -1,47 +1,50 @@
 //! What must be true of a composition, whatever the pairs are: worked out anew from the tables of
 //! both roots, pair of states by pair of states.
 
+use super::refused;
 use beside::composed::Files;
 use beside::{judge_form, judge_states};
+use generate::guests::limits::Limit;
 use reference::conditions::Tables;
 use reference::language::{Handler, Statement};
-use reference::proof_file::{Proof, Rule};
+use reference::proof_file::{Node, Proof, Rule};
+use reference::states::{Relation, StateSet};
 use reference::{handler_file, proof_file, Composition, Fault, Verdict};
+use std::collections::HashSet;
 
-/// Panics where something is not so.
+/// Panics where something is not so of a composition in rooms that are long enough.
 pub fn hold(first: Files, second: Files, composition: &Composition) {
+    if let Composition::Refused { pair: pair @ 1..=2, fault } = composition {
+        let (handler, proof) = if *pair == 1 { first } else { second };
+        return of_the_check(handler, proof, fault);
+    }
+    let [one, two] = [first, second].map(|(handler, proof)| Trees::read(handler, proof));
     match composition {
         Composition::Made { steps, handler, proof } => {
-            let [one, two] = [first, second].map(|(handler, proof)| Trees::read(handler, proof));
             assert_eq!(*steps, one.steps + two.steps + 1);
-            assert_eq!(judge_states(handler, proof).verdict, Verdict::Accepted(*steps));
             assert_eq!(judge_form(handler, proof).as_ref(), Ok(proof));
             let made = Trees::read(handler, proof);
+            assert_eq!(made.steps, *steps);
             assert_eq!(in_the_way(&one, &two), None);
             same_handlers(&one, &two, &made);
             of_both_roots(&one, &two, &made);
         }
-        Composition::Refused { pair: 0, fault } if fault.number < 94 => {
-            let [one, two] = [first, second].map(|(handler, proof)| Trees::read(handler, proof));
-            assert_eq!(Some(fault.number), in_the_way(&one, &two));
-        }
-        Composition::Refused { pair: 0, fault } => assert!(fault.number <= 95, "{fault:?}"),
-        Composition::Refused { pair, fault } => {
-            let (handler, proof) = if *pair == 1 { first } else { second };
-            of_the_check(handler, proof, fault);
+        of_neither => {
+            let number = in_the_way(&one, &two).expect("something is in the way");
+            assert_eq!(*of_neither, refused(number));
         }
     }
 }
 
 /// An accepted pair as trees.
-struct Trees {
-    handler: Handler,
-    proof: Proof,
-    steps: u32,
+pub struct Trees {
+    pub handler: Handler,
+    pub proof: Proof,
+    pub steps: u32,
 }
 
 impl Trees {
-    fn read(handler: &[u8], proof: &[u8]) -> Trees {
+    pub fn read(handler: &[u8], proof: &[u8]) -> Trees {
         let Verdict::Accepted(steps) = judge_states(handler, proof).verdict else {
             panic!("{handler:02X?} {proof:02X?} are not accepted");
         };
@@ -54,14 +57,20 @@ impl Trees {
         Tables::of(&self.proof, &self.proof.root)
     }
 
+    /// The pairs of states that are so.
+    fn pairs(&self, is_so: impl Fn(usize, usize) -> bool) -> Relation {
+        let states = 0..self.handler.space.states();
+        let row = |s: usize| states.clone().filter(|t| is_so(s, *t)).collect();
+        Relation::of_rows(states.clone().map(row))
+    }
+
     /// Whether one of the pairs of states is so.
     fn any(&self, is_so: impl Fn(usize, usize) -> bool) -> bool {
-        let states = 0..self.handler.space.states();
-        states.clone().any(|s| states.clone().any(|t| is_so(s, t)))
+        self.pairs(is_so) != Relation::none()
     }
 }
 
-/// The least of 90 to 93 that the tables give.
+/// The least of 90 to 94 that the trees give.
 fn in_the_way(one: &Trees, two: &Trees) -> Option<u32> {
     if one.handler.space.sizes() != two.handler.space.sizes() {
         return Some(90);
@@ -73,8 +82,91 @@ fn in_the_way(one: &Trees, two: &Trees) -> Option<u32> {
         Some(91)
     } else if one.any(|s, t| a.g.has(s, t) && !b.r.has(s, t)) {
         Some(92)
+    } else if one.any(leaves) {
+        Some(93)
     } else {
-        one.any(leaves).then_some(93)
+        Limit::ALL.into_iter().any(|limit| together(limit, one, two) > limit.most()).then_some(94)
+    }
+}
+
+/// How much the parallel has of what is limited.
+fn together(limit: Limit, one: &Trees, two: &Trees) -> u64 {
+    let [a, b] = [one, two].map(|pair| limit.of(&pair.handler, &pair.proof));
+    match limit {
+        Limit::Statements | Limit::Steps => a + b + 1,
+        Limit::StatementLevels => a.max(b) + 1,
+        Limit::Nodes => a + b + 3,
+        Limit::NodeLevels => a.max(b) + 2,
+        Limit::Sets => Mentioned::of(one, two).sets.len() as u64,
+        Limit::Relations => Mentioned::of(one, two).relations.len() as u64,
+    }
+}
+
+/// The tables that the request gives the new nodes.
+struct New {
+    p: StateSet,
+    r: Relation,
+    g: Relation,
+    q: Relation,
+    left_r: Relation,
+    right_r: Relation,
+}
+
+impl New {
+    fn of(one: &Trees, two: &Trees) -> New {
+        let (a, b) = (one.root(), two.root());
+        let states = 0..one.handler.space.states();
+        let p = states.clone().filter(|s| a.p.has(*s) && b.p.has(*s)).collect::<StateSet>();
+        let r = one.pairs(|s, t| a.r.has(s, t) && b.r.has(s, t));
+        let g = one.pairs(|s, t| a.g.has(s, t) || b.g.has(s, t));
+        let left_r = one.pairs(|s, t| r.has(s, t) || b.g.has(s, t));
+        let right_r = one.pairs(|s, t| r.has(s, t) || a.g.has(s, t));
+        let reached: Vec<StateSet> = states.map(|s| reached(s, &[&r, &g])).collect();
+        let q = one.pairs(|s, t| p.has(s) && a.q.has(s, t) && b.q.has(s, t) && reached[s].has(t));
+        New { p, r, g, q, left_r, right_r }
+    }
+}
+
+/// The states that are reached from s by zero or more steps, by going on from what was reached.
+fn reached(s: usize, steps: &[&Relation]) -> StateSet {
+    let mut reached = StateSet::NONE.with(s);
+    let mut open = vec![s];
+    while let Some(from) = open.pop() {
+        for t in steps.iter().flat_map(|relation| relation.row(from).members()) {
+            if !reached.has(t) {
+                reached = reached.with(t);
+                open.push(t);
+            }
+        }
+    }
+    reached
+}
+
+/// The different tables that the nodes of the parallel mention.
+struct Mentioned {
+    sets: HashSet<StateSet>,
+    relations: HashSet<Relation>,
+}
+
+impl Mentioned {
+    fn of(one: &Trees, two: &Trees) -> Mentioned {
+        let New { p, r, g, q, left_r, right_r } = New::of(one, two);
+        let relations = [r, g, q, left_r, right_r].into();
+        let mut mentioned = Mentioned { sets: [p].into(), relations };
+        mentioned.add(&one.proof, &one.proof.root);
+        mentioned.add(&two.proof, &two.proof.root);
+        mentioned
+    }
+
+    fn add(&mut self, proof: &Proof, node: &Node) {
+        let Tables { p, r, g, q } = Tables::of(proof, node);
+        self.sets.insert(p);
+        self.relations.extend([r, g, q].map(Relation::clone));
+        if let Rule::While { k, w } = node.rule {
+            self.sets.insert(proof.sets[k]);
+            self.relations.insert(proof.relations[w].clone());
+        }
+        node.children.iter().for_each(|child| self.add(proof, child));
     }
 }
 
@@ -89,44 +181,18 @@ fn same_handlers(one: &Trees, two: &Trees, made: &Trees) {
 
 /// The root's tables and those of the weakens under it.
 fn of_both_roots(one: &Trees, two: &Trees, made: &Trees) {
-    let (a, b, root) = (one.root(), two.root(), made.root());
     assert_eq!(made.proof.root.rule, Rule::Parallel);
     let [left, right] = &made.proof.root.children[..] else {
         panic!("a parallel has two children")
     };
     assert_eq!((left.rule, right.rule), (Rule::Weaken, Rule::Weaken));
     let [left, right] = [left, right].map(|child| Tables::of(&made.proof, child));
-    assert!(left.p == root.p && right.p == root.p && left.g == a.g && right.g == b.g);
-    assert!(left.q == a.q && right.q == b.q);
-    for s in 0..made.handler.space.states() {
-        assert_eq!(root.p.has(s), a.p.has(s) && b.p.has(s));
-        let reached = reached(made, s, |s, t| root.r.has(s, t) || a.g.has(s, t) || b.g.has(s, t));
-        for (t, is_reached) in reached.into_iter().enumerate() {
-            assert_eq!(root.r.has(s, t), a.r.has(s, t) && b.r.has(s, t));
-            assert_eq!(root.g.has(s, t), a.g.has(s, t) || b.g.has(s, t));
-            assert_eq!(left.r.has(s, t), root.r.has(s, t) || b.g.has(s, t));
-            assert_eq!(right.r.has(s, t), root.r.has(s, t) || a.g.has(s, t));
-            let in_q = root.p.has(s) && a.q.has(s, t) && b.q.has(s, t) && is_reached;
-            assert_eq!(root.q.has(s, t), in_q, "({s},{t})");
-        }
-    }
-}
-
-/// Whether each state is reached from s by zero or more steps, by going on from what was reached.
-fn reached(made: &Trees, s: usize, step: impl Fn(usize, usize) -> bool) -> Vec<bool> {
-    let states = made.handler.space.states();
-    let mut reached = vec![false; states];
-    reached[s] = true;
-    let mut open = vec![s];
-    while let Some(from) = open.pop() {
-        for t in (0..states).filter(|t| step(from, *t)) {
-            if !reached[t] {
-                reached[t] = true;
-                open.push(t);
-            }
-        }
-    }
-    reached
+    let (a, b, root) = (one.root(), two.root(), made.root());
+    let new = New::of(one, two);
+    assert!(root.p == new.p && left.p == new.p && right.p == new.p);
+    assert!(*root.r == new.r && *left.r == new.left_r && *right.r == new.right_r);
+    assert!(*root.g == new.g && left.g == a.g && right.g == b.g);
+    assert!(*root.q == new.q && left.q == a.q && right.q == b.q);
 }
 
 /// A pair's own refusal is the check's, with its place and its states.

@@ -6,8 +6,10 @@ use crate::programs::{deep, in_order, nils, of_steps, repeat, when};
 use crate::random::Random;
 use crate::vacuous;
 use reference::language::{Expression, Handler, Statement};
+use reference::proof_file::{Node, Proof};
 use reference::space::Space;
 use reference::states::{Relation, StateSet};
+use reference::step_number;
 
 /// What the result may have too much of.
 #[derive(Clone, Copy, PartialEq, Eq, Debug)]
@@ -32,6 +34,32 @@ impl Limit {
         Limit::Steps,
     ];
 
+    /// As much as a pair may have.
+    pub fn most(self) -> u64 {
+        match self {
+            Limit::Statements => 63,
+            Limit::StatementLevels => 16,
+            Limit::Nodes => 127,
+            Limit::NodeLevels => 24,
+            Limit::Sets | Limit::Relations => 16,
+            Limit::Steps => MOST_STEPS,
+        }
+    }
+
+    /// How much a pair has that is accepted.
+    pub fn of(self, handler: &Handler, proof: &Proof) -> u64 {
+        let statement = &handler.statement;
+        match self {
+            Limit::Statements => statement.count().into(),
+            Limit::StatementLevels => statement.levels().into(),
+            Limit::Nodes => nodes_of(&proof.root),
+            Limit::NodeLevels => proof.root.levels().into(),
+            Limit::Sets => proof.sets.len() as u64,
+            Limit::Relations => proof.relations.len() as u64,
+            Limit::Steps => step_number::of(statement, handler.space.states()) as u64,
+        }
+    }
+
     /// By how much the parallel of two pairs can pass the limit: both have as much as one pair can.
     pub fn most_over(self) -> usize {
         match self {
@@ -48,6 +76,10 @@ impl Limit {
 }
 
 const MOST_STEPS: u64 = u32::MAX as u64;
+
+fn nodes_of(node: &Node) -> u64 {
+    1 + node.children.iter().map(nodes_of).sum::<u64>()
+}
 
 /// Two accepted pairs that bear each other; their parallel has exactly as much as the limit allows
 /// and so much more, which is at most `most_over`.
