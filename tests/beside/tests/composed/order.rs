@@ -17,6 +17,18 @@ struct Call {
 }
 
 impl Call {
+    /// Two skips with nothing in the way.
+    fn of_skips() -> Call {
+        let skip = Skip { sizes: vec![2], p: vec![0], r: vec![], g: vec![], weakens: 0 };
+        Call {
+            first: skip.clone(),
+            second: skip,
+            too_long: [false; 2],
+            further_byte: [false; 2],
+            sizes: Sizes::AMPLE,
+        }
+    }
+
     fn answer(&self) -> Composition {
         let [first, second] = [(&self.first, 0), (&self.second, 1)].map(|(skip, index)| {
             let (handler, mut proof) = skip.files();
@@ -104,6 +116,40 @@ fn lengths() {
         assert_eq!(composed(&[sample.clone(), files.clone()]), refused_of(2, 2, 0));
         // The length of the second goes before the contents of the first.
         assert_eq!(composed(&[(vec![], vec![]), files]), refused_of(2, 2, 0));
+    }
+}
+
+/// Every room up to the files and past them, and rooms as long as any file and longer.
+#[test]
+fn rooms() {
+    let call = |handler: usize, proof: usize| Call {
+        sizes: Sizes { words: TABLE_WORDS, handler, proof },
+        ..Call::of_skips()
+    };
+    let Composition::Made { handler, proof, .. } = Call::of_skips().answer() else {
+        panic!("not made");
+    };
+    let lengths = |file: &[u8]| (0..file.len() + 3).chain([LONGEST_FILE, LONGEST_FILE + 1]);
+    for in_handler in lengths(&handler) {
+        for in_proof in lengths(&proof) {
+            let made = call(in_handler, in_proof).answer();
+            match in_handler >= handler.len() && in_proof >= proof.len() {
+                true => assert!(matches!(made, Composition::Made { .. })),
+                false => assert_eq!(made, refused(95), "{in_handler} {in_proof}"),
+            }
+        }
+    }
+}
+
+/// 1,040 words are enough.
+#[test]
+fn words() {
+    for words in [0, 1, TABLE_WORDS - 1, TABLE_WORDS, TABLE_WORDS + 1, 2 * TABLE_WORDS] {
+        let made = Call { sizes: Sizes { words, ..Sizes::AMPLE }, ..Call::of_skips() }.answer();
+        match words >= TABLE_WORDS {
+            true => assert!(matches!(made, Composition::Made { .. })),
+            false => assert_eq!(made, refused(1), "{words}"),
+        }
     }
 }
 

@@ -4,7 +4,9 @@
 use super::refused;
 use beside::composed::Files;
 use beside::{judge_form, judge_states};
+use generate::explore::{explore_files, Exploration};
 use generate::guests::limits::Limit;
+use generate::pairs::Scale;
 use reference::conditions::Tables;
 use reference::language::{Handler, Statement};
 use reference::proof_file::{Node, Proof, Rule};
@@ -33,6 +35,24 @@ pub fn hold(first: Files, second: Files, composition: &Composition) {
             let number = in_the_way(&one, &two).expect("something is in the way");
             assert_eq!(*of_neither, refused(number));
         }
+    }
+}
+
+/// The most moments at which a result is looked at.
+const MOST_MOMENTS: usize = 60_000;
+
+/// Whether files were made that are small enough for every run of theirs to be explored. Panics
+/// where a run breaks what acceptance promises.
+pub fn explored(composition: &Composition) -> bool {
+    let Composition::Made { handler, proof, .. } = composition else { return false };
+    let space = handler_file::read(handler).expect("it is accepted").space;
+    if space.states() > Scale::SMALL.most_states {
+        return false;
+    }
+    match explore_files(handler, proof, MOST_MOMENTS).expect("it is accepted") {
+        Exploration::Holds { .. } => true,
+        Exploration::TooLarge => false,
+        Exploration::Broken(breach) => panic!("{breach:?} {handler:02X?} {proof:02X?}"),
     }
 }
 
