@@ -1,18 +1,19 @@
 //! Calls from several threads at once, each with its own buffers, answer as calls alone do.
 #![cfg(feature = "proved")]
 
-use beside::composed::Lent;
+use beside::composed::{Lent, Sizes};
 use beside::proved::{self, PROVED};
 use beside::{Checker, Written};
 use generate::damage::{damaged, Files};
-use generate::pairs::{accepted, Scale};
+use generate::guests::two_guests;
+use generate::pairs::Scale;
 use generate::random::Random;
 use reference::view::NODE;
 use reference::{Verdict, TABLE_WORDS};
 use std::sync::Barrier;
 
 const THREADS: usize = 8;
-const PAIRS: usize = 100;
+const GUESTS: usize = 50;
 const ROUNDS: usize = 5;
 
 /// What a host gets from all calls for a pair.
@@ -30,8 +31,8 @@ struct Answer {
 }
 
 /// All calls, over the words that an earlier call has left. The view is that of node 0. The room
-/// for the form is that of the file. The pair is composed with itself.
-fn answer((handler, proof): &Files, work: &mut [u64]) -> Answer {
+/// for the form is that of the file. The pair is composed with the second one.
+fn answer((handler, proof): &Files, second: &Files, work: &mut [u64]) -> Answer {
     let verdict = PROVED.check(handler, proof, work);
     let states = PROVED.states(handler, proof, work);
     let root = proved::root(handler, proof);
@@ -39,23 +40,35 @@ fn answer((handler, proof): &Files, work: &mut [u64]) -> Answer {
     let mut form = vec![0xA7; proof.len()];
     let written = PROVED.canonical(handler, proof, &mut form);
     let words = work.to_vec();
-    let mut rooms = [handler, proof].map(|file| vec![0xA7; 3 * file.len() + 64]);
+    let mut rooms = [Sizes::AMPLE.handler, Sizes::AMPLE.proof].map(|length| vec![0xA7; length]);
     let [handler_room, proof_room] = &mut rooms;
     let mut lent = Lent { work, handler: handler_room, proof: proof_room };
-    let composed = PROVED.compose([(handler, proof); 2], &mut lent);
+    let composed = PROVED.compose([(handler, proof), (&second.0, &second.1)], &mut lent);
     Answer { verdict, states, words, root, view, written, form, composed, rooms }
 }
 
-/// Accepted pairs and four damaged versions of each.
+/// Two guests, one after the other, and four damaged versions of each.
 fn pairs() -> Vec<Files> {
     let mut random = Random::new(0x7472);
     let mut pairs = Vec::new();
-    for _ in 0..PAIRS {
-        let pair = accepted(&mut random, Scale::FULL);
-        pairs.extend((0..4).map(|_| damaged(&mut random, &pair)));
-        pairs.push((pair.handler_file.bytes, pair.proof_file.bytes));
+    for _ in 0..GUESTS {
+        let guests = two_guests(&mut random, Scale::FULL);
+        for pair in &guests {
+            pairs.extend((0..4).map(|_| damaged(&mut random, pair)));
+        }
+        pairs.extend(guests.map(|pair| (pair.handler_file.bytes, pair.proof_file.bytes)));
     }
     pairs
+}
+
+/// The answers for a pair of the list, which is composed with the one after it.
+fn answer_at(pairs: &[Files], index: usize, work: &mut [u64]) -> Answer {
+    answer(&pairs[index], &pairs[(index + 1) % pairs.len()], work)
+}
+
+/// Whether both files of a composition were written.
+fn is_made(answer: &Answer) -> bool {
+    answer.composed.is_some_and(|number| number >> 63 == 0)
 }
 
 /// Every thread goes over all pairs, each from a place of its own on, and shares the files.
@@ -63,9 +76,12 @@ fn pairs() -> Vec<Files> {
 fn threads_do_not_disturb_each_other() {
     let pairs = pairs();
     let mut work = vec![0; TABLE_WORDS];
-    let alone: Vec<Answer> = pairs.iter().map(|files| answer(files, &mut work)).collect();
+    let alone: Vec<Answer> =
+        (0..pairs.len()).map(|index| answer_at(&pairs, index, &mut work)).collect();
     let accepted = alone.iter().filter(|a| matches!(a.verdict, Verdict::Accepted(_))).count();
-    assert!(accepted >= PAIRS && accepted < alone.len(), "{accepted} accepted");
+    assert!(accepted >= 2 * GUESTS && accepted < alone.len(), "{accepted} accepted");
+    let made = alone.iter().filter(|answer| is_made(answer)).count();
+    assert!(made > GUESTS / 2, "only {made} were composed");
     let start = Barrier::new(THREADS);
     std::thread::scope(|scope| {
         for thread in 0..THREADS {
@@ -75,7 +91,7 @@ fn threads_do_not_disturb_each_other() {
                 start.wait();
                 for turn in 0..ROUNDS * pairs.len() {
                     let index = (turn + thread * pairs.len() / THREADS) % pairs.len();
-                    let found = answer(&pairs[index], &mut work);
+                    let found = answer_at(pairs, index, &mut work);
                     assert!(found == alone[index], "thread {thread}, pair {index}");
                 }
             });

@@ -73,7 +73,7 @@ impl Trees {
         Trees { handler, proof, steps }
     }
 
-    fn root(&self) -> Tables<'_> {
+    pub fn root(&self) -> Tables<'_> {
         Tables::of(&self.proof, &self.proof.root)
     }
 
