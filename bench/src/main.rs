@@ -2,12 +2,14 @@
 //! treats them alike. `arguments.rs` has the flags.
 
 mod arguments;
+mod halves;
 mod rows;
 mod worst;
 
 use arguments::Arguments;
-use beside::{checkers, judge, judge_form, line, Checker};
-use reference::{LONGEST_FILE, TABLE_WORDS};
+use beside::composed::Lent;
+use beside::{checkers, judge, judge_composition, judge_form, line, Checker};
+use reference::{Composition, LONGEST_FILE, TABLE_WORDS};
 use rows::{Call, Row};
 use std::hint::black_box;
 use std::time::Instant;
@@ -52,6 +54,13 @@ fn answer(row: &Row) -> String {
             assert!(written.as_ref() == Ok(form), "{}: another form", row.name);
             format!("written {}", form.len())
         }
+        Call::Compose { second, steps, made } => {
+            let composition = judge_composition((&row.handler, &row.proof), (&second.0, &second.1));
+            let (handler, proof) = made.clone();
+            let expected = Composition::Made { steps: *steps, handler, proof };
+            assert!(composition == expected, "{}: another composition", row.name);
+            format!("composed {steps}")
+        }
     }
 }
 
@@ -59,13 +68,15 @@ fn answer(row: &Row) -> String {
 struct Buffers {
     words: Vec<u64>,
     bytes: Vec<u8>,
+    more_bytes: Vec<u8>,
 }
 
 /// The median of each checker in nanoseconds a call; they take turns in every round. None where
 /// the checker lacks the function.
 fn measure(row: &Row, checkers: &[Box<dyn Checker>], rounds: usize) -> Vec<Option<f64>> {
     let mut times = vec![Vec::with_capacity(rounds); checkers.len()];
-    let mut buffers = Buffers { words: vec![0; TABLE_WORDS], bytes: vec![0; LONGEST_FILE] };
+    let room = || vec![0; LONGEST_FILE];
+    let mut buffers = Buffers { words: vec![0; TABLE_WORDS], bytes: room(), more_bytes: room() };
     for _ in 0..rounds {
         for (checker, times) in checkers.iter().zip(&mut times) {
             let start = Instant::now();
@@ -81,12 +92,19 @@ fn measure(row: &Row, checkers: &[Box<dyn Checker>], rounds: usize) -> Vec<Optio
 /// One call; false where the checker lacks the function.
 fn call(checker: &dyn Checker, row: &Row, buffers: &mut Buffers) -> bool {
     let (handler, proof) = (black_box(&row.handler), black_box(&row.proof));
-    match row.call {
+    let Buffers { words, bytes, more_bytes } = buffers;
+    match &row.call {
         Call::Check(_) => {
-            black_box(checker.check(handler, proof, &mut buffers.words));
+            black_box(checker.check(handler, proof, words));
             true
         }
-        Call::Form(_) => black_box(checker.canonical(handler, proof, &mut buffers.bytes)).is_some(),
+        Call::Form(_) => black_box(checker.canonical(handler, proof, bytes)).is_some(),
+        Call::Compose { second, .. } => {
+            let (handler_2, proof_2) = black_box(second);
+            let mut lent = Lent { work: words, handler: bytes, proof: more_bytes };
+            let pairs = [(&handler[..], &proof[..]), (handler_2, proof_2)];
+            black_box(checker.compose(pairs, &mut lent)).is_some()
+        }
     }
 }
 
@@ -112,8 +130,7 @@ fn print_head(checkers: &[Box<dyn Checker>]) {
 }
 
 fn print_row(row: &Row, answer: &str, medians: &[Option<f64>]) {
-    let bytes = row.handler.len() + row.proof.len();
-    print!("| {} | {bytes} | {answer} |", row.name);
+    print!("| {} | {} | {answer} |", row.name, row.bytes());
     for median in medians {
         print!(" {} |", median.map_or("–".into(), |median| format!("{median:.0}")));
     }

@@ -1,7 +1,9 @@
 //! The pairs that are measured.
 
+use crate::halves;
 use crate::worst::numbered_worst;
 use generate::author::operate;
+use generate::damage::Files;
 use generate::derivation::Derivation;
 use generate::derive::{least, Demand};
 use generate::pairs::Pair;
@@ -20,12 +22,25 @@ pub struct Row {
     pub call: Call,
 }
 
+impl Row {
+    /// How many bytes all files have that are passed.
+    pub fn bytes(&self) -> usize {
+        let of_second = match &self.call {
+            Call::Compose { second: (handler, proof), .. } => handler.len() + proof.len(),
+            Call::Check(_) | Call::Form(_) => 0,
+        };
+        self.handler.len() + self.proof.len() + of_second
+    }
+}
+
 /// What is measured, with what it must answer.
 pub enum Call {
     /// The check, and whether the verdict is the one that the row is about.
     Check(fn(Verdict) -> bool),
     /// The writing of the proof file in its one form, and that form.
     Form(Vec<u8>),
+    /// The composition with a second pair, its step number and the two files that it makes.
+    Compose { second: Files, steps: u32, made: Files },
 }
 
 pub fn all() -> Vec<Row> {
@@ -51,6 +66,7 @@ pub fn all() -> Vec<Row> {
         },
         form_of_large(&large),
         form_of_longest(),
+        halves::composed(),
     ]
 }
 
@@ -75,6 +91,10 @@ fn form_of_longest() -> Row {
     }
 }
 
+pub fn files(pair: Pair) -> Files {
+    (pair.handler_file.bytes, pair.proof_file.bytes)
+}
+
 fn accepted(name: &'static str, pair: Pair) -> Row {
     Row {
         name,
@@ -85,13 +105,13 @@ fn accepted(name: &'static str, pair: Pair) -> Row {
 }
 
 /// The derivation from every state, with the least tables or with coarse postconditions.
-fn derive(sizes: &[usize], statement: &Statement, r: &Relation, coarse: bool) -> Derivation {
+pub fn derive(sizes: &[usize], statement: &Statement, r: &Relation, coarse: bool) -> Derivation {
     let space = Space::new(sizes);
     let demand = Demand { p: space.all(), r, coarse };
     least(&space, statement, demand).expect("the row is made to hold")
 }
 
-fn pair(sizes: &[usize], statement: Statement, derivation: Derivation) -> Pair {
+pub fn pair(sizes: &[usize], statement: Statement, derivation: Derivation) -> Pair {
     Pair::new(Handler { space: Space::new(sizes), statement }, derivation)
         .expect("the row is made to fit")
 }
@@ -129,7 +149,7 @@ fn in_blocks(sizes: &[usize], count: usize) -> Pair {
 }
 
 /// Ten parallels of two loops each, and a weaken over every node.
-fn large() -> Pair {
+pub fn large() -> Pair {
     let sizes = [4, 4, 4];
     let blocks = [parallel(count_down(0), count_up(1, 3)), parallel(count_down(1), count_up(2, 3))];
     let more = (0..10).map(|index| blocks[index % 2].clone());
