@@ -6,7 +6,9 @@ use super::{composed, refused};
 use generate::damage::Files;
 use generate::guests::limits::{self, Limit};
 use generate::guests::numbered;
+use generate::programs::{in_order, store as store_of, sum};
 use generate::random::Random;
+use generate::vacuous;
 use reference::writer::spelled;
 use reference::Composition;
 
@@ -172,6 +174,21 @@ fn of_made(limit: Limit, composition: &Composition) -> u64 {
     };
     let trees = Trees::read(handler, proof);
     limit.of(&trees.handler, &trees.proof)
+}
+
+/// 32 stores of expressions with as many nodes as there can be, the second 16 of them moved by the
+/// bits that come before.
+#[test]
+fn long_handlers() {
+    let stores = |variable: usize| {
+        let store = |index: u64| store_of(variable, sum(16, index));
+        let pair = vacuous::pair(&[4, 4, 4], in_order((0..16).map(store).collect()));
+        (pair.handler_file.bytes, pair.proof_file.bytes)
+    };
+    let [first, second] = [stores(1), stores(2)];
+    let both = first.0.len() + second.0.len();
+    let Composition::Made { handler, .. } = composed(&[first, second]) else { panic!("not made") };
+    assert!(handler.len() > 700 && handler.len() < both, "{}", handler.len());
 }
 
 /// The files of an example.
