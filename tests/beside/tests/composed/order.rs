@@ -82,6 +82,11 @@ fn one_after_the_other() {
     call.first.weakens = 21;
     call.second.weakens = 21;
     assert_eq!(call.answer(), refused(95));
+    in_exact_rooms(call);
+}
+
+/// It is made in rooms of the lengths of its files, and not with either a byte short.
+fn in_exact_rooms(mut call: Call) {
     call.sizes = Sizes::AMPLE;
     let Composition::Made { handler, proof, .. } = call.answer() else { panic!("not made") };
     call.sizes = Sizes { words: TABLE_WORDS, handler: handler.len(), proof: proof.len() };
