@@ -15,8 +15,9 @@ use Rattle.semantics.specs.Derivations.{Spec}
 use Rattle.semantics.specs.Conditions.{setLiesIn, relationLiesIn}
 use Rattle.handler.specs.declared.head.Head.{Head}
 use Rattle.handler.specs.Header.{headOf}
-use Rattle.composition.specs.Composing.{Side, N, statement, handlerFile, proofFile, Composition, made, refused, plain, asked, sameSizes, staysIn, inLimits, composition}
-use Rattle.composition.specs.Refinement.{staysMet, firstUnmet}
+use Rattle.composition.specs.Joining.{rootSpec}
+use Rattle.composition.specs.Composing.{Side, N, metP, statement, handlerFile, proofFile, Composition, made, refused, plain, asked, sameSizes, staysIn, inLimits, composition}
+use Rattle.composition.specs.Refinement.{firstUnmet}
 
 -- 90: both have the same variables.
 pub sizes-same : (s t : List ℕ) → sameSizes s t ≡ true → s ≡ t
@@ -75,7 +76,7 @@ module _ (n : ℕ) (a b : Spec) (x : Bool) (first : x ≡ relationLiesIn n (b .G
     unfolding firstUnmet
     unmet-92 e = rw (sym first ∙ not-false x in-first, sym second ∙ not-true y e)
 
-    pub unmet-93 : not y ≡ false → (z held : Bool) → z ≡ (staysMet n a b (a .G) && staysMet n a b (b .G)) → z ≡ held → cond held 0 93 ≡ firstUnmet n a b
+    pub unmet-93 : not y ≡ false → (z held : Bool) → z ≡ (staysIn n (rootSpec n a b .P) (a .G) && staysIn n (rootSpec n a b .P) (b .G)) → z ≡ held → cond held 0 93 ≡ firstUnmet n a b
     unfolding firstUnmet
     unmet-93 in-second z held third e = rw (sym first ∙ not-false x in-first, sym second ∙ not-false y in-second, sym third ∙ e)
 
@@ -89,11 +90,11 @@ module _ (h h′ : List ℕ) (a b : Side) where
       ≡ asked 90 (sameSizes (a .sizes) (b .sizes)) (cond (eqb unmetHere 0)
       (asked 94 (inLimits h h′ a b) (made (steps (N h h′ a b) (statement h h′ a b)) (handlerFile h h′ a b) (proofFile h h′ a b)))
       (refused 0 (plain unmetHere)))
-  unfolding composition staysIn staysMet firstUnmet
+  unfolding composition firstUnmet
   asked-by-number =
       ap (asked 90 (sameSizes (a .sizes) (b .sizes)))
       (by (relationLiesIn (N h h′ a b) (b .tables .G) (a .tables .R)) (relationLiesIn (N h h′ a b) (a .tables .G) (b .tables .R))
-      (staysIn h h′ a b (a .tables .G) && staysIn h h′ a b (b .tables .G)) (asked 94 (inLimits h h′ a b)
+      (staysIn (N h h′ a b) (metP h h′ a b) (a .tables .G) && staysIn (N h h′ a b) (metP h h′ a b) (b .tables .G)) (asked 94 (inLimits h h′ a b)
       (made (steps (N h h′ a b) (statement h h′ a b)) (handlerFile h h′ a b) (proofFile h h′ a b))))
     where
       by : (x y z : Bool) (next : Composition)

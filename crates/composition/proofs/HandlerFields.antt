@@ -1,5 +1,5 @@
 -- The handler file is cleared and its fields are written one after the other.
-use Prim.Native.Nat.{ℕ, _+_, _-_, _*_, _^_, _≤_, _<_}
+use Prim.Native.Nat.{ℕ, _+_, _*_, _^_, _≤_, _<_}
 use mathlib.Core.List.{List}
 use mathlib.Core.Path.{_≡_, _∙_, ap}
 use native.Mathlib.Nat.{zero-add}
@@ -10,20 +10,8 @@ use Rattle.writer.specs.Packing.{Part, widthOf, putParts, bytesFor, packed}
 use Rattle.writer.proofs.Laws.{field-put, length-field}
 use Rattle.writer.proofs.Packed.{length-packed, packed-front}
 use Rattle.writer.proofs.Copied.{copied-fits, length-copied, cleared-within, length-cleared}
-use Rattle.semantics.specs.Language.{Stmt}
-use Rattle.handler.specs.Kinds.{stmtWidth}
 use Rattle.composition.specs.Joining.{handlerParts}
 use Rattle.composition.specs.Composing.{atFront}
-use Rattle.composition.specs.Refinement.{handlerFields}
-
--- Where statements end, by their widths.
-pub handler-fields : (h : List ℕ) (at end : ℕ) (S : Stmt) (h′ : List ℕ) (from to : ℕ) (T : Stmt) → end ≡ at + stmtWidth S → to ≡ from + stmtWidth T
-    → handlerFields h at (end - at) h′ from (to - from) ≡ handlerParts h at S h′ from T
-unfolding handlerFields handlerParts
-handler-fields h at end S h′ from to T e e′ =
-    let w : end - at ≡ stmtWidth S = omega (arith, e) in
-    let w′ : to - from ≡ stmtWidth T = omega (arith, e′) in
-    rw (w, w′)
 
 bits-within : (bits count : ℕ) → bytesFor bits ≤ count → bits ≤ 8 * count
 unfolding bytesFor
@@ -34,10 +22,10 @@ module _ (h : List ℕ) (at w : ℕ) (h′ : List ℕ) (from w′ : ℕ) where
   bits = at + 3 + w + w′
 
   abbrev fields : List Part
-  fields = handlerFields h at w h′ from w′
+  fields = handlerParts h at w h′ from w′
 
   pub width-handler : widthOf fields ≡ bits
-  unfolding handlerFields widthOf
+  unfolding handlerParts widthOf
   width-handler = omega arith
 
   pub handler-written : (out o₁ o₂ o₃ o₄ o₅ : List ℕ) → bytesFor bits ≤ length out → bits < 2 ^ 64 → from + w′ < 2 ^ 64
@@ -47,7 +35,7 @@ module _ (h : List ℕ) (at w : ℕ) (h′ : List ℕ) (from w′ : ℕ) where
       → o₄ ≡ copied o₃ (at + 3) h at w
       → o₅ ≡ copied o₄ (at + 3 + w) h′ from w′
       → o₅ ≡ atFront (packed fields) out
-  unfolding handlerFields putParts
+  unfolding handlerParts putParts
   handler-written out o₁ o₂ o₃ o₄ o₅ within fits fits′ e₁ e₂ e₃ e₄ e₅ =
       let room = bits-within bits (length out) within in
       let l₁ : length o₁ ≡ length out = ap length e₁ ∙ length-cleared out (bytesFor bits) in

@@ -23,10 +23,10 @@ use Rattle.composition.specs.Joining.{handlerParts}
 
 module _ (h : List ℕ) (at : ℕ) (S : Stmt) (h′ : List ℕ) (at′ : ℕ) (T : Stmt) where
   abbrev parts : List Part
-  parts = handlerParts h at S h′ at′ T
+  parts = handlerParts h at (stmtWidth S) h′ at′ (stmtWidth T)
 
   abbrev file : List ℕ
-  file = packed (handlerParts h at S h′ at′ T)
+  file = packed (handlerParts h at (stmtWidth S) h′ at′ (stmtWidth T))
 
   width-is : widthOf parts ≡ at + 3 + stmtWidth S + stmtWidth T
   unfolding handlerParts widthOf
@@ -44,7 +44,7 @@ module _ (h : List ℕ) (at : ℕ) (S : Stmt) (h′ : List ℕ) (at′ : ℕ) (T
   file-ends : fillAt file (at + 3 + stmtWidth S + stmtWidth T) ≡ Ends
   file-ends = rw width-is at (packed-ends parts)
 
-  module _ (short : length (packed (handlerParts h at S h′ at′ T)) ≤ 16384) where
+  module _ (short : length (packed (handlerParts h at (stmtWidth S) h′ at′ (stmtWidth T))) ≤ 16384) where
     moved : (a : List ℕ) (x y w : ℕ) → y + w ≤ at + 3 + stmtWidth S + stmtWidth T → bitsAt file y w ≡ bitsAt a x w → Same a x file y w
     unfolding bytesFor
     moved a x y w within same =
@@ -53,7 +53,7 @@ module _ (h : List ℕ) (at : ℕ) (S : Stmt) (h′ : List ℕ) (at′ : ℕ) (T
 
     pub joined-read : (sizes : List ℕ) → readHandler h ≡ handler sizes at S → readHandler h′ ≡ handler sizes at′ T
         → statements (par S T) ≤ 63 → stmtLevels (par S T) ≤ 16
-        → readHandler (packed (handlerParts h at S h′ at′ T)) ≡ handler sizes at (par S T)
+        → readHandler (packed (handlerParts h at (stmtWidth S) h′ at′ (stmtWidth T))) ≡ handler sizes at (par S T)
     joined-read sizes read read′ few high =
         let head = moved h 0 0 at (omega arith) (held .0) in
         let left = moved h at (at + 3) (stmtWidth S) (omega arith) (held .2) in

@@ -13,6 +13,7 @@ use Rattle.semantics.specs.Language.{par}
 use Rattle.semantics.specs.StepNumber.{steps}
 use Rattle.semantics.specs.Derivations.{Derivation, nodes, levels}
 use Rattle.handler.specs.declared.HandlerSummary.{HandlerSummary}
+use Rattle.handler.specs.Kinds.{stmtWidth}
 use Rattle.handler.specs.StatementTable.{statements, stmtLevels}
 use Rattle.derivation.proofs.NodeTable.{Known}
 use Rattle.form.specs.Members.{setWhere, relationWhere}
@@ -23,13 +24,12 @@ use Rattle.composition.specs.declared.numbering.SetNumbers.{SetNumbers}
 use Rattle.composition.specs.declared.numbering.RelationNumbers.{RelationNumbers}
 use Rattle.composition.specs.Joining.{rootSpec, leftSpec, rightSpec, joined, handlerParts}
 use Rattle.composition.specs.Composing.{Side, Composition, made, refused, plain, asked, inLimits, limited, handlerFile, proofFile}
-use Rattle.composition.specs.Refinement.{Kept, SetsNumbered, RelationsNumbered, AllSmall, handlerFields, nodeParts, proofParts, filesOf, smallCounts, Ready}
+use Rattle.composition.specs.Refinement.{Kept, SetsNumbered, RelationsNumbered, AllSmall, nodeParts, proofParts, filesOf, smallCounts, Ready}
 use Rattle.composition.proofs.Absorbed.{sets-joined, relations-joined}
 use Rattle.composition.proofs.JoinedNames.{FewTables, ResultSets, ResultRelations, numbered-joined}
 use Rattle.composition.proofs.JoinedParts.{nodes-joined, levels-joined, joined-parts}
-use Rattle.composition.proofs.HandlerFields.{handler-fields}
 
--- A count over 16 stands for a list that is longer than 16.
+-- A count over 16 means that the list is longer than 16.
 kept-test : (held seen : List ℕ) (count : ℕ) → Kept held count seen → length held ≡ count → leb count 16 ≡ leb (length seen) 16
 kept-test held seen count k long = by (leb count 16) refl
   where
@@ -103,7 +103,7 @@ module _ (n : ℕ) (A B : Side) (a b : HandlerSummary) (f g : Form) (words other
       unfolding inLimits
       limits-are =
           rw (← ra .states-are)
-          (λ i. sym small-is i && leb (length (packed (handlerParts h (A .at) (A .statement) h′ (B .at) (B .statement)))) 16384
+          (λ i. sym small-is i && leb (length (packed (handlerParts h (A .at) (stmtWidth (A .statement)) h′ (B .at) (stmtWidth (B .statement))))) 16384
           && leb (length (formOf n D)) 16384 && leb (steps n (par (A .statement) (B .statement))) (2 ^ 32 - 1))
 
       pub limited-not : small ≡ false → limited h h′ A B ≡ refused 0 (plain 94)
@@ -159,14 +159,14 @@ module _ (n : ℕ) (A B : Side) (a b : HandlerSummary) (f g : Form) (words other
               (omega (arith, right .R-below, most), omega (arith, right .G-below, most), omega (arith, right .Q-below, most)),
             )
 
-        handler-is : packed (handlerParts h (A .at) (A .statement) h′ (B .at) (B .statement))
-            ≡ packed (handlerFields h (a .at) (a .end - a .at) h′ (b .at) (b .end - b .at))
+        handler-is : packed (handlerParts h (A .at) (stmtWidth (A .statement)) h′ (B .at) (stmtWidth (B .statement)))
+            ≡ packed (handlerParts h (a .at) (a .end - a .at) h′ (b .at) (b .end - b .at))
         handler-is =
             let ha = ra .of-handler in
             let hb = rb .of-handler in
-            (λ i. packed (handlerParts h (sym (ha .at-is) i) (A .statement) h′ (sym (hb .at-is) i) (B .statement)))
-            ∙ ap packed (sym (handler-fields h (a .at) (a .end) (A .statement) h′ (b .at) (b .end) (B .statement)
-            (omega (arith, ha .end-is, ha .at-is)) (omega (arith, hb .end-is, hb .at-is))))
+            let width : stmtWidth (A .statement) ≡ a .end - a .at = omega (arith, ha .end-is, ha .at-is) in
+            let width′ : stmtWidth (B .statement) ≡ b .end - b .at = omega (arith, hb .end-is, hb .at-is) in
+            λ i. packed (handlerParts h (sym (ha .at-is) i) (width i) h′ (sym (hb .at-is) i) (width′ i))
 
         proof-is : formOf n D ≡ packed (proofParts n S T (nodeParts k m f g))
         unfolding formOf proofParts nodeParts
@@ -185,7 +185,7 @@ module _ (n : ℕ) (A B : Side) (a b : HandlerSummary) (f g : Form) (words other
             asked 94 (leb (length handler) 16384 && leb (length proof) 16384 && leb number (2 ^ 32 - 1)) (made number handler proof)
 
         limited-by : limited h h′ A B
-            ≡ answerOf (steps n (par (A .statement) (B .statement))) (packed (handlerParts h (A .at) (A .statement) h′ (B .at) (B .statement))) (formOf n D)
+            ≡ answerOf (steps n (par (A .statement) (B .statement))) (packed (handlerParts h (A .at) (stmtWidth (A .statement)) h′ (B .at) (stmtWidth (B .statement)))) (formOf n D)
         limited-by = rw (limits-are, few, ← ra .states-are)
 
         pub limited-is : limited h h′ A B ≡ filesOf n h a f h′ b g S m T k

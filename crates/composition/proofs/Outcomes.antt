@@ -14,7 +14,7 @@ use Rattle.checker.specs.declared.Fault.{Fault}
 use Rattle.checker.specs.declared.Verdict.{Verdict}
 use Rattle.checker.specs.declared.Verdict.the-variants.{Accepted, Refused}
 use Rattle.checker.specs.Verdicts.{answer}
-use Rattle.composition.specs.Composing.{Side, sideOf, Composition, made, refused, plain, sameSizes, handlerFile, proofFile, staysIn, inLimits, composition, ofPair, tooLong, compose}
+use Rattle.composition.specs.Composing.{Side, sideOf, Composition, made, refused, plain, sameSizes, metP, handlerFile, proofFile, staysIn, inLimits, composition, ofPair, tooLong, compose}
 
 -- What holds of both answers, each where the test gives it, holds of the one that is chosen.
 tested : {A : Type 0} (P : A → Type 0) (t : Bool) (x y : A) → (t ≡ true → P x) → (t ≡ false → P y) → P (cond t x y)
@@ -42,7 +42,7 @@ module _ (h p h′ p′ : List ℕ) where
   firstInSecond = relationLiesIn n (a .tables .G) (b .tables .R)
 
   abbrev pub bothStay : Bool
-  bothStay = staysIn h h′ a b (a .tables .G) && staysIn h h′ a b (b .tables .G)
+  bothStay = staysIn n (metP h h′ a b) (a .tables .G) && staysIn n (metP h h′ a b) (b .tables .G)
 
   abbrev pub withinLimits : Bool
   withinLimits = inLimits h h′ a b

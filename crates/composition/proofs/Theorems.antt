@@ -35,7 +35,7 @@ use Rattle.form.proofs.Verdicts.{memberTables}
 use Rattle.form.proofs.Where.{where-below}
 use Rattle.form.proofs.Forms.{Writable, any-read, any-fault}
 use Rattle.composition.specs.Joining.{rootSpec, leftSpec, rightSpec, membersOf, joined}
-use Rattle.composition.specs.Composing.{Side, sideOf, made, statement, derivation, handlerFile, proofFile, staysIn, inLimits, compose}
+use Rattle.composition.specs.Composing.{Side, sideOf, made, metP, statement, derivation, handlerFile, proofFile, staysIn, inLimits, compose}
 use Rattle.composition.proofs.Asked.{sizes-same}
 use Rattle.composition.proofs.Rules.{root-within}
 use Rattle.composition.proofs.Joined.{named-spec, joined-fault}
@@ -140,8 +140,8 @@ module _ (h p h′ p′ : List ℕ) (words k : ℕ) (hout pout : List ℕ) (s : 
   unbroken : firstFault (memberTables m) d S 0 ≡ none
   unfolding staysIn
   unbroken =
-      let keeps-a = holds-none _ (and-left (staysIn h h′ a b (a .tables .G)) _ (c .both-stay)) in
-      let keeps-b = holds-none _ (and-right (staysIn h h′ a b (a .tables .G)) _ (c .both-stay)) in
+      let keeps-a = holds-none _ (and-left (staysIn n (metP h h′ a b) (a .tables .G)) _ (c .both-stay)) in
+      let keeps-b = holds-none _ (and-right (staysIn n (metP h h′ a b) (a .tables .G)) _ (c .both-stay)) in
       rw (left .tables-are, right .tables-are)
       (joined-fault m (a .derivation) (b .derivation) (a .statement) (b .statement) (left .unbroken) (right .unbroken)
       (rw (left .tables-are, right .tables-are) at (c .second-in-first)) (rw (left .tables-are, right .tables-are) at (c .first-in-second))

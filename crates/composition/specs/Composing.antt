@@ -13,6 +13,7 @@ use Rattle.semantics.specs.States.{product}
 use Rattle.semantics.specs.StepNumber.{steps}
 use Rattle.semantics.specs.Derivations.{Derivation, skip, namesOf, nodes, levels, Spec, specOf}
 use Rattle.semantics.specs.Conditions.{inSet, relationLiesIn}
+use Rattle.handler.specs.Kinds.{stmtWidth}
 use Rattle.handler.specs.Reading as Handlers
 use Rattle.handler.specs.StatementTable.{statements, stmtLevels}
 use Rattle.derivation.specs.Tables.{workWords, written}
@@ -83,10 +84,17 @@ asked k held next = cond held next (refused 0 (plain k))
 unfoldable pub sameSizes : List ℕ → List ℕ → Bool
 sameSizes a b = eqb (length a) (length b) && all (length a) (λ v. eqb (getD a v 0) (getD b v 0))
 
+-- 93, for one of both G: s in P, (s,t) in G: t in P.
+unfoldable pub staysIn : ℕ → (ℕ → Bool) → (ℕ → ℕ → Bool) → Bool
+staysIn n P G = holds (inSet n P (λ s. inSet n (G s) (λ t. must (P t))))
+
 -- Over two handler files and what is taken from both pairs.
 module _ (h h′ : List ℕ) (a b : Side) where
   abbrev pub N : ℕ
   N = product (a .sizes)
+
+  abbrev pub metP : ℕ → Bool
+  metP = rootSpec N (a .tables) (b .tables) .P
 
   abbrev pub statement : Stmt
   statement = par (a .statement) (b .statement)
@@ -95,14 +103,10 @@ module _ (h h′ : List ℕ) (a b : Side) where
   derivation = joined N (a .tables) (b .tables) (a .derivation) (b .derivation)
 
   abbrev pub handlerFile : List ℕ
-  handlerFile = packed (handlerParts h (a .at) (a .statement) h′ (b .at) (b .statement))
+  handlerFile = packed (handlerParts h (a .at) (stmtWidth (a .statement)) h′ (b .at) (stmtWidth (b .statement)))
 
   abbrev pub proofFile : List ℕ
   proofFile = formOf N derivation
-
-  -- 93, for one of both G: s in P, (s,t) in G: t in P.
-  unfoldable pub staysIn : (ℕ → ℕ → Bool) → Bool
-  staysIn G = let P = rootSpec N (a .tables) (b .tables) .P in holds (inSet N P (λ s. inSet N (G s) (λ t. must (P t))))
 
   -- 94: the result is within every limit.
   unfoldable pub inLimits : Bool
@@ -123,7 +127,7 @@ module _ (h h′ : List ℕ) (a b : Side) where
       asked 90 (sameSizes (a .sizes) (b .sizes))
       (asked 91 (relationLiesIn N (b .tables .G) (a .tables .R))
       (asked 92 (relationLiesIn N (a .tables .G) (b .tables .R))
-      (asked 93 (staysIn (a .tables .G) && staysIn (b .tables .G)) limited)))
+      (asked 93 (staysIn N metP (a .tables .G) && staysIn N metP (b .tables .G)) limited)))
 
 -- A pair's own refusal, or what follows if it is accepted.
 abbrev pub ofPair : ℕ → Verdict → Composition → Composition

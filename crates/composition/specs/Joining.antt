@@ -6,9 +6,7 @@ use Rattle.bits.specs.Fields.{bitsAt}
 use Rattle.writer.specs.Packing.{Part, part}
 use Rattle.states.specs.Relations.{reach}
 use Rattle.semantics.specs.declared.Names.{Names}
-use Rattle.semantics.specs.Language.{Stmt}
 use Rattle.semantics.specs.Derivations.{Derivation, parallel, weaken, Spec}
-use Rattle.handler.specs.Kinds.{stmtWidth}
 use Rattle.form.specs.Members.{setWhere, relationWhere}
 
 -- Over n states, a and b being the tables of the two roots.
@@ -39,12 +37,8 @@ unfoldable pub joined : ℕ → Spec → Spec → Derivation → Derivation → 
 joined n a b x y =
     parallel (membersOf n (rootSpec n a b)) (weaken (membersOf n (leftSpec n a b)) x) (weaken (membersOf n (rightSpec n a b)) y)
 
--- The fields of the handler file: the head of the first file, whose statement begins at a bit, 3 bits for parallel, and both
--- statements, bit for bit.
-unfoldable pub handlerParts : List ℕ → ℕ → Stmt → List ℕ → ℕ → Stmt → List Part
-handlerParts h at S h′ at′ T =
-    part at (bitsAt h 0 at)
-    ∷ part 3 3
-    ∷ part (stmtWidth S) (bitsAt h at (stmtWidth S))
-    ∷ part (stmtWidth T) (bitsAt h′ at′ (stmtWidth T))
-    ∷ []
+-- The fields of the handler file: the head of the first file, 3 bits for parallel, and both statements, bit for bit. Each statement is
+-- given by its first bit and its width.
+unfoldable pub handlerParts : List ℕ → ℕ → ℕ → List ℕ → ℕ → ℕ → List Part
+handlerParts h at width h′ at′ width′ =
+    part at (bitsAt h 0 at) ∷ part 3 3 ∷ part width (bitsAt h at width) ∷ part width′ (bitsAt h′ at′ width′) ∷ []

@@ -5,13 +5,11 @@ use mathlib.Core.List.{List, [], _∷_, _++_, map}
 use mathlib.Core.Path.{_≡_}
 use lib.Dec.{leb, eqb}
 use lib.ListN.{length, take, getD}
-use Rattle.bits.specs.Fields.{bitsAt}
 use Rattle.writer.specs.Packing.{Part, part, widthOf, bytesFor, packed}
-use Rattle.states.specs.Search.{must, holds}
 use Rattle.states.specs.Sets.{has}
 use Rattle.states.specs.Relations.{rel}
 use Rattle.semantics.specs.Derivations.{Derivation, Spec, namesOf, nodes, levels}
-use Rattle.semantics.specs.Conditions.{inSet, relationLiesIn}
+use Rattle.semantics.specs.Conditions.{relationLiesIn}
 use Rattle.semantics.specs.States.{product}
 use Rattle.semantics.specs.StepNumber.{steps}
 use Rattle.handler.specs.declared.HandlerSummary.{HandlerSummary}
@@ -39,8 +37,8 @@ use Rattle.composition.specs.declared.numbering.SideNumbers.{SideNumbers
 use Rattle.composition.specs.declared.numbering.RelationNumbers.{RelationNumbers}
 use Rattle.composition.specs.declared.pool.Mention.{Mention}
 use Rattle.composition.specs.declared.pool.Three.{Three}
-use Rattle.composition.specs.Joining.{rootSpec, leftSpec, rightSpec}
-use Rattle.composition.specs.Composing.{Side, sideOf, Composition, made, refused, plain, asked, limited}
+use Rattle.composition.specs.Joining.{rootSpec, leftSpec, rightSpec, handlerParts}
+use Rattle.composition.specs.Composing.{Side, sideOf, Composition, made, refused, plain, asked, staysIn, limited}
 
 -- The new tables of two roots over n states.
 pub record Joint (n : ℕ) (a b : Spec) (x : Roots) : Type 0 where
@@ -143,11 +141,6 @@ pub record RelationsNumbered (r g q lr lg lq : ℕ) (xs : List ℕ) (rr rg rq : 
   pub right-named : m .right .count ≤ mostTables → ThreeIn held rr rg rq (m .right .node)
   pub second-named : m .right .count ≤ mostTables → NamedIn held ys (m .right .names)
 
--- The fields of the handler file, `handlerParts` by the widths of both statements.
-unfoldable pub handlerFields : List ℕ → ℕ → ℕ → List ℕ → ℕ → ℕ → List Part
-handlerFields h at width h′ at′ width′ =
-    part at (bitsAt h 0 at) ∷ part 3 3 ∷ part width (bitsAt h at width) ∷ part width′ (bitsAt h′ at′ width′) ∷ []
-
 -- A new node: its rule, P, which is set 0, and the numbers of its R, G and Q. Its place in the table is not looked at.
 abbrev pub newNode : ℕ → Three → Node
 newNode rule m = record { rule = rule; names = record { p = 0; r = m .r; g = m .g; q = m .q }; k = 0; w = 0; after = 0; bit = 0 }
@@ -190,18 +183,11 @@ formRead sets relations root d = record {
   nodes = nodeTable root d;
 }
 
--- What is asked of the tables of two roots over n states.
-module _ (n : ℕ) (a b : Spec) where
-  -- 93, for one of both G: s in P, (s,t) in G: t in P.
-  unfoldable pub staysMet : (ℕ → ℕ → Bool) → Bool
-  staysMet G = let P = rootSpec n a b .P in holds (inSet n P (λ s. inSet n (G s) (λ t. must (P t))))
-
-  -- The first of 91, 92 and 93 that does not hold, or 0.
-  unfoldable pub firstUnmet : ℕ
-  firstUnmet =
-      cond (relationLiesIn n (b .G) (a .R))
-      (cond (relationLiesIn n (a .G) (b .R)) (cond (staysMet (a .G) && staysMet (b .G)) 0 93) 92)
-      91
+-- The first of 91, 92 and 93 that the tables of two roots over n states do not meet, or 0.
+unfoldable pub firstUnmet : ℕ → Spec → Spec → ℕ
+firstUnmet n a b =
+    let P = rootSpec n a b .P in
+    cond (relationLiesIn n (b .G) (a .R)) (cond (relationLiesIn n (a .G) (b .R)) (cond (staysIn n P (a .G) && staysIn n P (b .G)) 0 93) 92) 91
 
 -- A statement that lies within a file, and whose step number is stated.
 pub record Placed (s : HandlerSummary) : Type 0 where
@@ -223,7 +209,7 @@ lengthFault handler proof steps room space =
 -- Both files where no count is over its limit: 94 is asked of their lengths and of the step number.
 abbrev pub filesOf : ℕ → List ℕ → HandlerSummary → Form → List ℕ → HandlerSummary → Form → List ℕ → SetNumbers → List ℕ → RelationNumbers → Composition
 filesOf n h a f h′ b g S m T k =
-    let handler = packed (handlerFields h (a .at) (a .end - a .at) h′ (b .at) (b .end - b .at)) in
+    let handler = packed (handlerParts h (a .at) (a .end - a .at) h′ (b .at) (b .end - b .at)) in
     let proof = packed (proofParts n S T (nodeParts k m f g)) in
     asked 94 (leb (length handler) 16384 && leb (length proof) 16384 && leb (a .steps + b .steps + 1) (2 ^ 32 - 1))
     (made (a .steps + b .steps + 1) handler proof)

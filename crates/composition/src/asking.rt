@@ -15,8 +15,9 @@ ghost use Rattle.states.specs.Sets.{capacity};
 ghost use Rattle.semantics.specs.Conditions.{relationLiesIn};
 ghost use Rattle.handler.specs.Header.{headOf};
 ghost use Rattle.rules.specs.Words.{wordRelation, wordSpec};
-ghost use Rattle.composition.specs.Composing.{sameSizes};
-ghost use Rattle.composition.specs.Refinement.{staysMet, firstUnmet};
+ghost use Rattle.composition.specs.Joining.{rootSpec};
+ghost use Rattle.composition.specs.Composing.{sameSizes, staysIn};
+ghost use Rattle.composition.specs.Refinement.{firstUnmet};
 
 // The second G is not within the first R, the first G is not within the second R, and a pair of either G leads out of the met P.
 const SECOND_NOT_ALLOWED: u32 = 91;
@@ -46,8 +47,8 @@ fn lies_across(n: u32, first: &[u64], a: u32, second: &[u64], b: u32) -> bool
 // Whether no pair of either G leads out of the met P.
 fn both_stay(n: u32, first: &[u64], a: Names, second: &[u64], b: Names) -> bool
     ensures { λ r.
-        ⌜ r ≡ (staysMet n (wordSpec n (now (first .entry)) a) (wordSpec n (now (second .entry)) b) (wordRelation n (now (first .entry)) (a .g))
-        && staysMet n (wordSpec n (now (first .entry)) a) (wordSpec n (now (second .entry)) b) (wordRelation n (now (second .entry)) (b .g))) ⌝ }
+        ⌜ r ≡ (let P = rootSpec n (wordSpec n (now (first .entry)) a) (wordSpec n (now (second .entry)) b) .P in
+        staysIn n P (wordRelation n (now (first .entry)) (a .g)) && staysIn n P (wordRelation n (now (second .entry)) (b .g))) ⌝ }
 {
     let p = set_at(n, first, a.p).meet(set_at(n, second, b.p));
     leads_into(n, first, p, a.g, p) & leads_into(n, second, p, b.g, p)

@@ -18,8 +18,9 @@ ghost use Rattle.writer.specs.Writing.{putBits};
 ghost use Rattle.writer.specs.Packing.{part, putParts, bytesFor, packed};
 ghost use Rattle.form.specs.Members.{setWhere, relationWhere};
 ghost use Rattle.canonical.specs.Refinement.{Room};
+ghost use Rattle.composition.specs.Joining.{handlerParts};
 ghost use Rattle.composition.specs.Composing.{atFront};
-ghost use Rattle.composition.specs.Refinement.{setsHeld, relationsHeld, handlerFields};
+ghost use Rattle.composition.specs.Refinement.{setsHeld, relationsHeld};
 
 // The bits of the two counts, before the first set.
 const HEAD_BITS: usize = 10;
@@ -114,7 +115,7 @@ pub(crate) fn write_handler(
 )
     requires { ⌜ (at ≤ end) × (end ≤ 2 ^ 18) × (from ≤ to) × (to ≤ 2 ^ 18)
         × (bytesFor (at + 3 + (end - at) + (to - from)) ≤ length (now out)) ⌝ }
-    ensures { λ _. ⌜ now (out .exit) ≡ atFront (packed (handlerFields (now (first .entry)) at (end - at) (now (second .entry)) from (to - from)))
+    ensures { λ _. ⌜ now (out .exit) ≡ atFront (packed (handlerParts (now (first .entry)) at (end - at) (now (second .entry)) from (to - from)))
         (now (out .entry)) ⌝ }
 {
     let width = end - at;

@@ -9,8 +9,9 @@ use Rattle.writer.specs.Packing.{bytesFor, packed}
 use Rattle.writer.proofs.Packed.{length-packed}
 use Rattle.derivation.proofs.Buffers.{length-tabulate}
 use Rattle.composition.specs.declared.Composed.the-variants.{Made, Refused}
+use Rattle.composition.specs.Joining.{handlerParts}
 use Rattle.composition.specs.Composing.{plain, composed, handlerAfter, proofAfter}
-use Rattle.composition.specs.Refinement.{setsHeld, relationsHeld, handlerFields, nodeParts, proofParts, lengthFault}
+use Rattle.composition.specs.Refinement.{setsHeld, relationsHeld, nodeParts, proofParts, lengthFault}
 use Rattle.composition.proofs.HandlerFields.{width-handler}
 use Rattle.composition.proofs.NewNodes.{proof-length}
 use Rattle.composition.proofs.Deciding.{no-fault, some-fault, within-all}
@@ -19,7 +20,7 @@ use Rattle.composition.proofs.joining.write_both.Tie as tie
 
 -- Both files.
 abbrev handlerOf : tie.Start → List ℕ
-handlerOf c = let a = c .args in packed (handlerFields (a .first .now) (a .a .at) (a .a .end - a .a .at) (a .second .now) (a .b .at) (a .b .end - a .b .at))
+handlerOf c = let a = c .args in packed (handlerParts (a .first .now) (a .a .at) (a .a .end - a .a .at) (a .second .now) (a .b .at) (a .b .end - a .b .at))
 
 abbrev proofOf : tie.Start → List ℕ
 proofOf c =
