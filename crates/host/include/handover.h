@@ -137,7 +137,7 @@ enum handover_fault {
     HANDOVER_FAULT_STEPS = 80              /* the step number is over HANDOVER_MOST_STEPS (node 0) */
 };
 
-/* The numbers of faults of two accepted pairs, which handover_compose alone gives, each at bit 0. At 1 to 80 the fault is that of
+/* The numbers of faults of two accepted pairs, which handover_compose alone gives, each at bit 0. Its numbers from 1 to 80 are those of
    enum handover_fault. */
 enum handover_compose_fault {
     HANDOVER_COMPOSE_SIZES = 90,     /* the sizes of the variables differ */
