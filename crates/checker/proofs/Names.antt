@@ -1,21 +1,21 @@
 -- The states of every verdict, whatever the files are: a refusal names as many as its number says, each below 64. So three numbers of 8
 -- bits hold them.
-use Prim.Native.Nat.{ℕ, _-_, _^_, _≤_, _<_}
+use Prim.Native.Nat.{ℕ, _-_, _^_, _≤_}
 use mathlib.Core.Bool.{Bool, true, false, cond, _||_}
-use mathlib.Core.List.{List, []}
+use mathlib.Core.List.{List}
 use mathlib.Core.Option.{Option, none, some}
-use mathlib.Core.Path.{_≡_, refl, sym}
+use mathlib.Core.Path.{_≡_, refl}
 use native.Mathlib.Omega.{arith}
 use lib.Dec.{ltb}
 use lib.ListN.{length}
-use Rattle.bits.proofs.Places.{FaultIn, either}
+use Rattle.bits.proofs.Places.{either}
 use Rattle.states.specs.Sets.{capacity}
 use Rattle.semantics.specs.Language.{Stmt}
-use Rattle.semantics.specs.States.{product, machineOf}
+use Rattle.semantics.specs.States.{product}
 use Rattle.semantics.specs.StepNumber.{steps}
 use Rattle.semantics.specs.Checking.{Broken, statesNamed, firstFault}
 use Rattle.semantics.proofs.Storing.{store-read}
-use Rattle.semantics.proofs.Naming.{Named, nothing, named-length, named-within, few-named, none-named, Stores, FaultNames, fault-names}
+use Rattle.semantics.proofs.Naming.{Named, nothing, named-length, named-within, few-named, none-named, FaultNames, fault-names}
 use Rattle.handler.specs.Reading.{HandlerRead, handler, refused, readHandler}
 use Rattle.handler.proofs.Heads.{head-read}
 use Rattle.handler.proofs.Handlers.{known-handler}
@@ -29,7 +29,7 @@ use Rattle.checker.specs.declared.Place.{Place}
 use Rattle.checker.specs.declared.Place.the-variants.{Bit, Node}
 use Rattle.checker.specs.declared.Verdict.{Verdict}
 use Rattle.checker.specs.declared.Verdict.the-variants.{Accepted, Refused}
-use Rattle.checker.specs.Verdicts.{refusedAt, CheckResult, untouched, cleared, tablesOf, onSteps, onFault, onProof, onHandler, answer}
+use Rattle.checker.specs.Verdicts.{refusedAt, CheckResult, cleared, tablesOf, onSteps, onFault, onProof, onHandler, answer}
 
 abbrev pub NamesStates : Verdict → Type 0
 NamesStates (Accepted k) = Unit {0}

@@ -15,7 +15,7 @@ use semantics::Names;
 use writer::clear;
 ghost use mathlib.Core.Path.{_≡_};
 ghost use Prim.Native.Nat.{_+_, _*_, _≤_};
-ghost use lib.ListN.{length, take};
+ghost use lib.ListN.{length};
 ghost use Rattle.writer.specs.Packing.{putParts, bytesFor, packed};
 ghost use Rattle.states.specs.Sets.{capacity};
 ghost use Rattle.derivation.specs.Tables.{mostTables};

@@ -14,7 +14,7 @@ use Rattle.bits.specs.declared.Field.the-variants.{Value, Missing}
 use Rattle.bits.proofs.Laws.{bits-agree, There, there, found}
 use Rattle.bits.proofs.Places.{by-field}
 use Rattle.states.specs.Sets.{capacity}
-use Rattle.semantics.specs.Language.{Expr, op}
+use Rattle.semantics.specs.Language.{Expr}
 use Rattle.semantics.specs.States.{product}
 use Rattle.handler.specs.declared.expressions.ExprHead.{ExprHead}
 use Rattle.handler.specs.declared.expressions.ExprHead.the-variants.{Integer, Truth, Variable, Operation, Fault}

@@ -1,9 +1,9 @@
 -- The root as a host gets it: the first node of the table has the names of the derivation's root, the numbers can be taken apart again, and
 -- they are those of the tables that an accepted pair's promise speaks of.
-use Prim.Native.Nat.{ℕ, _+_, _-_, _/_, _%_, _^_, _≤_, _<_}
+use Prim.Native.Nat.{ℕ, _-_, _/_, _%_, _^_, _≤_, _<_}
 use mathlib.Core.Bool.{Bool, true, false, cond, _||_}
 use mathlib.Core.List.{List}
-use mathlib.Core.Path.{_≡_, refl, sym, _∙_, ap}
+use mathlib.Core.Path.{_≡_, refl, _∙_, ap}
 use native.Mathlib.Omega.{arith}
 use borrow.Author.Tests.{lt-ltb, le-ltb}
 use lib.Dec.{ltb}
@@ -13,10 +13,8 @@ use Rattle.semantics.specs.States.{product, machineOf}
 use Rattle.semantics.specs.Derivations.{Derivation, namesOf}
 use Rattle.semantics.specs.Promise.{Promise}
 use Rattle.handler.specs.Reading.{readHandler}
-use Rattle.handler.proofs.Handlers.{known-handler}
 use Rattle.derivation.specs.NodeTable.{nodeIn, nodeWords, padded, nodeTable}
 use Rattle.derivation.specs.Reading as Proofs
-use Rattle.derivation.proofs.Heads.{Named}
 use Rattle.derivation.proofs.NodeTable.{names-known, node-held}
 use Rattle.derivation.proofs.Files.{read-known}
 use Rattle.checker.specs.declared.Verdict.the-variants.{Accepted}

@@ -27,7 +27,7 @@ use semantics::Names;
 use states::RELATION_WORDS;
 use states::StateSet;
 ghost use mathlib.Core.Path.{_≡_};
-ghost use mathlib.Core.Bool.{Bool, not, _&&_, _||_};
+ghost use mathlib.Core.Bool.{Bool, _&&_, _||_};
 ghost use Prim.Native.Nat.{ℕ, _<_};
 ghost use lib.Dec.{eqb};
 ghost use Rattle.states.specs.Search.{must, given, holds, implies, all};

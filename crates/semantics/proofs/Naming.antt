@@ -12,8 +12,8 @@ use borrow.Author.Tests.{ne-eqb}
 use Rattle.states.specs.Search.{Search, must, given, named, orElse, each}
 use Rattle.semantics.specs.Language.{Val, int, truth, Expr, Stmt}
 use Rattle.semantics.specs.States.{Machine, value, storeOf}
-use Rattle.semantics.specs.Derivations.{Derivation, skip, assignment, sequence, parallel, conditional, iteration, weaken, nodes, Tables, Spec, specOf, namesOf, setOf, relationOf}
-use Rattle.semantics.specs.Conditions.{firstOf, secondOf, targetOf, exprOf, inSet, afterStore, toAfter, c31, c32, c33, c34, c35, c36, c37, c38, c40, c41, c42, c43, c45, c46, c50, c51, c52, c53, c54, c55, c56, c57, c60, c61, c65, c66, c70, c71, c72, c73}
+use Rattle.semantics.specs.Derivations.{Derivation, skip, assignment, sequence, parallel, conditional, iteration, weaken, nodes, Tables, Spec}
+use Rattle.semantics.specs.Conditions.{firstOf, secondOf, inSet, afterStore, toAfter, c31, c32, c33, c34, c35, c36, c37, c38, c40, c41, c42, c43, c45, c46, c50, c51, c52, c53, c54, c55, c56, c57, c60, c61, c65, c66, c70, c71, c72, c73}
 use Rattle.semantics.specs.Checking.{Condition, Breach, Broken, orBreach, firstBroken, orBroken, atNode, isOneOf, statesNamed, common, obligations, firstFault}
 
 -- A list of so many of the n states.

@@ -1,6 +1,6 @@
 -- Worked examples: fields within a byte and across a border, fields that do not fit, files of fields, copied bits and cleared bytes.
-use Prim.Native.Nat.{ℕ, _-_, _^_}
-use mathlib.Core.List.{List, [], _∷_}
+use Prim.Native.Nat.{_-_, _^_}
+use mathlib.Core.List.{[], _∷_}
 use mathlib.Core.Path.{_≡_, refl}
 use Rattle.bits.specs.Fields.{bitAt, bitsAt, isThere, fieldAt}
 use Rattle.bits.specs.declared.Field.the-variants.{Value}

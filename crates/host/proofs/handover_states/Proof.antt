@@ -1,8 +1,6 @@
 -- The number is that of the check's states, which it determines (`states-decoded`).
-use mathlib.Core.Path.{_≡_, _∙_, ap}
+use mathlib.Core.Path.{_∙_, ap}
 use borrow.Author.Needs.{needs}
-use lib.ListN.{length}
-use Rattle.checker.specs.Verdicts.{answer}
 use Rattle.report.specs.States.{statesOf, statesNumber, statesDecoded}
 use Rattle.report.proofs.Decoding.{states-decoded}
 use Rattle.host.proofs.handover_states.Statement.{statement}

@@ -1,5 +1,5 @@
 -- By cases on the number: a search of the code is the condition's.
-use mathlib.Core.Path.{_∙_, sym, ap, refl}
+use mathlib.Core.Path.{sym, ap, refl}
 use borrow.Author.Needs.{needs}
 use borrow.Author.Tests.{ne-eqb}
 use Rattle.states.specs.Search.{given}

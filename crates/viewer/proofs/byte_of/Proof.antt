@@ -1,6 +1,5 @@
 -- Within the file, or past its end.
 use native.Mathlib.Omega.{arith}
-use borrow.Author.Needs.{needs}
 use Rattle.viewer.proofs.byte_of.Statement.{statement}
 use Rattle.viewer.proofs.byte_of.Tie as tie
 

@@ -4,9 +4,8 @@ use mathlib.Core.Path.{_≡_, _∙_, sym, ap, ap₂, refl}
 use mathlib.Core.Bool.{_&&_}
 use lib.Dec.{eqb}
 use borrow.Author.Needs.{needs}
-use borrow.Author.Tests.{lt-ltb, ne-eqb}
+use borrow.Author.Tests.{ne-eqb}
 use Rattle.states.specs.Search.{given}
-use Rattle.states.specs.Sets.{has}
 use Rattle.semantics.specs.Conditions.{isTrue, isFalse, c34, c36, c37, c38, c50, c51, c52, c53, c54, c55, c56, c57}
 use Rattle.evaluation.proofs.Laws.{states-most}
 use Rattle.search.specs.Named.{naming}

@@ -8,7 +8,7 @@ use mathlib.Core.List.{List}
 use lib.Dec.{ltb, eqb}
 use borrow.Author.Tests.{lt-ltb, ltb-true, eqb-true}
 use borrow.Author.Needs.{needs}
-use Rattle.states.specs.Sets.{capacity, has}
+use Rattle.states.specs.Sets.{capacity}
 use Rattle.states.specs.Relations.{rel}
 use Rattle.states.proofs.Search.{and-left, and-right, and-both, or-left, or-right, or-cases, bool-ext}
 use Rattle.states.proofs.Rows.{rel-between}

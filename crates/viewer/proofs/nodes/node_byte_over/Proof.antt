@@ -1,6 +1,6 @@
 -- By cases of what reading the proof file found, and of whether the file has the node. Its table has the node's first bit (`node-bit`).
 use Prim.Native.Nat.{_<_}
-use mathlib.Core.Path.{_≡_, sym, _∙_, ap}
+use mathlib.Core.Path.{sym, _∙_, ap}
 use native.Mathlib.Omega.{arith}
 use borrow.Author.Needs.{needs}
 use Rattle.semantics.specs.Derivations.{nodes}
