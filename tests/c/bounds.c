@@ -3,7 +3,7 @@
    The files, the work words and the output are put right before a page that cannot be accessed, and then right after one, so that
    an access one byte outside ends the program by a signal. The answers, the words and the output must be those of a call with
    ordinary buffers, and the files must be unchanged. The output has just as many bytes as the form, and then one fewer. Each pair is
-   composed with itself and with one that bears it, into just as many bytes as both files have, and then one fewer in either. Ends
+   composed with itself and with one that allows it, into just as many bytes as both files have, and then one fewer in either. Ends
    with 1 where something differs, with 2 where nothing was tested. */
 #define _GNU_SOURCE
 #include "pairs.h"

@@ -37,7 +37,7 @@ static const uint8_t formed[] = {0x08, 0xF0, 0x45, 0xC0, 0x02, 0x44, 0x00, 0x48}
 static const uint8_t refused_formed[] = {0x08, 0xB0, 0x52, 0x00, 0x02};
 
 /* `nil` over the same variable, with all states in P, R {(0,1)}, an empty G, and Q {(0,0), (0,1), (1,1)}: the smallest pair and this one
-   bear each other. The files of their composition. */
+   allow each other. The files of their composition. */
 static const uint8_t quiet[] = {0x22, 0x00};
 static const uint8_t quiet_proof[] = {0x08, 0xF4, 0x0D, 0x00, 0x02, 0x40};
 static const uint8_t composed[] = {0x22, 0x64, 0x00, 0x40};

@@ -62,7 +62,7 @@ static inline uint32_t size_at(const uint8_t *file, size_t bit)
     return two >> (11 - bit % 8) & 31;
 }
 
-/* A pair that bears whatever a well-formed handler does: `nil` over its variables. All states are in P, all pairs in R and Q, and none
+/* A pair that allows whatever a well-formed handler does: `nil` over its variables. All states are in P, all pairs in R and Q, and none
    is in G. For a handler with no head it is one over a variable of size 2. */
 static inline void make_quiet(const struct pair *pair, struct pair *quiet)
 {

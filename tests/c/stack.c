@@ -69,7 +69,7 @@ static void *call_canonical(void *unused)
     return unused;
 }
 
-/* The pair with one that bears it, so that most accepted pairs are composed. */
+/* The pair with one that allows it, so that most accepted pairs are composed. */
 static void *call_compose(void *unused)
 {
     frame = (uint8_t *)__builtin_frame_address(0);

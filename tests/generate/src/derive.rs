@@ -68,7 +68,7 @@ impl Deriver<'_> {
         Some(node)
     }
 
-    /// A weaken whose child bears a wider rely.
+    /// A weaken whose child allows a wider rely.
     fn weaken(&mut self, statement: &Statement, demand: Demand) -> Option<Derivation> {
         let mut wider = demand.r.clone();
         for _ in 0..self.random.below(4) {
@@ -212,7 +212,7 @@ impl Deriver<'_> {
         (0..64).all(|s| !w.has(s, s)).then_some(w)
     }
 
-    /// Each side bears the other's guarantee, which may grow with what the side bears: both
+    /// Each side allows the other's guarantee, which may grow with what the side allows: both
     /// are tried until nothing grows.
     fn parallel(
         &mut self,

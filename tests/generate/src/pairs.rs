@@ -141,7 +141,7 @@ fn enlarge(random: &mut Random, space: &Space, root: &mut Derivation) {
     root.settle(g, q);
 }
 
-/// Q with more pairs, within what the closure conditions bear, and with pairs from outside P,
+/// Q with more pairs, within what the closure conditions allow, and with pairs from outside P,
 /// which no condition at the root minds.
 pub(crate) fn wider_q(
     random: &mut Random,

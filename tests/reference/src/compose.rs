@@ -91,7 +91,7 @@ fn accepted(pairs: &[(&[u8], &[u8]); 2]) -> Result<[Accepted; 2], Refusal> {
     Ok([first, second])
 }
 
-/// 90 to 93: the sizes are equal, each R bears the other's G, and both G keep the met P.
+/// 90 to 93: the sizes are equal, each R has the other's G, and both G keep the met P.
 fn compatible(first: &Accepted, second: &Accepted) -> Result<(), Refusal> {
     must(first.handler.space.sizes() == second.handler.space.sizes(), SIZES_DIFFER)?;
     let (one, two) = (root(&first.proof), root(&second.proof));

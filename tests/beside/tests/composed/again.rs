@@ -20,7 +20,7 @@ struct Tally {
 }
 
 impl Tally {
-    /// Composes, or none where a limit is passed: guests bear each other, and so do their
+    /// Composes, or none where a limit is passed: guests allow each other, and so do their
     /// compositions.
     fn made(&mut self, first: &Files, second: &Files) -> Option<Files> {
         let composition = composed(&[first.clone(), second.clone()]);

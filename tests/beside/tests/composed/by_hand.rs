@@ -130,7 +130,7 @@ fn guarantees_and_the_met_p() {
     let step = [(0, 1)];
     let still = |p: &[usize]| skip(p, &step, &[]);
     let steps = |p: &[usize]| skip(p, &[], &step);
-    // The P of the one that steps, the P of the one that bears it, and whether that is 93.
+    // The P of the one that steps, the P of the one that allows it, and whether that is 93.
     let cases: [(&[usize], &[usize], bool); 6] = [
         (&[0], &[0, 1], true),
         (&[0, 1], &[0, 1], false),

@@ -81,7 +81,7 @@ fn nodes_of(node: &Node) -> u64 {
     1 + node.children.iter().map(nodes_of).sum::<u64>()
 }
 
-/// Two accepted pairs that bear each other; their parallel has exactly as much as the limit allows
+/// Two accepted pairs that allow each other; their parallel has exactly as much as the limit allows
 /// and so much more, which is at most `most_over`.
 pub fn pairs(random: &mut Random, limit: Limit, over: usize) -> [Pair; 2] {
     let (first, second) = match limit {

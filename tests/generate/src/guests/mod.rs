@@ -16,7 +16,7 @@ use reference::language::{Handler, Statement};
 use reference::space::Space;
 use reference::states::{Relation, StateSet};
 
-/// So many accepted pairs over equal sizes, of which each bears what the others do: any of them
+/// So many accepted pairs over equal sizes, of which each allows what the others do: any of them
 /// compose, unless a limit is passed.
 pub fn guests(random: &mut Random, scale: Scale, count: usize) -> Vec<Pair> {
     loop {
@@ -163,7 +163,7 @@ fn others<T>(items: &[T], one: usize) -> impl Iterator<Item = &T> {
     items.iter().enumerate().filter(move |(index, _)| *index != one).map(|(_, item)| item)
 }
 
-/// At times a wider G, which all others bear and which leads out of no P, and a wider Q.
+/// At times a wider G, which all others allow and which leads out of no P, and a wider Q.
 fn widen(random: &mut Random, space: &Space, roots: &mut [Derivation]) {
     let starts: Vec<StateSet> = roots.iter().map(|root| root.tables.p).collect();
     let relies: Vec<Relation> = roots.iter().map(|root| root.tables.r.clone()).collect();
