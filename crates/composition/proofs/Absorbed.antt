@@ -11,7 +11,7 @@ use Rattle.form.specs.Members.{setWhere, relationWhere}
 use Rattle.form.specs.Mentions.{setsOf, relationsOf, inOrder, isIn, mentioned, allMentioned, distinct}
 use Rattle.form.specs.Form.{setsIn, relationsIn}
 use Rattle.form.proofs.Mentions.{mentioned-there, mentioned-new, kept, all-in, all-append}
-use Rattle.composition.specs.Joining.{rootSpec, leftSpec, rightSpec, membersOf, joined}
+use Rattle.joint.specs.Joining.{rootSpec, leftSpec, rightSpec, membersOf, joined}
 use Rattle.composition.specs.Refinement.{threeOf}
 
 -- A mention before or after is the same, if x is in the list or is added to it.

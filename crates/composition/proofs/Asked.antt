@@ -7,7 +7,6 @@ use native.Mathlib.Omega.{arith}
 use borrow.Author.Tests.{eqb-true, eq-eqb, not-true, not-false}
 use lib.Dec.{eqb}
 use lib.ListN.{length, getD, replicate, List·getD-append}
-use lib.Seq.{ext-getD}
 use Rattle.states.specs.Search.{implies, all}
 use Rattle.states.proofs.Search.{and-left, and-right, and-both, bool-ext, all-intro, all-at, all-cong}
 use Rattle.semantics.specs.StepNumber.{steps}
@@ -15,22 +14,10 @@ use Rattle.semantics.specs.Derivations.{Spec}
 use Rattle.semantics.specs.Conditions.{setLiesIn, relationLiesIn}
 use Rattle.handler.specs.declared.head.Head.{Head}
 use Rattle.handler.specs.Header.{headOf}
-use Rattle.composition.specs.Joining.{rootSpec}
-use Rattle.composition.specs.Composing.{Side, N, metP, statement, handlerFile, proofFile, Composition, made, refused, plain, asked, sameSizes, staysIn, inLimits, composition}
+use Rattle.joint.proofs.Sizes.{sizes-same}
+use Rattle.joint.specs.Joining.{rootSpec}
+use Rattle.joint.specs.Composing.{Side, N, metP, statement, handlerFile, proofFile, Composition, made, refused, plain, asked, sameSizes, staysIn, inLimits, composition}
 use Rattle.composition.specs.Refinement.{firstUnmet}
-
--- 90: both have the same variables.
-pub sizes-same : (s t : List ℕ) → sameSizes s t ≡ true → s ≡ t
-unfolding sameSizes
-sizes-same s t e =
-    let lengths = eqb (length s) (length t) in
-    ext-getD 0 s t (eqb-true _ _ (and-left lengths _ e)) (λ i l. eqb-true _ _ (all-at (length s) _ (and-right lengths _ e) i l))
-
-pub sizes-alike : (s : List ℕ) → sameSizes s s ≡ true
-unfolding sameSizes
-sizes-alike s =
-    and-both (eqb (length s) (length s)) _ (eq-eqb (length s) _ refl)
-    (all-intro (length s) (λ v. eqb (getD s v 0) (getD s v 0)) (λ v l. eq-eqb (getD s v 0) _ refl))
 
 -- Heads with equal counts are padded alike, so all four sizes can be compared.
 abbrev alike : Head → Head → Bool

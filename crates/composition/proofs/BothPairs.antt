@@ -21,10 +21,10 @@ use Rattle.handler.proofs.Handlers.{known-handler}
 use Rattle.form.proofs.Forms.{Writable}
 use Rattle.checker.proofs.Acceptance.{accepted-exactly}
 use Rattle.composition.specs.declared.forms.Form.{Form}
-use Rattle.composition.specs.Composing.{Side, sideOf, sameSizes, composition, limited, refused, plain}
+use Rattle.joint.specs.Composing.{Side, sideOf, sameSizes, composition, limited, refused, plain}
 use Rattle.composition.specs.Refinement.{WasAccepted, Formed, HandlerOf, Ready, firstUnmet, metOf}
 use Rattle.composition.proofs.Asked.{asked-by-number}
-use Rattle.composition.proofs.Sides.{AcceptedSide, accepted-side}
+use Rattle.joint.proofs.Sides.{AcceptedSide, accepted-side}
 
 module _ (hb pb : List ℕ) (was : WasAccepted hb pb) where
   abbrev side : Side

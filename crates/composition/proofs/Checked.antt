@@ -11,7 +11,7 @@ use Rattle.checker.specs.declared.Verdict.the-variants.{Accepted, Refused}
 use Rattle.checker.specs.Verdicts as Check
 use Rattle.checker.specs.Verdicts.{answer}
 use Rattle.checker.proofs.Stages.{written-twice}
-use Rattle.composition.specs.Composing.{sideOf, refused, composition, ofPair, tooLong, compose}
+use Rattle.joint.specs.Composing.{sideOf, refused, composition, ofPair, tooLong, compose}
 
 module _ (h p h′ p′ : List ℕ) (words : ℕ) (enough : workWords ≤ words) (short : tooLong h p ≡ false) (short′ : tooLong h′ p′ ≡ false) where
   by-verdicts : compose h p h′ p′ words

@@ -8,7 +8,7 @@ use borrow.Author.Tests.{leb-true}
 use lib.Dec.{leb}
 use lib.ListN.{length}
 use Rattle.states.proofs.Search.{and-left, and-right}
-use Rattle.composition.specs.Composing.{Composition, made, refused, plain, asked, withRoom}
+use Rattle.joint.specs.Composing.{Composition, made, refused, plain, asked, withRoom}
 use Rattle.composition.specs.Refinement.{lengthFault}
 
 -- The fault by the two tests.

@@ -21,10 +21,11 @@ use Rattle.composition.specs.declared.Made.{Made}
 use Rattle.composition.specs.declared.Composed.{Composed}
 use Rattle.composition.specs.declared.Composed.the-variants as Composed
 use Rattle.composition.specs.Coding.{numberOf, withoutStates, ofNumber}
-use Rattle.composition.specs.Composing.{Composition, made, refused, plain, asked, compose, withRoom, composed, composeInto, sideOf, MadeIsAccepted}
+use Rattle.joint.specs.Composing.{Composition, made, refused, plain, asked, compose, withRoom, composeInto, sideOf}
+use Rattle.composition.specs.Answers.{composed, MadeIsAccepted}
 use Rattle.composition.specs.Refinement.{Small}
-use Rattle.composition.proofs.Outcomes.{Success, Refusal, few-words, first-long, second-long, first-refused, second-refused, other-variables, second-outside, first-outside, leads-out, past-limits, succeeded, refused-only}
-use Rattle.composition.proofs.Theorems.{limits}
+use Rattle.joint.proofs.Outcomes.{Success, Refusal, few-words, first-long, second-long, first-refused, second-refused, other-variables, second-outside, first-outside, leads-out, past-limits, succeeded, refused-only}
+use Rattle.joint.proofs.Theorems.{limits}
 
 -- A fault of the check is small.
 own-small : (h p : List ℕ) (words pair : ℕ) → pair ≤ 2 → (f : Fault) → answer h p words .verdict ≡ Refused f → Small (Composed.Refused pair f)

@@ -10,8 +10,8 @@ use Rattle.writer.specs.Packing.{Part, widthOf, putParts, bytesFor, packed}
 use Rattle.writer.proofs.Laws.{field-put, length-field}
 use Rattle.writer.proofs.Packed.{length-packed, packed-front}
 use Rattle.writer.proofs.Copied.{copied-fits, length-copied, cleared-within, length-cleared}
-use Rattle.composition.specs.Joining.{handlerParts}
-use Rattle.composition.specs.Composing.{atFront}
+use Rattle.joint.specs.Joining.{handlerParts}
+use Rattle.joint.specs.Composing.{atFront}
 
 bits-within : (bits count : ℕ) → bytesFor bits ≤ count → bits ≤ 8 * count
 unfolding bytesFor

@@ -11,7 +11,7 @@ use Rattle.composition.specs.declared.tables.Roots.{Roots}
 use Rattle.composition.specs.declared.forms.Form.{Form}
 use Rattle.composition.specs.declared.numbering.SetNumbers.{SetNumbers}
 use Rattle.composition.specs.declared.numbering.RelationNumbers.{RelationNumbers}
-use Rattle.composition.specs.Composing.{Side}
+use Rattle.joint.specs.Composing.{Side}
 use Rattle.composition.specs.Refinement.{Joint, setsHeld, relationsHeld, SetsNumbered, RelationsNumbered, Ready}
 use Rattle.composition.proofs.Limits.{HeldSets, HeldRelations}
 

@@ -23,7 +23,7 @@ use Rattle.canonical.specs.Nodes.{nameIn}
 use Rattle.composition.specs.declared.numbering.SetNumbers.{SetNumbers}
 use Rattle.composition.specs.declared.numbering.RelationNumbers.{RelationNumbers}
 use Rattle.composition.specs.declared.pool.Three.{Three}
-use Rattle.composition.specs.Joining.{rootSpec, leftSpec, rightSpec, membersOf, joined}
+use Rattle.joint.specs.Joining.{rootSpec, leftSpec, rightSpec, membersOf, joined}
 use Rattle.composition.specs.Refinement.{NamedIn, SetsNumbered, ThreeIn, RelationsNumbered}
 use Rattle.composition.proofs.Absorbed.{threeWhere, sets-joined, relations-joined}
 

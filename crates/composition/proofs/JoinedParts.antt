@@ -23,7 +23,7 @@ use Rattle.composition.specs.declared.forms.Form.{Form}
 use Rattle.composition.specs.declared.numbering.SetNumbers.{SetNumbers}
 use Rattle.composition.specs.declared.numbering.RelationNumbers.{RelationNumbers}
 use Rattle.composition.specs.declared.pool.Three.{Three}
-use Rattle.composition.specs.Joining.{joined}
+use Rattle.joint.specs.Joining.{joined}
 use Rattle.composition.specs.Refinement.{newNode, sideParts}
 use Rattle.composition.proofs.JoinedNames.{FewTables, ResultSets, ResultRelations, numbered-joined}
 

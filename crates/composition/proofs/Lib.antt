@@ -1,11 +1,4 @@
--- What holds of the composition of two pairs.
-pub mod Clear
-pub mod Rules
-pub mod Joined
-pub mod Sides
-pub mod HandlerFile
-pub mod Outcomes
-pub mod Theorems
+-- The answer as one number, and why the code computes the composition.
 pub mod Decoding
 mod Asked
 mod Loading

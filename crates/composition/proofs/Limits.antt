@@ -22,8 +22,8 @@ use Rattle.form.proofs.Numbered.{numbered-known}
 use Rattle.composition.specs.declared.forms.Form.{Form}
 use Rattle.composition.specs.declared.numbering.SetNumbers.{SetNumbers}
 use Rattle.composition.specs.declared.numbering.RelationNumbers.{RelationNumbers}
-use Rattle.composition.specs.Joining.{rootSpec, leftSpec, rightSpec, joined, handlerParts}
-use Rattle.composition.specs.Composing.{Side, Composition, made, refused, plain, asked, inLimits, limited, handlerFile, proofFile}
+use Rattle.joint.specs.Joining.{rootSpec, leftSpec, rightSpec, joined, handlerParts}
+use Rattle.joint.specs.Composing.{Side, Composition, made, refused, plain, asked, inLimits, limited, handlerFile, proofFile}
 use Rattle.composition.specs.Refinement.{Kept, SetsNumbered, RelationsNumbered, AllSmall, nodeParts, proofParts, filesOf, smallCounts, Ready}
 use Rattle.composition.proofs.Absorbed.{sets-joined, relations-joined}
 use Rattle.composition.proofs.JoinedNames.{FewTables, ResultSets, ResultRelations, numbered-joined}

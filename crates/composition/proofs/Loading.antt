@@ -36,10 +36,10 @@ use Rattle.canonical.specs.declared.Outcome.the-variants.{Written}
 use Rattle.canonical.specs.Canonical.{form, canonical, outcome, outAfter}
 use Rattle.canonical.proofs.Theorems as Canonical
 use Rattle.composition.specs.declared.forms.Form.{Form}
-use Rattle.composition.specs.Composing.{Side, sideOf}
+use Rattle.joint.specs.Composing.{Side, sideOf}
 use Rattle.composition.specs.Refinement.{setsHeld, relationsHeld, formRead, WasAccepted, Formed}
 use Rattle.composition.proofs.Mentioning.{tabulate-split}
-use Rattle.composition.proofs.Sides.{AcceptedSide, accepted-side}
+use Rattle.joint.proofs.Sides.{AcceptedSide, accepted-side}
 
 -- A list is what its entries make.
 entries : (f : ℕ → ℕ) (xs : List ℕ) → ((i : ℕ) → i < length xs → f i ≡ getD xs i 0) → tabulate (length xs) f ≡ xs

@@ -21,7 +21,7 @@ use Rattle.composition.specs.declared.pool.Three.{Three}
 use Rattle.composition.specs.declared.forms.Form.{Form}
 use Rattle.composition.specs.declared.numbering.SetNumbers.{SetNumbers}
 use Rattle.composition.specs.declared.numbering.RelationNumbers.{RelationNumbers}
-use Rattle.composition.specs.Composing.{atFront}
+use Rattle.joint.specs.Composing.{atFront}
 use Rattle.composition.specs.Refinement.{newNode, sideParts, formBits, nodeParts, proofParts, proofBits}
 
 -- Fields written one after the other, where there is room for both.

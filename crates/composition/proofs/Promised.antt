@@ -8,15 +8,16 @@ use borrow.Author.Tests.{lt-ltb, le-ltb}
 use lib.Dec.{leb}
 use lib.ListN.{length, take, drop}
 use lib.Seq.{take-at}
-use Rattle.derivation.specs.Tables.{workWords, written}
+use Rattle.derivation.specs.Tables.{workWords}
 use Rattle.checker.specs.declared.Fault.{Fault}
 use Rattle.checker.specs.declared.Verdict.the-variants.{Accepted}
 use Rattle.checker.specs.Verdicts.{answer}
 use Rattle.composition.specs.declared.Made.{Made}
 use Rattle.composition.specs.declared.Composed.{Composed}
 use Rattle.composition.specs.declared.Composed.the-variants as Composed
-use Rattle.composition.specs.Composing.{Composition, made, refused, plain, asked, tooLong, compose, workAfter, withRoom, composeInto, composed, handlerAfter, proofAfter, MadeIsAccepted}
-use Rattle.composition.proofs.Theorems.{made-accepted}
+use Rattle.joint.specs.Composing.{Composition, made, refused, plain, asked, tooLong, compose, workAfter, withRoom, composeInto, handlerAfter, proofAfter}
+use Rattle.composition.specs.Answers.{composed, MadeIsAccepted}
+use Rattle.joint.proofs.Theorems.{made-accepted}
 
 module _ (h p h′ p′ : List ℕ) (work : List ℕ) where
   pub few-words : length work < workWords → (compose h p h′ p′ (length work) ≡ refused 0 (plain 1)) × (workAfter h p h′ p′ work ≡ work)
@@ -32,10 +33,6 @@ module _ (h p h′ p′ : List ℕ) (work : List ℕ) where
         → (compose h p h′ p′ (length work) ≡ refused 2 (plain 2)) × (workAfter h p h′ p′ work ≡ work)
     unfolding compose workAfter
     second-long short long = (rw (le-ltb (length work) workWords enough, short, long), rw (le-ltb (length work) workWords enough, short, long))
-
-    pub words-cleared : tooLong h p ≡ false → tooLong h′ p′ ≡ false → workAfter h p h′ p′ work ≡ written (λ j. 0) work
-    unfolding workAfter
-    words-cleared short short′ = rw (le-ltb (length work) workWords enough, short, short′)
 
 module _ (h p h′ p′ : List ℕ) (words : ℕ) (hout pout : List ℕ) where
   abbrev whole : Composition

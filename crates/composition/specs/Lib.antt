@@ -1,5 +1,4 @@
--- What is made of two pairs of files, and what is turned away; `Refinement` is for private contracts alone.
-pub mod Joining
-pub mod Composing
+-- The answer of a call, also as one number; what is made and what is turned away is in `joint`. `Refinement` is for private contracts alone.
+pub mod Answers
 pub mod Coding
 pub mod Refinement

@@ -37,8 +37,8 @@ use Rattle.composition.specs.declared.numbering.SideNumbers.{SideNumbers
 use Rattle.composition.specs.declared.numbering.RelationNumbers.{RelationNumbers}
 use Rattle.composition.specs.declared.pool.Mention.{Mention}
 use Rattle.composition.specs.declared.pool.Three.{Three}
-use Rattle.composition.specs.Joining.{rootSpec, leftSpec, rightSpec, handlerParts}
-use Rattle.composition.specs.Composing.{Side, sideOf, Composition, made, refused, plain, asked, staysIn, limited}
+use Rattle.joint.specs.Joining.{rootSpec, leftSpec, rightSpec, handlerParts}
+use Rattle.joint.specs.Composing.{Side, sideOf, Composition, made, refused, plain, asked, staysIn, limited}
 
 -- The new tables of two roots over n states.
 pub record Joint (n : ℕ) (a b : Spec) (x : Roots) : Type 0 where

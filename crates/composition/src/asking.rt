@@ -15,8 +15,8 @@ ghost use Rattle.states.specs.Sets.{capacity};
 ghost use Rattle.semantics.specs.Conditions.{relationLiesIn};
 ghost use Rattle.handler.specs.Header.{headOf};
 ghost use Rattle.rules.specs.Words.{wordRelation, wordSpec};
-ghost use Rattle.composition.specs.Joining.{rootSpec};
-ghost use Rattle.composition.specs.Composing.{sameSizes, staysIn};
+ghost use Rattle.joint.specs.Joining.{rootSpec};
+ghost use Rattle.joint.specs.Composing.{sameSizes, staysIn};
 ghost use Rattle.composition.specs.Refinement.{firstUnmet};
 
 // The second G is not within the first R, the first G is not within the second R, and a pair of either G leads out of the met P.

@@ -16,7 +16,7 @@ ghost use Rattle.semantics.specs.Derivations.{Derivation};
 ghost use Rattle.derivation.specs.Tables.{workWords, written};
 ghost use Rattle.derivation.specs.Reading.{proof, readProof, loadedWord};
 ghost use Rattle.canonical.specs.declared.Outcome.the-variants.{Written};
-ghost use Rattle.composition.specs.Composing.{sideOf};
+ghost use Rattle.joint.specs.Composing.{sideOf};
 ghost use Rattle.composition.specs.Refinement.{formRead, WasAccepted, Formed};
 
 // The head of the form, the tables that its root names, and the table of its nodes.

@@ -21,7 +21,8 @@ ghost use Prim.Native.Nat.{_≤_, max};
 ghost use lib.ListN.{length};
 ghost use Rattle.states.specs.Sets.{capacity};
 ghost use Rattle.derivation.specs.Tables.{mostTables, workWords};
-ghost use Rattle.composition.specs.Composing.{Side, limited, composed, handlerAfter, proofAfter, withRoom};
+ghost use Rattle.joint.specs.Composing.{Side, limited, handlerAfter, proofAfter, withRoom};
+ghost use Rattle.composition.specs.Answers.{composed};
 ghost use Rattle.composition.specs.Refinement.{setsHeld, relationsHeld, AllSmall, Placed, LengthsAre, lengthFault, filesOf, smallCounts, Ready, BothReady};
 
 // A limit is passed by the result; an output buffer is too short.

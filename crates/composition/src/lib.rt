@@ -16,7 +16,8 @@ ghost use lib.ListN.{length};
 ghost use Rattle.derivation.specs.Tables.{workWords, written};
 ghost use Rattle.composition.specs.declared.Composed.the-variants.{Refused};
 ghost use Rattle.composition.specs.Coding.{numberOf, ofNumber, withoutStates};
-ghost use Rattle.composition.specs.Composing.{plain, tooLong, composeInto, workAfter, composed, handlerAfter, proofAfter, MadeIsAccepted};
+ghost use Rattle.joint.specs.Composing.{plain, tooLong, composeInto, workAfter, handlerAfter, proofAfter};
+ghost use Rattle.composition.specs.Answers.{composed, MadeIsAccepted};
 ghost use Rattle.composition.specs.Refinement.{Small};
 
 mod asking;

@@ -13,7 +13,8 @@ use handler::reading::read_handler;
 ghost use mathlib.Core.Path.{_≡_};
 ghost use lib.ListN.{length};
 ghost use Rattle.handler.specs.declared.HandlerFound.the-variants.{Handler};
-ghost use Rattle.composition.specs.Composing.{sideOf, composition, composed, handlerAfter, proofAfter, withRoom};
+ghost use Rattle.joint.specs.Composing.{sideOf, composition, handlerAfter, proofAfter, withRoom};
+ghost use Rattle.composition.specs.Answers.{composed};
 ghost use Rattle.composition.specs.Refinement.{WasAccepted, SameStates, metOf};
 
 // The sizes differ.

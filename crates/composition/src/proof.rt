@@ -20,7 +20,7 @@ ghost use Rattle.writer.specs.Packing.{putParts, bytesFor, packed};
 ghost use Rattle.states.specs.Sets.{capacity};
 ghost use Rattle.derivation.specs.Tables.{mostTables};
 ghost use Rattle.canonical.specs.Refinement.{Room};
-ghost use Rattle.composition.specs.Composing.{atFront};
+ghost use Rattle.joint.specs.Composing.{atFront};
 ghost use Rattle.composition.specs.Refinement.{setsHeld, relationsHeld, newNode, sideParts, SmallNames, AllSmall, formBits, nodeParts, proofParts, proofBits};
 
 // The counts at the head of the file take so many bits, and a node that is no while so many.

@@ -18,8 +18,8 @@ ghost use Rattle.writer.specs.Writing.{putBits};
 ghost use Rattle.writer.specs.Packing.{part, putParts, bytesFor, packed};
 ghost use Rattle.form.specs.Members.{setWhere, relationWhere};
 ghost use Rattle.canonical.specs.Refinement.{Room};
-ghost use Rattle.composition.specs.Joining.{handlerParts};
-ghost use Rattle.composition.specs.Composing.{atFront};
+ghost use Rattle.joint.specs.Joining.{handlerParts};
+ghost use Rattle.joint.specs.Composing.{atFront};
 ghost use Rattle.composition.specs.Refinement.{setsHeld, relationsHeld};
 
 // The bits of the two counts, before the first set.

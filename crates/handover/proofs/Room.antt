@@ -12,7 +12,8 @@ use Rattle.canonical.specs.Canonical.{Form, form, fault, outcome, turnedAway}
 use Rattle.composition.specs.declared.Made.{Made}
 use Rattle.composition.specs.declared.Composed.{Composed}
 use Rattle.composition.specs.declared.Composed.the-variants as Composed
-use Rattle.composition.specs.Composing.{Composition, made, refused, withRoom, composed, plain}
+use Rattle.joint.specs.Composing.{Composition, made, refused, withRoom, plain}
+use Rattle.composition.specs.Answers.{composed}
 
 -- The length of what was written; 0 where nothing was.
 abbrev amountWritten : Outcome → ℕ

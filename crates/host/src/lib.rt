@@ -8,8 +8,9 @@ ghost use Rattle.report.specs.States.{statesOf, statesNumber, statesDecoded};
 ghost use Rattle.report.specs.Root.{rootOf};
 ghost use Rattle.viewer.specs.View.{viewOf};
 ghost use Rattle.canonical.specs.Canonical.{canonical, outcome, outAfter, asVerdict};
-ghost use Rattle.composition.specs.Composing.{composeInto, composed, handlerAfter, proofAfter, MadeIsAccepted};
-ghost use Rattle.composition.specs.Composing as Composing;
+ghost use Rattle.joint.specs.Composing.{composeInto, handlerAfter, proofAfter};
+ghost use Rattle.composition.specs.Answers.{composed, MadeIsAccepted};
+ghost use Rattle.joint.specs.Composing as Composing;
 ghost use Rattle.composition.specs.Coding.{numberOf, ofNumber};
 ghost use Rattle.composition.specs.Coding as Coding;
 

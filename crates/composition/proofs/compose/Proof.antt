@@ -2,8 +2,9 @@
 use mathlib.Core.Path.{sym, _∙_}
 use native.Mathlib.Omega.{arith}
 use borrow.Author.Needs.{needs}
-use Rattle.composition.specs.Composing.{plain}
-use Rattle.composition.proofs.Promised.{few-words, first-long, second-long, words-cleared, contract, untouched}
+use Rattle.joint.specs.Composing.{plain}
+use Rattle.joint.proofs.Words.{words-cleared}
+use Rattle.composition.proofs.Promised.{few-words, first-long, second-long, contract, untouched}
 use Rattle.composition.proofs.compose.Statement.{statement}
 use Rattle.composition.proofs.compose.Tie as tie
 

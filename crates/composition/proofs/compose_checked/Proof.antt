@@ -4,7 +4,8 @@ use borrow.Author.Needs.{needs}
 use lib.ListN.{length}
 use Rattle.derivation.specs.Tables.{written}
 use Rattle.checker.specs.Verdicts.{answer}
-use Rattle.composition.specs.Composing.{composed, handlerAfter, proofAfter, withRoom}
+use Rattle.joint.specs.Composing.{handlerAfter, proofAfter, withRoom}
+use Rattle.composition.specs.Answers.{composed}
 use Rattle.composition.proofs.Checked.{first-refuses, second-refuses, both-accept, cleared-after}
 use Rattle.composition.proofs.compose_checked.Statement.{statement}
 use Rattle.composition.proofs.compose_checked.Tie as tie

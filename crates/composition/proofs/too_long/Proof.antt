@@ -1,5 +1,5 @@
 -- The two tests of the definition.
-use Rattle.composition.specs.Composing.{tooLong}
+use Rattle.joint.specs.Composing.{tooLong}
 use Rattle.composition.proofs.too_long.Statement.{statement}
 use Rattle.composition.proofs.too_long.Tie as tie
 use mathlib.Core.Path.{refl}

@@ -3,7 +3,7 @@ use mathlib.Core.Bool.{_&&_}
 use mathlib.Core.Path.{_∙_, ap, ap₂, fun-ext}
 use borrow.Author.Needs.{needs}
 use Rattle.rules.specs.Words.{wordRelation}
-use Rattle.composition.specs.Composing.{staysIn}
+use Rattle.joint.specs.Composing.{staysIn}
 use Rattle.composition.proofs.asking.both_stay.Statement.{statement}
 use Rattle.composition.proofs.asking.both_stay.Tie as tie
 

@@ -7,7 +7,8 @@ use native.Mathlib.Omega.{arith}
 use borrow.Author.Needs.{needs}
 use lib.ListN.{length}
 use Rattle.derivation.proofs.Buffers.{length-tabulate}
-use Rattle.composition.specs.Composing.{Side, refused, plain, limited, composed, handlerAfter, proofAfter, withRoom}
+use Rattle.joint.specs.Composing.{Side, refused, plain, limited, handlerAfter, proofAfter, withRoom}
+use Rattle.composition.specs.Answers.{composed}
 use Rattle.rules.specs.Words.{wordSpec}
 use Rattle.composition.specs.declared.numbering.SetNumbers.{SetNumbers}
 use Rattle.composition.specs.declared.numbering.RelationNumbers.{RelationNumbers}

@@ -9,8 +9,9 @@ use Rattle.writer.specs.Packing.{bytesFor, packed}
 use Rattle.writer.proofs.Packed.{length-packed}
 use Rattle.derivation.proofs.Buffers.{length-tabulate}
 use Rattle.composition.specs.declared.Composed.the-variants.{Made, Refused}
-use Rattle.composition.specs.Joining.{handlerParts}
-use Rattle.composition.specs.Composing.{plain, composed, handlerAfter, proofAfter}
+use Rattle.joint.specs.Joining.{handlerParts}
+use Rattle.joint.specs.Composing.{plain, handlerAfter, proofAfter}
+use Rattle.composition.specs.Answers.{composed}
 use Rattle.composition.specs.Refinement.{setsHeld, relationsHeld, nodeParts, proofParts, lengthFault}
 use Rattle.composition.proofs.HandlerFields.{width-handler}
 use Rattle.composition.proofs.NewNodes.{proof-length}

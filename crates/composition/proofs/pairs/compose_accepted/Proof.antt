@@ -4,9 +4,10 @@ use borrow.Author.Needs.{needs}
 use lib.ListN.{length}
 use Rattle.semantics.specs.States.{product}
 use Rattle.handler.specs.Header.{headOf}
-use Rattle.composition.specs.Composing.{Side, sideOf, sameSizes, composed, handlerAfter, proofAfter, withRoom}
+use Rattle.joint.specs.Composing.{Side, sideOf, sameSizes, handlerAfter, proofAfter, withRoom}
+use Rattle.composition.specs.Answers.{composed}
 use Rattle.composition.specs.Refinement.{HandlerOf}
-use Rattle.composition.proofs.Asked.{sizes-same}
+use Rattle.joint.proofs.Sizes.{sizes-same}
 use Rattle.composition.proofs.BothPairs.{few-sizes, found-is, head-is, handler-of, other-sizes, same-variables}
 use Rattle.composition.proofs.pairs.compose_accepted.Statement.{statement}
 use Rattle.composition.proofs.pairs.compose_accepted.Tie as tie

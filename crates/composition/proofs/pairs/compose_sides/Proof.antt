@@ -4,7 +4,8 @@ use native.Mathlib.Omega.{arith}
 use borrow.Author.Needs.{needs}
 use lib.ListN.{length}
 use Rattle.composition.specs.declared.Composed.the-variants.{Refused}
-use Rattle.composition.specs.Composing.{Side, sideOf, plain, composed, handlerAfter, proofAfter, withRoom}
+use Rattle.joint.specs.Composing.{Side, sideOf, plain, handlerAfter, proofAfter, withRoom}
+use Rattle.composition.specs.Answers.{composed}
 use Rattle.composition.specs.Refinement.{firstUnmet, Ready}
 use Rattle.composition.proofs.BothPairs.{room-of, ready, met-not, met-all}
 use Rattle.composition.proofs.pairs.compose_sides.Statement.{statement}

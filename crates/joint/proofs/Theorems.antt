@@ -34,14 +34,14 @@ use Rattle.form.proofs.EveryName.{OwnNames, EveryName, every-name, every-set, e
 use Rattle.form.proofs.Verdicts.{memberTables}
 use Rattle.form.proofs.Where.{where-below}
 use Rattle.form.proofs.Forms.{Writable, any-read, any-fault}
-use Rattle.composition.specs.Joining.{rootSpec, leftSpec, rightSpec, membersOf, joined}
-use Rattle.composition.specs.Composing.{Side, sideOf, made, metP, statement, derivation, handlerFile, proofFile, staysIn, inLimits, compose}
-use Rattle.composition.proofs.Asked.{sizes-same}
-use Rattle.composition.proofs.Rules.{root-within}
-use Rattle.composition.proofs.Joined.{named-spec, joined-fault}
-use Rattle.composition.proofs.Sides.{AcceptedSide, accepted-side}
-use Rattle.composition.proofs.HandlerFile.{joined-read}
-use Rattle.composition.proofs.Outcomes.{stepsOut, handlerOut, proofOut, BothAccepted, Compatible, Success, succeeded}
+use Rattle.joint.specs.Joining.{rootSpec, leftSpec, rightSpec, membersOf, joined}
+use Rattle.joint.specs.Composing.{Side, sideOf, made, metP, statement, derivation, handlerFile, proofFile, staysIn, inLimits, compose}
+use Rattle.joint.proofs.Sizes.{sizes-same}
+use Rattle.joint.proofs.Rules.{root-within}
+use Rattle.joint.proofs.Joined.{named-spec, joined-fault}
+use Rattle.joint.proofs.Sides.{AcceptedSide, accepted-side}
+use Rattle.joint.proofs.HandlerFile.{joined-read}
+use Rattle.joint.proofs.Outcomes.{stepsOut, handlerOut, proofOut, BothAccepted, Compatible, Success, succeeded}
 
 -- 94: the result is within each limit.
 pub record Limits (h h′ : List ℕ) (a b : Side) : Type 0 where

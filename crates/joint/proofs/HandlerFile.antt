@@ -19,7 +19,7 @@ use Rattle.handler.specs.Reading.{handler, readHandler}
 use Rattle.handler.proofs.Moved.{Same}
 use Rattle.handler.proofs.StmtMoved.{parallel-read}
 use Rattle.form.proofs.Verdicts.{same-members}
-use Rattle.composition.specs.Joining.{handlerParts}
+use Rattle.joint.specs.Joining.{handlerParts}
 
 module _ (h : List ℕ) (at : ℕ) (S : Stmt) (h′ : List ℕ) (at′ : ℕ) (T : Stmt) where
   abbrev parts : List Part

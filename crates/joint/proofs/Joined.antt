@@ -18,8 +18,8 @@ use Rattle.semantics.proofs.Conditions.{TablesWithin, tables-within}
 use Rattle.form.specs.Members.{setWhere, relationWhere}
 use Rattle.form.proofs.Verdicts.{memberTables}
 use Rattle.form.proofs.Where.{set-where, relation-where}
-use Rattle.composition.specs.Joining.{rootSpec, leftSpec, rightSpec, membersOf, joined}
-use Rattle.composition.proofs.Rules.{RootHolds, Kept, root-within, left-within, right-within, parallel-clear, left-clear, right-clear}
+use Rattle.joint.specs.Joining.{rootSpec, leftSpec, rightSpec, membersOf, joined}
+use Rattle.joint.proofs.Rules.{RootHolds, Kept, root-within, left-within, right-within, parallel-clear, left-clear, right-clear}
 
 -- A derivation without a fault.
 module _ (t : Tables) where

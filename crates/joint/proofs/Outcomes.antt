@@ -1,20 +1,19 @@
 -- Which answers the composition of two pairs of files gives: files are made if every test holds; otherwise the answer is that of the first
 -- test that fails.
 use Prim.Native.Nat.{ℕ}
-use mathlib.Core.Bool.{Bool, true, false, cond, _&&_}
+use mathlib.Core.Bool.{Bool, true, false, cond}
 use mathlib.Core.List.{List}
 use mathlib.Core.Path.{_≡_, refl, _∙_}
 use lib.Dec.{ltb}
 use Rattle.semantics.specs.Language.{par}
 use Rattle.semantics.specs.States.{product}
 use Rattle.semantics.specs.StepNumber.{steps}
-use Rattle.semantics.specs.Conditions.{relationLiesIn}
 use Rattle.derivation.specs.Tables.{workWords}
 use Rattle.checker.specs.declared.Fault.{Fault}
 use Rattle.checker.specs.declared.Verdict.{Verdict}
 use Rattle.checker.specs.declared.Verdict.the-variants.{Accepted, Refused}
 use Rattle.checker.specs.Verdicts.{answer}
-use Rattle.composition.specs.Composing.{Side, sideOf, Composition, made, refused, plain, sameSizes, metP, handlerFile, proofFile, staysIn, inLimits, composition, ofPair, tooLong, compose}
+use Rattle.joint.specs.Composing.{Side, sideOf, Composition, made, refused, plain, sameSizes, handlerFile, proofFile, inLimits, secondAllowed, firstAllowed, metPKept, composition, ofPair, tooLong, compose}
 
 -- What holds of both answers, each where the test gives it, holds of the one that is chosen.
 tested : {A : Type 0} (P : A → Type 0) (t : Bool) (x y : A) → (t ≡ true → P x) → (t ≡ false → P y) → P (cond t x y)
@@ -36,13 +35,13 @@ module _ (h p h′ p′ : List ℕ) where
   sameVariables = sameSizes (a .sizes) (b .sizes)
 
   abbrev pub secondInFirst : Bool
-  secondInFirst = relationLiesIn n (b .tables .G) (a .tables .R)
+  secondInFirst = secondAllowed h h′ a b
 
   abbrev pub firstInSecond : Bool
-  firstInSecond = relationLiesIn n (a .tables .G) (b .tables .R)
+  firstInSecond = firstAllowed h h′ a b
 
   abbrev pub bothStay : Bool
-  bothStay = staysIn n (metP h h′ a b) (a .tables .G) && staysIn n (metP h h′ a b) (b .tables .G)
+  bothStay = metPKept h h′ a b
 
   abbrev pub withinLimits : Bool
   withinLimits = inLimits h h′ a b

@@ -1,11 +1,10 @@
 -- docs/COMPOSITION.md, "What is turned away": 1, 2 of the first pair, 2 of the second, the first pair's own number, the second's, then 90
 -- to 95; and what is left in the buffers.
-use Prim.Native.Nat.{ℕ, _-_, _^_, _≤_}
+use Prim.Native.Nat.{ℕ, _-_, _^_}
 use mathlib.Core.Bool.{Bool, false, cond, _&&_, _||_}
 use mathlib.Core.List.{List, [], _++_}
-use mathlib.Core.Path.{_≡_}
 use lib.Dec.{leb, ltb, eqb}
-use lib.ListN.{length, take, drop, getD}
+use lib.ListN.{length, drop, getD}
 use Rattle.writer.specs.Packing.{packed}
 use Rattle.states.specs.Search.{all, must, holds}
 use Rattle.semantics.specs.Language.{Stmt, nil, par}
@@ -26,10 +25,7 @@ use Rattle.checker.specs.declared.Verdict.the-variants.{Accepted, Refused}
 use Rattle.checker.specs.Verdicts.{tablesOf, answer}
 use Rattle.form.specs.Members.{byMembers}
 use Rattle.form.specs.Form.{setsIn, relationsIn, formOf}
-use Rattle.composition.specs.declared.Made.{Made}
-use Rattle.composition.specs.declared.Composed.{Composed}
-use Rattle.composition.specs.declared.Composed.the-variants as Composed
-use Rattle.composition.specs.Joining.{rootSpec, joined, handlerParts}
+use Rattle.joint.specs.Joining.{rootSpec, joined, handlerParts}
 
 -- What is taken from a pair of files: the sizes of its variables, the statement's first bit and the statement; over that N, the root's
 -- tables, and the derivation with each table by its members.
@@ -120,14 +116,23 @@ module _ (h h′ : List ℕ) (a b : Side) where
   abbrev pub limited : Composition
   limited = asked 94 inLimits (made (steps N statement) handlerFile proofFile)
 
-  -- 90 sizes differ, 91 the second G is not within the first R, 92 the first G not within the second R, 93 a pair of either G leads out
-  -- of the met P, 94 a limit is passed.
+  -- 91: the second G lies within the first R.
+  abbrev pub secondAllowed : Bool
+  secondAllowed = relationLiesIn N (b .tables .G) (a .tables .R)
+
+  -- 92: the first G lies within the second R.
+  abbrev pub firstAllowed : Bool
+  firstAllowed = relationLiesIn N (a .tables .G) (b .tables .R)
+
+  -- 93: no pair of either G leads out of the met P.
+  abbrev pub metPKept : Bool
+  metPKept = staysIn N metP (a .tables .G) && staysIn N metP (b .tables .G)
+
+  -- 90 sizes differ, 91 to 93, 94 a limit is passed.
   unfoldable pub composition : Composition
   composition =
       asked 90 (sameSizes (a .sizes) (b .sizes))
-      (asked 91 (relationLiesIn N (b .tables .G) (a .tables .R))
-      (asked 92 (relationLiesIn N (a .tables .G) (b .tables .R))
-      (asked 93 (staysIn N metP (a .tables .G) && staysIn N metP (b .tables .G)) limited)))
+      (asked 91 secondAllowed (asked 92 firstAllowed (asked 93 metPKept limited)))
 
 -- A pair's own refusal, or what follows if it is accepted.
 abbrev pub ofPair : ℕ → Verdict → Composition → Composition
@@ -162,11 +167,6 @@ withRoom (made k handler proof) room room′ = asked 95 (leb (length handler) ro
 abbrev pub composeInto : List ℕ → List ℕ → List ℕ → List ℕ → List ℕ → List ℕ → List ℕ → Composition
 composeInto h p h′ p′ work hout pout = withRoom (compose h p h′ p′ (length work)) (length hout) (length pout)
 
--- The answer.
-abbrev pub composed : Composition → Composed
-composed (refused pair f) = Composed.Refused pair f
-composed (made k handler proof) = Composed.Made (record { steps = k; handler = length handler; proof = length proof })
-
 -- A file at the front of a buffer, whose bytes past it stay.
 abbrev pub atFront : List ℕ → List ℕ → List ℕ
 atFront file out = file ++ drop (length file) out
@@ -179,8 +179,3 @@ handlerAfter (made k handler proof) out = atFront handler out
 abbrev pub proofAfter : Composition → List ℕ → List ℕ
 proofAfter (refused pair f) out = out
 proofAfter (made k handler proof) out = atFront proof out
-
--- What is promised of files that were written: the check accepts them, with any 1,040 work words or more, and with this step number.
-pub record MadeIsAccepted (answered : Composed) (hout pout : List ℕ) : Type 0 where
-  pub always : (m : Made) → answered ≡ Composed.Made m → (words : ℕ) → workWords ≤ words
-      → answer (take (m .handler) hout) (take (m .proof) pout) words .verdict ≡ Accepted (m .steps)

@@ -16,7 +16,7 @@ use Rattle.form.specs.Members.{byMembers}
 use Rattle.form.proofs.Renaming.{nodes-rename, levels-rename}
 use Rattle.form.proofs.Verdicts.{memberTables, members-fault, members-spec}
 use Rattle.form.proofs.Forms.{Writable, writable}
-use Rattle.composition.specs.Composing.{Side, sideOf}
+use Rattle.joint.specs.Composing.{Side, sideOf}
 
 -- What is taken from two files that are read.
 abbrev pub sideIn : {hb pb : List ℕ} → PairRead hb pb → Side

@@ -17,8 +17,8 @@ use Rattle.semantics.specs.Derivations.{Spec}
 use Rattle.semantics.specs.Conditions.{inSet, relationLiesIn, besides, c31, c32, c33}
 use Rattle.semantics.specs.Checking.{firstBroken, parallelObligations, weakenObligations}
 use Rattle.semantics.proofs.Conditions.{TablesWithin, at-member, lies-in, says31, says32, says33}
-use Rattle.composition.specs.Joining.{rootSpec, leftSpec, rightSpec}
-use Rattle.composition.proofs.Clear.{must-clear, unbroken, clear31, clear32, clear33, clear34, clear36, clear65, clear66, clear70, clear71, clear72, clear73}
+use Rattle.joint.specs.Joining.{rootSpec, leftSpec, rightSpec}
+use Rattle.joint.proofs.Clear.{must-clear, unbroken, clear31, clear32, clear33, clear34, clear36, clear65, clear66, clear70, clear71, clear72, clear73}
 
 -- A state that is reached by one pair and then by others.
 onward : (r : ℕ → ℕ → Bool) (s t : ℕ) {u : ℕ} → r s t ≡ true → Reached (eqb t) r u → Reached (eqb s) r u
