@@ -6,11 +6,11 @@ use mathlib.Core.Path.{_≡_, refl, _∙_}
 use borrow.Author.Tests.{le-ltb}
 use lib.ListN.{length}
 use Rattle.derivation.specs.Tables.{workWords, written}
+use Rattle.derivation.proofs.Buffers.{written-again}
 use Rattle.checker.specs.declared.Fault.{Fault}
 use Rattle.checker.specs.declared.Verdict.the-variants.{Accepted, Refused}
 use Rattle.checker.specs.Verdicts as Check
 use Rattle.checker.specs.Verdicts.{answer}
-use Rattle.checker.proofs.Stages.{written-twice}
 use Rattle.joint.specs.Composing.{sideOf, refused, composition, ofPair, tooLong, compose}
 
 module _ (h p h′ p′ : List ℕ) (words : ℕ) (enough : workWords ≤ words) (short : tooLong h p ≡ false) (short′ : tooLong h′ p′ ≡ false) where
@@ -36,5 +36,5 @@ unfolding Check.workAfter
 cleared-after h p work = by (answer h p (length work) .writes)
   where
     by : (b : Bool) → written (λ j. 0) (cond b (written (answer h p (length work) .words) work) work) ≡ written (λ j. 0) work
-    by true = written-twice _ _ work
+    by true = written-again _ _ work
     by false = refl

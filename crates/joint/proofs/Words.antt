@@ -13,15 +13,15 @@ use Rattle.derivation.proofs.Buffers.{length-tabulate, written-at}
 use Rattle.joint.specs.Composing.{tooLong, workAfter}
 
 module _ (h p h′ p′ work : List ℕ) (enough : workWords ≤ length work) (short : tooLong h p ≡ false) (short′ : tooLong h′ p′ ≡ false) where
-  pub words-cleared : workAfter h p h′ p′ work ≡ written (λ j. 0) work
+  pub tables-cleared : workAfter h p h′ p′ work ≡ written (λ j. 0) work
   unfolding workAfter
-  words-cleared = rw (le-ltb (length work) workWords enough, short, short′)
+  tables-cleared = rw (le-ltb (length work) workWords enough, short, short′)
 
   pub words-zero : (i : ℕ) → i < workWords → getD (workAfter h p h′ p′ work) i 0 ≡ 0
-  words-zero i l = rw words-cleared (written-at (λ j. 0) work i l (omega arith))
+  words-zero i l = rw tables-cleared (written-at (λ j. 0) work i l (omega arith))
 
   pub words-past : drop workWords (workAfter h p h′ p′ work) ≡ drop workWords work
   unfolding written
   words-past =
-      rw (words-cleared, min-eq-left enough)
+      rw (tables-cleared, min-eq-left enough)
       (drop-at (tabulate workWords (λ j. 0)) (drop workWords work) workWords (length-tabulate (λ j. 0) workWords))

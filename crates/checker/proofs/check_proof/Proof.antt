@@ -3,11 +3,11 @@ use mathlib.Core.Path.{_≡_, sym, _∙_, ap}
 use borrow.Author.Needs.{needs}
 use Rattle.semantics.specs.States.{product}
 use Rattle.derivation.specs.Tables.{written}
+use Rattle.derivation.proofs.Buffers.{written-again}
 use Rattle.handler.specs.Reading.{readHandler}
 use Rattle.derivation.specs.Reading.{readProof, proofFile, loadedWord}
 use Rattle.checker.specs.Verdicts.{onHandler}
 use Rattle.checker.specs.Refinement.{decided}
-use Rattle.checker.proofs.Stages.{written-twice}
 use Rattle.checker.proofs.Judging.{states-are, refused-proof, on-refused, ProofIs, proof-is, judged, kept-words, no-words}
 use Rattle.checker.proofs.check_proof.Statement.{statement}
 use Rattle.checker.proofs.check_proof.Tie as tie
@@ -62,7 +62,7 @@ returns-3 c =
     let no = sym (c .before .before .before .before .before .fault .given .1) ∙ verdict (c .before .before .before .before .before .before .before) in
     let none-left = no-words (a .handler .now) (a .proof .now) _ _ _ (s .pre .0) _ _ _ (r .d) (r .read) _ (sym no) in (
       no,
-      c .before .before .clear .ensures ∙ ap (written (λ j. 0)) (words-are l) ∙ written-twice (λ j. 0) _ (a .work .now)
+      c .before .before .clear .ensures ∙ ap (written (λ j. 0)) (words-are l) ∙ written-again (λ j. 0) _ (a .work .now)
           ∙ ap (λ f. written f (a .work .now)) (sym none-left),
     )
 

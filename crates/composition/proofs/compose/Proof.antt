@@ -3,7 +3,7 @@ use mathlib.Core.Path.{sym, _∙_}
 use native.Mathlib.Omega.{arith}
 use borrow.Author.Needs.{needs}
 use Rattle.joint.specs.Composing.{plain}
-use Rattle.joint.proofs.Words.{words-cleared}
+use Rattle.joint.proofs.Words.{tables-cleared}
 use Rattle.composition.proofs.Promised.{few-words, first-long, second-long, contract, untouched}
 use Rattle.composition.proofs.compose.Statement.{statement}
 use Rattle.composition.proofs.compose.Tie as tie
@@ -47,7 +47,7 @@ returns-4 c =
     let a = d .before .before .before .before .before .before .before .before .before .before .before .before .before .before .before .before .args in
     let short = sym (d .before .before .before .before .before .before .before .too-long .ensures) ∙ d .before .before .before .before .before .before .if2 .left in
     let short′ = sym (d .before .before .before .before .before .too-long2 .ensures) ∙ d .before .before .before .before .if3 .left in
-    let cleared = words-cleared (a .h1 .now) (a .p1 .now) (a .h2 .now) (a .p2 .now) (a .work .now) (omega arith) short short′ in
+    let cleared = tables-cleared (a .h1 .now) (a .p1 .now) (a .h2 .now) (a .p2 .now) (a .work .now) (omega arith) short short′ in
     contract (a .h1 .now) (a .p1 .now) (a .h2 .now) (a .p2 .now) (a .work .now) (a .hout .now) (a .pout .now)
     _ _ _ _ (j .0) (c .before .before .clear .ensures ∙ j .1 .0 ∙ sym cleared) (j .1 .1 .0) (j .1 .1 .1)
 
