@@ -53,7 +53,7 @@ mod tests {
 
     /// Why there are halves.
     #[test]
-    fn the_large_pair_does_not_bear_itself() {
+    fn the_large_pair_does_not_allow_itself() {
         let (handler, proof) = files(large());
         let composition = judge_composition((&handler, &proof), (&handler, &proof));
         let refused = Composition::Refused { pair: 0, fault: Fault::at_bit(91, 0) };
