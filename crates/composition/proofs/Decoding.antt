@@ -80,30 +80,30 @@ refused-parts : (pair number kind index : ℕ) → pair ≤ 2 → number ≤ 95 
 refused-parts pair number kind index p n k i code e =
     (le-ltb code (2 ^ 63) (omega arith), omega arith, omega arith, omega arith, omega arith)
 
-refused-back : (pair number : ℕ) (place : Place) → pair ≤ 2 → number ≤ 95 → indexOf place < 2 ^ 32
+refusal-decoded : (pair number : ℕ) (place : Place) → pair ≤ 2 → number ≤ 95 → indexOf place < 2 ^ 32
     → let f : Fault = record { number = number; place = place; states = Nothing } in
     ofNumber (numberOf (Composed.Refused pair f)) ≡ Composed.Refused pair f
 unfolding ofNumber numberOf codeOf placeKind indexOf
-refused-back pair number (Bit i) p n h =
+refusal-decoded pair number (Bit i) p n h =
     let f : Fault = record { number = number; place = Bit i; states = Nothing } in
     let e = refused-parts pair number 0 i p n (omega arith) h (numberOf (Composed.Refused pair f)) refl in
     rw (e .0, e .1, e .2, e .3, e .4)
-refused-back pair number (Node k) p n h =
+refusal-decoded pair number (Node k) p n h =
     let f : Fault = record { number = number; place = Node k; states = Nothing } in
     let e = refused-parts pair number 1 k p n (omega arith) h (numberOf (Composed.Refused pair f)) refl in
     rw (e .0, e .1, e .2, e .3, e .4)
 
-small-back : (c : Composed) → Small c → ofNumber (numberOf c) ≡ withoutStates c
+small-decoded : (c : Composed) → Small c → ofNumber (numberOf c) ≡ withoutStates c
 unfolding ofNumber numberOf withoutStates codeOf
-small-back (Composed.Made m) s =
+small-decoded (Composed.Made m) s =
     let e = made-parts (m .steps) (m .handler) (m .proof) (s .0) (s .1) (s .2) (numberOf (Composed.Made m)) refl in
     rw (e .0, e .1, e .2, e .3)
-small-back (Composed.Refused pair f) s = refused-back pair (f .number) (f .place) (s .0) (s .2) (s .3)
+small-decoded (Composed.Refused pair f) s = refusal-decoded pair (f .number) (f .place) (s .0) (s .2) (s .3)
 
 -- The number determines the answer but for the states, for all files and buffers.
 pub number-decoded : (h p h′ p′ work hout pout : List ℕ)
     → ofNumber (numberOf (composed (composeInto h p h′ p′ work hout pout))) ≡ withoutStates (composed (composeInto h p h′ p′ work hout pout))
-number-decoded h p h′ p′ work hout pout = small-back _ (answer-small h p h′ p′ (length work) (length hout) (length pout))
+number-decoded h p h′ p′ work hout pout = small-decoded _ (answer-small h p h′ p′ (length work) (length hout) (length pout))
 
 -- An answer without its states has files where the answer has them.
 promised-alike : (c : Composed) (hout pout : List ℕ) → MadeIsAccepted c hout pout → MadeIsAccepted (withoutStates c) hout pout

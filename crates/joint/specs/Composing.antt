@@ -77,6 +77,7 @@ plain k = record { number = k; place = Bit 0; states = Nothing }
 abbrev pub asked : ℕ → Bool → Composition → Composition
 asked k held next = cond held next (refused 0 (plain k))
 
+-- 90: the sizes are the same, in their number and one by one.
 unfoldable pub sameSizes : List ℕ → List ℕ → Bool
 sameSizes a b = eqb (length a) (length b) && all (length a) (λ v. eqb (getD a v 0) (getD b v 0))
 
@@ -86,6 +87,7 @@ staysIn n P G = holds (inSet n P (λ s. inSet n (G s) (λ t. must (P t))))
 
 -- Over two handler files and what is taken from both pairs.
 module _ (h h′ : List ℕ) (a b : Side) where
+  -- N, the states from which both may start, and the result: the parallel, its derivation and both files.
   abbrev pub N : ℕ
   N = product (a .sizes)
 
@@ -104,18 +106,6 @@ module _ (h h′ : List ℕ) (a b : Side) where
   abbrev pub proofFile : List ℕ
   proofFile = formOf N derivation
 
-  -- 94: the result is within every limit.
-  unfoldable pub inLimits : Bool
-  inLimits =
-      leb (statements statement) 63 && leb (stmtLevels statement) 16
-      && leb (nodes derivation) 127 && leb (levels derivation) 24
-      && leb (length (setsIn derivation)) 16 && leb (length (relationsIn derivation)) 16
-      && leb (length handlerFile) 16384 && leb (length proofFile) 16384
-      && leb (steps N statement) (2 ^ 32 - 1)
-
-  abbrev pub limited : Composition
-  limited = asked 94 inLimits (made (steps N statement) handlerFile proofFile)
-
   -- 91: the second G lies within the first R.
   abbrev pub secondAllowed : Bool
   secondAllowed = relationLiesIn N (b .tables .G) (a .tables .R)
@@ -128,7 +118,19 @@ module _ (h h′ : List ℕ) (a b : Side) where
   abbrev pub metPKept : Bool
   metPKept = staysIn N metP (a .tables .G) && staysIn N metP (b .tables .G)
 
-  -- 90 sizes differ, 91 to 93, 94 a limit is passed.
+  -- 94: the result is within every limit.
+  unfoldable pub inLimits : Bool
+  inLimits =
+      leb (statements statement) 63 && leb (stmtLevels statement) 16
+      && leb (nodes derivation) 127 && leb (levels derivation) 24
+      && leb (length (setsIn derivation)) 16 && leb (length (relationsIn derivation)) 16
+      && leb (length handlerFile) 16384 && leb (length proofFile) 16384
+      && leb (steps N statement) (2 ^ 32 - 1)
+
+  abbrev pub limited : Composition
+  limited = asked 94 inLimits (made (steps N statement) handlerFile proofFile)
+
+  -- 90 to 94, in this order.
   unfoldable pub composition : Composition
   composition =
       asked 90 (sameSizes (a .sizes) (b .sizes))
