@@ -52,7 +52,7 @@ in-full : (n k : ℕ) (states : List ℕ) → n ≤ capacity → Named n (states
 in-full n k states most named = rw (listed-naming states (omega (arith, named-length named, few-named k))) (named-within most named)
 
 module _ (pb sizes : List ℕ) (most : product sizes ≤ capacity) (sets : ℕ) where
-  fault-states : (o : Option Broken) → FaultNames (tablesOf pb sizes sets) (λ s v z s′ l e. store-read sizes s v z s′ l e .state) o → (k : ℕ) (words : ℕ → ℕ)
+  fault-states : (o : Option Broken) → FaultNames (tablesOf pb sizes sets) (λ s v z l. store-read sizes s v z l .state) o → (k : ℕ) (words : ℕ → ℕ)
       → NamesStates (onFault o k words .verdict)
   unfolding FaultNames
   fault-states none p k words = steps-names k words
@@ -65,7 +65,7 @@ module _ (hb pb : List ℕ) where
       no-states k (Bit place) (none-named k (omega (arith, ProofPlaces.fault-inside pb (product sizes) k place e .to-most)))
   proof-names sizes most S (Proofs.proof sets relations root d) e =
       let t = tablesOf pb sizes sets in
-      fault-states pb sizes most sets (firstFault t d S 0) (fault-names t (λ s v z s′ l e. store-read sizes s v z s′ l e .state) d S 0)
+      fault-states pb sizes most sets (firstFault t d S 0) (fault-names t (λ s v z l. store-read sizes s v z l .state) d S 0)
       (steps (product sizes) S) (tableWord pb (product sizes) sets relations)
 
   handler-names : (r : HandlerRead) → readHandler hb ≡ r → NamesStates (onHandler pb r .verdict)

@@ -36,9 +36,9 @@ wrong = record { count = 2; sizes = 2 ∷ 3 ∷ 1 ∷ 1 ∷ []; states = 7 }
 
 -- At state 5 the variables have the values 1 and 2. A negative difference is exact. The test is true at the states where variable 1
 -- is 0 or 1 and false at the others; 6 is not a state. At state 5, a store of 1 in variable 1 leads to state 4; a store of 2 in
--- variable 0, whose size is 2, leads nowhere, and neither does a store of what cannot be read. States 5 and 3 agree in variable 0
--- and not in variable 1. Variable 0 has weight 3 and size 2 among 6 states; with a weight of 0 no states agree. A head with one
--- state too many has no states.
+-- variable 0, whose size is 2, leaves 0 and leads to state 2; a store of −1 in variable 1 leaves 2 and leads to state 5. A store of
+-- what cannot be read leads nowhere. States 5 and 3 agree in variable 0 and not in variable 1. Variable 0 has weight 3 and size 2
+-- among 6 states; with a weight of 0 no states agree. A head with one state too many has no states.
 values :
     (value (machineIn two) (exprIn two-variables 2 13) 5 ≡ some (int (pos 1)))
     × (value (machineIn two) (exprIn two-variables 2 17) 5 ≡ some (int (pos 2)))
@@ -46,7 +46,8 @@ values :
     × (map (isTrue (machineIn two) (exprIn less 2 13)) (0 ∷ 1 ∷ 2 ∷ 3 ∷ 4 ∷ 5 ∷ 6 ∷ []) ≡ true ∷ true ∷ false ∷ true ∷ true ∷ false ∷ false ∷ [])
     × (map (isFalse (machineIn two) (exprIn less 2 13)) (0 ∷ 1 ∷ 2 ∷ 3 ∷ 4 ∷ 5 ∷ 6 ∷ []) ≡ false ∷ false ∷ true ∷ false ∷ false ∷ true ∷ false ∷ [])
     × (afterStore (machineIn two) 1 (exprIn two-variables 2 13) 5 ≡ some 4)
-    × (afterStore (machineIn two) 0 (exprIn two-variables 2 17) 5 ≡ none)
+    × (afterStore (machineIn two) 0 (exprIn two-variables 2 17) 5 ≡ some 2)
+    × (afterStore (machineIn two) 1 (exprIn difference 2 13) 5 ≡ some 5)
     × (afterStore (machineIn two) 1 (exprIn two-variables 2 24) 5 ≡ none)
     × (agree (machineIn two) 0 5 3 ≡ true)
     × (agree (machineIn two) 1 5 3 ≡ false)
@@ -55,4 +56,4 @@ values :
     × (agreeIn (record { states = 6; weight = 0; size = 2 }) 5 3 ≡ false)
     × (machineIn wrong .states ≡ 0)
 unfolding two-variables difference less two wrong all headOf inLimits isHead sizesIn machineIn fieldAt isThere bitsAt bitAt bitLength exprHead tagHead payloadHead integerHead truthHead variableHead operationHead signed exprAt wholeExpr isTrue isFalse afterStore exprIn agree variableIn isSmall agreeIn
-values = (refl, refl, refl, refl, refl, refl, refl, refl, refl, refl, refl, refl, refl, refl)
+values = (refl, refl, refl, refl, refl, refl, refl, refl, refl, refl, refl, refl, refl, refl, refl)

@@ -14,7 +14,7 @@ use lib.Signed.{mag}
 use Rattle.states.specs.Sets.{capacity}
 use Rattle.states.proofs.Search.{and-left, and-right, and-both, bool-ext}
 use Rattle.semantics.specs.Language.{Val, int, truth, Expr, eqZ}
-use Rattle.semantics.specs.States.{product, weight, valueOf, stored, machineOf, value, storeOf}
+use Rattle.semantics.specs.States.{product, weight, valueOf, machineOf, value, storeOf}
 use Rattle.semantics.specs.Conditions.{afterStore}
 use Rattle.semantics.proofs.Storing.{store-read}
 use Rattle.handler.specs.declared.head.Head.{Head}
@@ -59,13 +59,9 @@ stored-below : (sizes : List ℕ) (v : ℕ) (e : Expr) (s t : ℕ) → s < produ
 unfolding afterStore
 stored-below sizes v e s t below = by (value (machineOf sizes) e s)
   where
-    to : (z : ℤ) (o : Option ℕ) → stored sizes s v z ≡ o → leadsTo o t ≡ true → t < product sizes
-    to z none made leads = absurd (false≢true leads)
-    to z (some s′) made leads = rw (← eqb-true s′ t leads) (store-read sizes s v z s′ below made .state)
-
     by : (o : Option Val) → leadsTo (storeOf (machineOf sizes) s v o) t ≡ true → t < product sizes
     by none leads = absurd (false≢true leads)
-    by (some (int z)) leads = to z (stored sizes s v z) refl leads
+    by (some (int z)) leads = rw (← eqb-true _ t leads) (store-read sizes s v z below .state)
     by (some (truth b)) leads = absurd (false≢true leads)
 
 pub after-below : (head : Head) (v : ℕ) (e : Expr) (s t : ℕ) → s < machineIn head .states
@@ -144,8 +140,7 @@ variable-values head v n x values is all each s l =
 
 pub store-variable : (head : Head) (v s : ℕ) → s < machineIn head .states → (z : ℤ) → machineIn head .store s v z ≡ storedBy (variableIn head v) s z
 unfolding machineIn variableIn
-store-variable head v s below (pos n) = rw (state-head head s below)
-store-variable head v s below (negsuc n) = refl
+store-variable head v s below z = rw (state-head head s below)
 
 pub agree-variable : (head : Head) (v s t : ℕ) → agreeIn (variableIn head v) s t ≡ agree (machineIn head) v s t
 unfolding variableIn agreeIn agree machineIn

@@ -13,13 +13,15 @@ use Rattle.states.specs.declared.StateSet.{StateSet}
 use Rattle.states.specs.Sets.{capacity, has}
 use Rattle.semantics.specs.Language.{Val, int, truth, Expr, lit, var, apply}
 use Rattle.semantics.specs.States.{Machine, value, both}
+use Rattle.handler.specs.declared.head.Head.{Head}
+use Rattle.handler.specs.Header.{machineIn}
 use Rattle.handler.specs.declared.expressions.ExprHead.{ExprHead}
 use Rattle.handler.specs.declared.expressions.ExprHead.the-variants as head
 use Rattle.handler.specs.Expressions.{exprHead, ExprRead, good, bad, joined, operands, onExprHead, exprAt, wholeExpr}
 use Rattle.handler.proofs.Folds.{Headed, headed-as, expr-step, inner-step}
 use Rattle.evaluation.specs.declared.Values.{Values}
 use Rattle.evaluation.specs.Values.{exprRead, exprIn}
-use Rattle.evaluation.specs.Refinement.{integersKind, truthsKind, nothingKind, mostNodes, exprLevels, nodeBound, operandsBound, integerIn, valueIn, Applied, Walked}
+use Rattle.evaluation.specs.Refinement.{integersKind, truthsKind, nothingKind, mostNodes, exprLevels, nodeBound, operandsBound, integerIn, valueIn, Applied, Walked, Evaluated}
 
 no-value : (row : Values) → nothingKind ≤ row .kind → (s : ℕ) → valueIn row s ≡ none
 no-value row past s = List·getD-eq-default (some (int (integerIn row s)) ∷ some (truth (has (row .truths) s)) ∷ []) none {n = row .kind} past
@@ -188,7 +190,12 @@ module _ (q : Operation) where
             )
 
 -- The whole expression at a cursor, from the row of a walk with all levels left.
-pub whole-value : (bytes : List ℕ) (count n : ℕ) (m : Machine) (at : ℕ) (row : Values) → Walked n m 0 row (exprAt exprLevels bytes count 0 at)
-    → (s : ℕ) → s < n → valueIn row s ≡ value m (exprIn bytes count at) s
+pub whole-row : (head : Head) (bytes : List ℕ) (at n : ℕ) (row : Values) → n ≡ machineIn head .states
+    → Walked n (machineIn head) 0 row (exprAt exprLevels bytes (head .count) 0 at) → Evaluated head bytes at row
 unfolding exprIn wholeExpr
-whole-value bytes count n m at row w s l = in-whole n m 0 row (exprAt exprLevels bytes count 0 at) w s l
+whole-row head bytes at n row all w =
+    let x = exprAt exprLevels bytes (head .count) 0 at in
+    record {
+      each = λ s l. in-whole n (machineIn head) 0 row x w s (rw all l);
+      small = λ valued s l. let k = as-valued n (machineIn head) 0 row valued x w in omega (arith, k .room, k .small s (rw all l));
+    }

@@ -1,16 +1,14 @@
 -- What the private functions promise about the values and stores that they compute. No public promise cites it.
 use Prim.Native.Nat.{ℕ, _+_, _-_, _*_, _≤_, _<_}
 use mathlib.Core.Path.{_≡_}
-use mathlib.Core.Bool.{cond}
 use mathlib.Core.List.{List, [], _∷_}
 use mathlib.Core.Option.{Option, none, some}
-use lib.Dec.{ltb}
-use lib.IntN.{ℤ, pos, negsuc}
+use lib.IntN.{ℤ, pos}
 use lib.ListN.{getD}
 use lib.Signed.{mag}
 use Rattle.states.specs.Sets.{has}
 use Rattle.semantics.specs.Language.{Val, int, truth}
-use Rattle.semantics.specs.States.{Machine, value}
+use Rattle.semantics.specs.States.{Machine, value, remainder}
 use Rattle.handler.specs.declared.head.Head.{Head}
 use Rattle.handler.specs.Header.{machineIn}
 use Rattle.handler.specs.Expressions.{ExprRead, good, bad}
@@ -49,6 +47,10 @@ nodeBound = 128
 abbrev pub operandsBound : ℕ
 operandsBound = 2 * nodeBound * exprLevels
 
+-- The magnitude of every value of an expression is below this.
+abbrev pub valueBound : ℕ
+valueBound = nodeBound * mostNodes
+
 -- The integer at a state, and the value there: by the row's kind an integer, a truth value or none.
 abbrev pub integerIn : Values → ℕ → ℤ
 integerIn row s = getD (row .integers) s (pos 0)
@@ -75,8 +77,8 @@ Walked n m nodes row (bad k place) = nothingKind ≤ row .kind
 -- The values of the expression at a cursor of a file, at the states of its head.
 pub record Evaluated (head : Head) (bytes : List ℕ) (at : ℕ) (row : Values) : Type 0 where
   pub each : (s : ℕ) → s < machineIn head .states → valueIn row s ≡ value (machineIn head) (exprIn bytes (head .count) at) s
+  pub small : row .kind < nothingKind → (s : ℕ) → s < machineIn head .states → mag (integerIn row s) < valueBound
 
 -- The state after a store, from a variable's weight and size.
-abbrev pub storedBy : Variable → ℕ → ℤ → Option ℕ
-storedBy x s (pos n) = cond (ltb n (x .size)) (some (s - valueBy x s * x .weight + n * x .weight)) none
-storedBy x s (negsuc n) = none
+abbrev pub storedBy : Variable → ℕ → ℤ → ℕ
+storedBy x s z = s - valueBy x s * x .weight + remainder z (x .size) * x .weight

@@ -23,7 +23,7 @@ exprRead (bad k place) = op 7 (lit (int (pos 0))) (lit (int (pos 0)))
 unfoldable pub exprIn : List ℕ → ℕ → ℕ → Expr
 exprIn bytes count at = exprRead (wholeExpr bytes count at)
 
--- Whether a store leads to t; a store that is out of range leads nowhere.
+-- Whether a store leads to t; where there is no integer to store, it leads nowhere.
 abbrev pub leadsTo : Option ℕ → ℕ → Bool
 leadsTo none t = false
 leadsTo (some s′) t = eqb s′ t

@@ -31,13 +31,13 @@ ghost use lib.ListN.{getD};
 ghost use lib.Signed.{mag};
 ghost use Rattle.states.specs.Sets.{capacity, mem, has, entryAt};
 ghost use Rattle.semantics.specs.Language.{ofIntegers, ofTruths, apply};
-ghost use Rattle.semantics.specs.States.{both, weight};
+ghost use Rattle.semantics.specs.States.{both, weight, remainder};
 ghost use Rattle.semantics.specs.Conditions.{isTrue, isFalse, afterStore, occurrences};
 ghost use Rattle.handler.specs.Header.{isHead, sizesIn, machineIn};
 ghost use Rattle.handler.specs.Expressions.{exprAt};
 ghost use Rattle.handler.specs.Shapes.{inMask};
-ghost use Rattle.evaluation.specs.Values.{exprIn, leadsTo, variableIn, isSmall, agreeIn};
-ghost use Rattle.evaluation.specs.Refinement.{integersKind, truthsKind, nothingKind, mostNodes, operandsBound, integerIn, valueIn, Applied, Walked, Evaluated, storedBy};
+ghost use Rattle.evaluation.specs.Values.{exprIn, leadsTo, variableIn, valueBy, isSmall, agreeIn};
+ghost use Rattle.evaluation.specs.Refinement.{integersKind, truthsKind, nothingKind, mostNodes, operandsBound, valueBound, integerIn, valueIn, Applied, Walked, Evaluated, storedBy};
 
 // The kinds of a row: an integer at each state, a truth value at each state, or no value.
 const INTEGERS: u32 = 0;
@@ -45,6 +45,9 @@ const INTEGERS: u32 = 0;
 const TRUTHS: u32 = 1;
 
 const NOTHING: u32 = 2;
+
+// More than the magnitude of any value: an expression has at most 31 nodes, and each adds at most 128.
+const VALUE_BOUND: u32 = 3968;
 
 // The codes of the operations + − < = > ∧ ∨, from 0. Those below LESS give an integer, those from LESS to below AND compare two
 // integers, and the last two take truth values.
@@ -304,23 +307,26 @@ pub fn agreeing(x: Variable, s: u32) -> StateSet
     }
 }
 
-// The one state after a store of z at state s; none where z is out of range.
-fn store(x: Variable, s: u32, z: i64) -> StateSet
-    requires { ⌜ (isSmall x ≡ true) × (s < capacity) ⌝ }
-    ensures { λ r. ⌜ ((t : ℕ) → has r t ≡ (ltb t capacity && leadsTo (storedBy x s z) t)) ⌝ }
+// The remainder, from 0 up, of a value by a size. `%` rounds toward 0, so enough sizes are added first to leave no negative number;
+// that takes no branch.
+fn wrapped(size: u32, z: i64) -> u32
+    requires { ⌜ (0 < size) × (size ≤ capacity) × (mag z < valueBound) ⌝ }
+    ensures { λ r. ⌜ r ≡ remainder z size ⌝ }
 {
-    if z < 0 {
-        return StateSet::empty();
-    }
-    let n = z as u64;
-    if n >= x.size as u64 {
-        return StateSet::empty();
-    }
-    let value = s / x.weight % x.size;
-    StateSet::single(s - value * x.weight + n as u32 * x.weight)
+    let lifted = z + (VALUE_BOUND * size) as i64;
+    lifted as u32 % size
 }
 
-// Where a store of the expression at a cursor in variable v leads: row s holds the one state after the store at s, or none.
+// The state after a store of z at state s, where the variable has a known value.
+fn store(x: Variable, s: u32, value: i64, z: i64) -> u32
+    requires { ⌜ (isSmall x ≡ true) × (s < capacity) × (value ≡ pos (valueBy x s)) × (mag z < valueBound) ⌝ }
+    ensures { λ r. ⌜ r ≡ storedBy x s z ⌝ }
+{
+    s - value as u32 * x.weight + wrapped(x.size, z) * x.weight
+}
+
+// Where a store of the expression at a cursor in variable v leads: row s holds the one state after the store at s, or none where
+// the expression is no integer.
 pub fn successors(src: &[u8], head: Head, v: u32, at: usize) -> [u64; RELATION_WORDS]
     ensures { λ r. ⌜ ((s t : ℕ) → mem (entryAt r s) t
         ≡ (ltb s (machineIn head .states) && leadsTo (afterStore (machineIn head) v (exprIn (now (src .entry)) (head .count) at) s) t)) ⌝ }
@@ -332,9 +338,10 @@ pub fn successors(src: &[u8], head: Head, v: u32, at: usize) -> [u64; RELATION_W
     }
     let integers = row.integers;
     let x = variable_of(head, v);
+    let present = variable_row(x.states, x.weight, x.size);
     for s in 0..x.states {
-        let end = store(x, s, integers[s as usize]);
-        put_entry(&mut rows, s as usize, end);
+        let end = store(x, s, present[s as usize], integers[s as usize]);
+        put_entry(&mut rows, s as usize, StateSet::single(end));
     }
     rows
 }

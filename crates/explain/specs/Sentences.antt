@@ -72,8 +72,7 @@ childSentences =
 -- Assignment and if.
 abbrev storeSentences : List Sentence
 storeSentences =
-    means 40 "Assignment: s is in P, but the value at s is out of the variable's range."
-    ∷ means 41 "Assignment: R moves a variable of the expression."
+    means 41 "Assignment: R moves a variable of the expression."
     ∷ means 42 "Assignment: s is in P and the store leads to s', but (s,s') is not in Q."
     ∷ means 43 "Assignment: s is in P and the store leads to another state s', but (s,s') is not in G."
     ∷ means 45 "If: R moves a variable of the test."

@@ -107,11 +107,6 @@ fn store_sentence(number: u32, out: &mut [u8], at: usize) -> usize
     ensures bytes { λ _. ⌜ now (out .exit) ≡ textIn (now (out .entry)) at (storesOn number) ⌝ }
 {
     match number {
-        40 => put(
-            out,
-            at,
-            b"Assignment: s is in P, but the value at s is out of the variable's range.",
-        ),
         41 => put(
             out,
             at,

@@ -112,7 +112,7 @@ enum handover_fault {
     HANDOVER_FAULT_CHILD_R = 36,           /* a child's R is not the one that the rule gives it */
     HANDOVER_FAULT_CHILD_G = 37,           /* a child's G is not the one that the rule gives it */
     HANDOVER_FAULT_CHILD_Q = 38,           /* a child's Q is not the one that the rule gives it */
-    HANDOVER_FAULT_ASSIGNMENT_RANGE = 40,  /* assignment: a value out of range [s] */
+    /* 40 is unused since A5. */
     HANDOVER_FAULT_ASSIGNMENT_MOVED = 41,  /* assignment: others change a variable of the expression */
     HANDOVER_FAULT_ASSIGNMENT_Q = 42,      /* assignment: the store is not in Q [s, s'] */
     HANDOVER_FAULT_ASSIGNMENT_G = 43,      /* assignment: the store is not in G [s, s'] */
@@ -159,7 +159,7 @@ enum handover_compose_fault {
    after it), then at every moment, until the handler has ended and after it:
    - the handler has made at most handover_steps(answer) steps;
    - each of its steps that changed the state was a pair of G;
-   - it has not stopped half-way: no store of a value out of range is next, and unless it has ended it has a step to make;
+   - it has not stopped half-way: no part waits for a step that it cannot make, and unless it has ended it has a step to make;
    - if it has ended, the pair of the start and the present state is in Q.
    That is all. Nothing is said of a run in which others make a change outside R even once, of a start outside P (so nothing at
    all where P is empty), or of time. */
@@ -191,7 +191,7 @@ uint64_t handover_states(const uint8_t *HANDOVER_RESTRICT handler, size_t handle
        number                                     kind     file       first byte shown
        10 to 18                                   a bit    handler    the byte that holds bit `place`
        20 to 25                                   a bit    proof      the byte that holds bit `place`
-       30 to 38, 40 to 43, 45, 46, 50 to 57,      a node   proof      the byte in which the rule code of node `place` begins
+       30 to 38, 41 to 43, 45, 46, 50 to 57,      a node   proof      the byte in which the rule code of node `place` begins
        60, 61, 65, 66, 70 to 73, 80
        every other combination, among them 1      any      handler    none
        and 2, and every kind but these two

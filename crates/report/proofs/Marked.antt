@@ -17,7 +17,7 @@ use Rattle.semantics.specs.Steps.{at, isNil}
 use Rattle.semantics.specs.Runs.{Event, own, other, onStep, run, stepsMade}
 use Rattle.semantics.specs.StepNumber.{steps}
 use Rattle.semantics.specs.Derivations.{skip, iteration, Tables}
-use Rattle.semantics.specs.Conditions.{inSet, sameSet, sameRelation, setLiesIn, relationLiesIn, isTrue, isFalse, afterStore, inRange, toAfter, moves, c31, c32, c33, c34, c35, c36, c37, c38, unmoved, c40, c41, c42, c43, c50, c51, c52, c53, c54, c55, c56, c57}
+use Rattle.semantics.specs.Conditions.{inSet, sameSet, sameRelation, setLiesIn, relationLiesIn, isTrue, isFalse, afterStore, toAfter, moves, c31, c32, c33, c34, c35, c36, c37, c38, unmoved, c41, c42, c43, c50, c51, c52, c53, c54, c55, c56, c57}
 use Rattle.semantics.specs.Checking.{Broken, firstFault}
 use Rattle.handler.specs.Header.{sizeRead, addSize, sizesRead, countRead, headAt}
 use Rattle.handler.specs.Expressions.{signed, integerHead, truthHead, variableHead, operationHead, payloadHead, tagHead, exprHead, exprAt, wholeExpr}
@@ -96,5 +96,5 @@ marked =
 pub twelve : marked
     ≡ ascii "accepted 1\n" ∷ ascii "refused 43 node 0\n" ∷ ascii "refused 10 bit 0\n" ∷ ascii "refused 10 bit 8\n" ∷ ascii "refused 18 bit 23\n"
     ∷ (4 ∷ []) ∷ (4 ∷ 1 ∷ []) ∷ (28 ∷ []) ∷ (1 ∷ []) ∷ (64 ∷ []) ∷ (13 ∷ 8 ∷ []) ∷ (50 ∷ 0 ∷ []) ∷ []
-unfolding bitLength bitAt bitsAt isThere fieldAt firstSet fillBits furtherByte fillFrom fillAt implies all any must given named orElse each holds within reach inSet sameSet sameRelation setLiesIn relationLiesIn isTrue isFalse afterStore inRange toAfter moves c31 c32 c33 c34 c35 c36 c37 c38 unmoved c40 c41 c42 c43 c50 c51 c52 c53 c54 c55 c56 c57 sizeRead addSize sizesRead countRead headAt signed integerHead truthHead variableHead operationHead payloadHead tagHead exprHead exprAt wholeExpr targetHead codeHead markHead stmtHead stmtAt wholeStmt readHandler setAt rowAt tablesThere isCount relationsRead setsRead tablesAt inSetOf inRelationOf onName namedTable loopHead namesHead ruleHead nodeHead nodeAt wholeNode readProof answer digits decimal placeText verdictText lineOf
+unfolding bitLength bitAt bitsAt isThere fieldAt firstSet fillBits furtherByte fillFrom fillAt implies all any must given named orElse each holds within reach inSet sameSet sameRelation setLiesIn relationLiesIn isTrue isFalse afterStore toAfter moves c31 c32 c33 c34 c35 c36 c37 c38 unmoved c41 c42 c43 c50 c51 c52 c53 c54 c55 c56 c57 sizeRead addSize sizesRead countRead headAt signed integerHead truthHead variableHead operationHead payloadHead tagHead exprHead exprAt wholeExpr targetHead codeHead markHead stmtHead stmtAt wholeStmt readHandler setAt rowAt tablesThere isCount relationsRead setsRead tablesAt inSetOf inRelationOf onName namedTable loopHead namesHead ruleHead nodeHead nodeAt wholeNode readProof answer digits decimal placeText verdictText lineOf
 twelve = refl

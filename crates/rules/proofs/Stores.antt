@@ -1,4 +1,4 @@
--- Conditions 40, 42 and 43, from the rows that say where a store leads: a row has at most one end, and that is a state.
+-- Conditions 42 and 43, from the rows that say where a store leads: a row has at most one end, and that is a state.
 use Prim.Native.Nat.{ℕ, _<_}
 use mathlib.Core.Path.{_≡_, refl, ap, _∙_, fun-ext}
 use mathlib.Core.Bool.{Bool, true, _&&_, _||_}
@@ -6,26 +6,18 @@ use mathlib.Core.List.{List}
 use mathlib.Core.Option.{Option, none, some}
 use lib.Dec.{ltb, eqb}
 use borrow.Author.Tests.{lt-ltb, eq-eqb}
-use Rattle.states.specs.Search.{any, Search, must, given}
+use Rattle.states.specs.Search.{Search, must, given}
 use Rattle.states.specs.Sets.{mem, entryAt}
 use Rattle.states.specs.Relations.{rel}
-use Rattle.states.proofs.Search.{any-intro, any-none}
 use Rattle.semantics.specs.Language.{Expr}
 use Rattle.semantics.specs.States.{Machine}
 use Rattle.semantics.specs.Derivations.{Spec}
-use Rattle.semantics.specs.Conditions.{inSet, afterStore, inRange, toAfter, c40, c42, c43}
+use Rattle.semantics.specs.Conditions.{inSet, afterStore, toAfter, c42, c43}
 use Rattle.handler.specs.declared.head.Head.{Head}
 use Rattle.handler.specs.Header.{machineIn}
 use Rattle.evaluation.specs.Values.{leadsTo}
 use Rattle.evaluation.proofs.Laws.{after-below}
 use Rattle.search.proofs.Breaches.{in-set-cong, each-clear, in-set-single, absorbed, eqb-turned}
-
--- The end of a store, if it is one of the n states.
-module _ (n : ℕ) where
-  any-end : (o : Option ℕ) → ((t : ℕ) → leadsTo o t ≡ true → t < n) → any n (leadsTo o) ≡ inRange o
-  unfolding inRange
-  any-end none below = any-none n _ (λ t l. refl)
-  any-end (some s′) below = any-intro n _ s′ (below s′ (eq-eqb s′ s′ refl)) (eq-eqb s′ s′ refl)
 
 -- A search through the end of a store, if it has one.
 in-set-after : (n : ℕ) (o : Option ℕ) (f : ℕ → Search) → ((t : ℕ) → leadsTo o t ≡ true → t < n) → inSet n (leadsTo o) f ≡ toAfter o f
@@ -55,12 +47,6 @@ module _ (head : Head) (v : ℕ) (e : Expr) (rows : List ℕ)
       ap (λ r. inSet (m .states) r (λ t. must (g s t))) (filled s l) ∙ in-set-after (m .states) _ (λ t. must (g s t)) (below s l))
 
   module _ (c : Spec) where
-    pub in-range-40 : inSet (m .states) (c .P) (λ s. must (any (m .states) (rel (m .states) rows s))) ≡ c40 m c v e
-    unfolding c40
-    in-range-40 =
-        in-set-cong (m .states) (c .P) (c .P) _ _ (λ s l. refl) (λ s l ps.
-        ap must (ap (any (m .states)) (filled s l) ∙ any-end (m .states) _ (below s l)))
-
     pub store-in-post-42 : inSet (m .states) (c .P) (λ s. inSet (m .states) (rel (m .states) rows s) (λ t. must (c .Q s t))) ≡ c42 m c v e
     unfolding c42
     store-in-post-42 = after-ends (c .P) (c .Q)

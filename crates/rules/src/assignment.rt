@@ -14,16 +14,14 @@ use handler::head::states_in;
 use search::pairs::with_same;
 use search::Named;
 use search::least_pair;
-use search::least_state;
 use semantics::Names;
 use states::StateSet;
 use states::relations::included_from;
 use states::relations::row;
-use states::relations::starting;
 ghost use mathlib.Core.Path.{_≡_};
 ghost use mathlib.Core.Bool.{Bool, _||_};
 ghost use lib.Dec.{eqb};
-ghost use Rattle.states.specs.Search.{must, holds, any};
+ghost use Rattle.states.specs.Search.{must, holds};
 ghost use Rattle.states.specs.Relations.{rel};
 ghost use Rattle.semantics.specs.Conditions.{inSet};
 ghost use Rattle.rules.specs.Words.{wordSet, wordRelation, wordSpec};
@@ -34,15 +32,7 @@ ghost use Rattle.handler.specs.Header.{machineIn};
 ghost use Rattle.evaluation.specs.Values.{exprIn};
 ghost use Rattle.semantics.specs.Checking.{assignmentObligations};
 
-// 40, from the rows that say where a store leads: every s in P has an end.
-pub fn in_range(n: u32, work: &[u64], own: Names, after: &[u64]) -> bool
-    ensures { λ out.
-        ⌜ out ≡ holds (inSet n (wordSet n (now (work .entry)) (own .p)) (λ s. must (any n (rel n (now (after .entry)) s)))) ⌝ }
-{
-    set_at(n, work, own.p).included(starting(n, after))
-}
-
-// 42, from the same rows: s in P, s′ its end: (s,s′) in Q.
+// 42, from the rows that say where a store leads: s in P, s′ its end: (s,s′) in Q.
 pub fn store_in_post(n: u32, work: &[u64], own: Names, after: &[u64]) -> bool
     ensures { λ out.
         ⌜ out ≡ holds (inSet n (wordSet n (now (work .entry)) (own .p)) (λ s. inSet n (rel n (now (after .entry)) s)
@@ -92,7 +82,6 @@ pub fn assignment_fault(
     let n = states_in(head);
     let after = successors(handler, head, v, expr);
     let found = common(n, work, own, fits);
-    let found = ask(found, 40, in_range(n, work, own, &after));
     let found = ask(
         found,
         41,
@@ -102,7 +91,7 @@ pub fn assignment_fault(
     ask(found, 43, store_in_guarantee(n, work, own, &after))
 }
 
-// The states that the condition with this number names: s for 40; s, s′ for 42 and 43.
+// The states that the condition with this number names: s, s′ for 42 and 43.
 pub fn assignment_states(
     handler: &[u8],
     head: Head,
@@ -120,7 +109,6 @@ pub fn assignment_states(
     let p = set_at(n, work, own.p);
     let after = successors(handler, head, v, expr);
     match number {
-        40 => least_state(n, p, starting(n, &after)),
         42 => least_pair(n, p, &after, rows_of(work, own.q)),
         43 => least_pair(n, p, &after, &with_same(n, rows_of(work, own.g))),
         _ => common_states(n, work, own, number),

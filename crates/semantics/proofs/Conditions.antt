@@ -14,9 +14,9 @@ use Rattle.states.proofs.Search.{and-left, and-right, and-both, or-left, or-rig
 use Rattle.states.proofs.Reach.{Between, reach-exact}
 use Rattle.semantics.specs.declared.Names.{Names}
 use Rattle.semantics.specs.Language.{Val, int, truth, Expr, eqZ}
-use Rattle.semantics.specs.States.{Machine, value, isTruth, storeOf}
+use Rattle.semantics.specs.States.{Machine, value, isTruth}
 use Rattle.semantics.specs.Derivations.{Tables, Spec, setOf, relationOf, specOf}
-use Rattle.semantics.specs.Conditions.{occurrences, inSet, sameSet, sameRelation, setLiesIn, relationLiesIn, isTrue, isFalse, afterStore, inRange, toAfter, moves, unmoved, c31, c32, c33, c35, c40, c41, c42, c43, c45, c46, c50, c51, c52, c53, c54, c55, c56, c57, c60, c61, c66}
+use Rattle.semantics.specs.Conditions.{occurrences, inSet, sameSet, sameRelation, setLiesIn, relationLiesIn, isTrue, isFalse, afterStore, toAfter, moves, unmoved, c31, c32, c33, c35, c41, c42, c43, c45, c46, c50, c51, c52, c53, c54, c55, c56, c57, c60, c61, c66}
 use Rattle.semantics.proofs.Safe.{Star, stay, then}
 use Rattle.semantics.proofs.Composition.{Change}
 use Rattle.semantics.proofs.Descent.{Descending}
@@ -89,15 +89,6 @@ module _ (m : Machine) where
   lies-in r q inside h s t x =
       set-lies-in (r s) (q s) (λ u y. inside s u y .1) (all-at (m .states) _ h s (inside s t x .0)) t x
 
-  -- The state after a store, from the searches of 40, 42 and 43 at one state.
-  stored-at : (c : Spec) (s : ℕ) (o : Option ℕ) → inRange o ≡ true → toAfter o (λ s′. must (c .Q s s′)) ≡ none
-      → toAfter o (λ s′. must (eqb s′ s || c .G s s′)) ≡ none
-      → (s′ : ℕ) × (o ≡ some s′) × (c .Q s s′ ≡ true) × ((s′ ≡ s) ⊎ (c .G s s′ ≡ true))
-  unfolding inRange toAfter
-  stored-at c s none r q g = absurd (false≢true r)
-  stored-at c s (some s′) r q g =
-      (s′, refl, must-none _ (unnamed s′ _ q), ⊎-map (eqb-true s′ s) (λ x. x) (or-cases (eqb s′ s) _ (must-none _ (unnamed s′ _ g))))
-
   module _ (c : Spec) (w : TablesWithin (m .states) c) where
     pub says31 : c31 (m .states) c ≡ none → (s t : ℕ) → c .P s ≡ true → c .R s t ≡ true → c .P t ≡ true
     unfolding c31
@@ -135,17 +126,26 @@ module _ (m : Machine) where
         by true b h e = e
         by false b h e = absurd (false≢true h)
 
-    -- 40, 42, 43: there is a state after the store, in Q, and in G unless it is the same.
-    pub stores : (v : ℕ) (e : Expr) → c40 m c v e ≡ none → c42 m c v e ≡ none → c43 m c v e ≡ none → (s : ℕ) → c .P s ≡ true
-        → (s′ : ℕ) × (storeOf m s v (value m e s) ≡ some s′) × (c .Q s s′ ≡ true) × ((s′ ≡ s) ⊎ (c .G s s′ ≡ true))
-    unfolding c40 c42 c43 afterStore
-    stores v e e40 e42 e43 s p =
-        stored-at c s (storeOf m s v (value m e s)) (must-none _ (at-member (c .P) _ (w .P-in) e40 s p))
-        (at-member (c .P) _ (w .P-in) e42 s p) (at-member (c .P) _ (w .P-in) e43 s p)
-
     pub says41 : (e : Expr) → c41 m c e ≡ none → occurrences (moves m c) e ≡ 0
     unfolding c41 unmoved
     says41 e h = eqb-true _ 0 (must-none _ h)
+
+    -- What 42 and 43 ask of the state after a store, where the value is an integer.
+    at-store : (v : ℕ) (e : Expr) (q : ℕ → ℕ → Bool) → inSet (m .states) (c .P) (λ s. toAfter (afterStore m v e s) (λ s′. must (q s s′))) ≡ none
+        → (s : ℕ) (z : ℤ) → c .P s ≡ true → value m e s ≡ some (int z) → q s (m .store s v z) ≡ true
+    unfolding afterStore toAfter
+    at-store v e q h s z p is = must-none _ (unnamed _ _ (rw is at (at-member (c .P) _ (w .P-in) h s p)))
+
+    pub says42 : (v : ℕ) (e : Expr) → c42 m c v e ≡ none → (s : ℕ) (z : ℤ) → c .P s ≡ true → value m e s ≡ some (int z)
+        → c .Q s (m .store s v z) ≡ true
+    unfolding c42
+    says42 v e = at-store v e (c .Q)
+
+    pub says43 : (v : ℕ) (e : Expr) → c43 m c v e ≡ none → (s : ℕ) (z : ℤ) → c .P s ≡ true → value m e s ≡ some (int z)
+        → (m .store s v z ≡ s) ⊎ (c .G s (m .store s v z) ≡ true)
+    unfolding c43
+    says43 v e h s z p is =
+        ⊎-map (eqb-true _ s) (λ x. x) (or-cases (eqb (m .store s v z) s) _ (at-store v e (λ s s′. eqb s′ s || c .G s s′) h s z p is))
 
     -- The value of a test at a state of P, as membership in the states at which it is true or false.
     pub true-at : (e : Expr) (s : ℕ) → c .P s ≡ true → value m e s ≡ some (truth true) → isTrue m e s ≡ true

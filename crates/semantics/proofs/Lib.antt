@@ -6,6 +6,7 @@ pub mod Descent
 pub mod Rules
 pub mod Runs
 pub mod Values
+pub mod Remainder
 pub mod Storing
 pub mod Conditions
 pub mod Clear

@@ -13,7 +13,7 @@ use Rattle.states.specs.Search.{Search, must, given, named, orElse, each}
 use Rattle.semantics.specs.Language.{Val, int, truth, Expr, Stmt}
 use Rattle.semantics.specs.States.{Machine, value, storeOf}
 use Rattle.semantics.specs.Derivations.{Derivation, skip, assignment, sequence, parallel, conditional, iteration, weaken, nodes, Tables, Spec}
-use Rattle.semantics.specs.Conditions.{firstOf, secondOf, inSet, afterStore, toAfter, c31, c32, c33, c34, c35, c36, c37, c38, c40, c41, c42, c43, c45, c46, c50, c51, c52, c53, c54, c55, c56, c57, c60, c61, c65, c66, c70, c71, c72, c73}
+use Rattle.semantics.specs.Conditions.{firstOf, secondOf, inSet, afterStore, toAfter, c31, c32, c33, c34, c35, c36, c37, c38, c41, c42, c43, c45, c46, c50, c51, c52, c53, c54, c55, c56, c57, c60, c61, c65, c66, c70, c71, c72, c73}
 use Rattle.semantics.specs.Checking.{Condition, Breach, Broken, orBreach, firstBroken, orBroken, atNode, isOneOf, statesNamed, common, obligations, firstFault}
 
 -- A list of so many of the n states.
@@ -31,7 +31,7 @@ named-within most (state low rest) = state (le-trans low most) (named-within mos
 
 -- No number has more than three states, and those below 31 have none.
 pub few-named : (k : ℕ) → statesNamed k ≤ 3
-few-named k = by (isOneOf (35 ∷ 40 ∷ 46 ∷ 51 ∷ 52 ∷ []) k) (isOneOf (31 ∷ 42 ∷ 43 ∷ 53 ∷ 54 ∷ 55 ∷ 56 ∷ 60 ∷ 66 ∷ []) k) (isOneOf (32 ∷ 33 ∷ 57 ∷ 61 ∷ []) k)
+few-named k = by (isOneOf (35 ∷ 46 ∷ 51 ∷ 52 ∷ []) k) (isOneOf (31 ∷ 42 ∷ 43 ∷ 53 ∷ 54 ∷ 55 ∷ 56 ∷ 60 ∷ 66 ∷ []) k) (isOneOf (32 ∷ 33 ∷ 57 ∷ 61 ∷ []) k)
   where
     by : (one two three : Bool) → cond one 1 (cond two 2 (cond three 3 0)) ≤ 3
     by true two three = omega arith
@@ -41,7 +41,7 @@ few-named k = by (isOneOf (35 ∷ 40 ∷ 46 ∷ 51 ∷ 52 ∷ []) k) (isOneOf (3
 
 pub none-named : (k : ℕ) → k < 31 → statesNamed k ≡ 0
 none-named k low =
-    rw (ne-eqb 35 k (omega arith), ne-eqb 40 k (omega arith), ne-eqb 46 k (omega arith), ne-eqb 51 k (omega arith), ne-eqb 52 k (omega arith),
+    rw (ne-eqb 35 k (omega arith), ne-eqb 46 k (omega arith), ne-eqb 51 k (omega arith), ne-eqb 52 k (omega arith),
     ne-eqb 31 k (omega arith), ne-eqb 42 k (omega arith), ne-eqb 43 k (omega arith), ne-eqb 53 k (omega arith), ne-eqb 54 k (omega arith),
     ne-eqb 55 k (omega arith), ne-eqb 56 k (omega arith), ne-eqb 60 k (omega arith), ne-eqb 66 k (omega arith),
     ne-eqb 32 k (omega arith), ne-eqb 33 k (omega arith), ne-eqb 57 k (omega arith), ne-eqb 61 k (omega arith))
@@ -109,7 +109,7 @@ data AllFind (n : ℕ) : List Condition → Type 0 where
   next : {c : Condition} {rest : List Condition} → Finds n (statesNamed (c .number)) (c .breach) → AllFind n rest → AllFind n (c ∷ rest)
 
 abbrev pub Stores : Machine → Type 0
-Stores m = (s v : ℕ) (z : ℤ) (s′ : ℕ) → s < m .states → m .store s v z ≡ some s′ → s′ < m .states
+Stores m = (s v : ℕ) (z : ℤ) → s < m .states → m .store s v z < m .states
 
 module _ (m : Machine) (stores : Stores m) where
   -- A store's end.
@@ -117,11 +117,7 @@ module _ (m : Machine) (stores : Stores m) where
   unfolding toAfter
   after-finds s l v none q = tt
   after-finds s l v (some (truth b)) q = tt
-  after-finds s l v (some (int z)) q = by (m .store s v z) refl
-    where
-      by : (o : Option ℕ) → m .store s v z ≡ o → Finds (m .states) 1 (toAfter o (λ s′. must (q s′)))
-      by none e = tt
-      by (some s′) e = named-finds (m .states) 0 s′ (must (q s′)) (stores s v z s′ l e) (must-finds (m .states) (q s′))
+  after-finds s l v (some (int z)) q = named-finds (m .states) 0 _ (must (q _)) (stores s v z l) (must-finds (m .states) (q _))
 
   ends : (p : ℕ → Bool) (v : ℕ) (e : Expr) (q : ℕ → ℕ → Bool) → Finds (m .states) 2 (inSet (m .states) p (λ s. toAfter (afterStore m v e s) (λ s′. must (q s s′))))
   unfolding afterStore
@@ -137,10 +133,10 @@ module _ (t : Tables) (stores : Stores (t .machine)) where
   shared fits c p = next (must-finds N fits) (next (two N _ _ _) (next (three N _ _ _ _) (next (three N _ _ _ _) p)))
 
   own : (d : Derivation) (S : Stmt) → AllFind N (obligations t d S)
-  unfolding c34 c35 c36 c37 c38 c40 c41 c42 c43 c45 c46 c50 c51 c52 c53 c54 c55 c56 c57 c60 c61 c65 c66 c70 c71 c72 c73
+  unfolding c34 c35 c36 c37 c38 c41 c42 c43 c45 c46 c50 c51 c52 c53 c54 c55 c56 c57 c60 c61 c65 c66 c70 c71 c72 c73
   own (skip h) S = shared _ _ (next (one N _ _) no-more)
   own (assignment h) S =
-      shared _ _ (next (one N _ _) (next (must-finds N _) (next (ends (t .machine) stores _ _ _ _) (next (ends (t .machine) stores _ _ _ _) no-more))))
+      shared _ _ (next (must-finds N _) (next (ends (t .machine) stores _ _ _ _) (next (ends (t .machine) stores _ _ _ _) no-more)))
   own (sequence h l r) S =
       shared _ _ (next (must-finds N _) (next (must-finds N _) (next (must-finds N _) (next (must-finds N _) (next (must-finds N _)
       (next (two N _ _ _) (next (three N _ _ _ _) no-more)))))))

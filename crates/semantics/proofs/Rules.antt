@@ -4,9 +4,10 @@ use native.Mathlib.Omega.{arith}
 use mathlib.Core.Path.{_≡_, refl, sym, _∙_, ap, subst}
 use mathlib.Core.Bool.{Bool, true, false, false≢true}
 use mathlib.Core.Logic.{_⊎_, inl, inr}
-use mathlib.Core.Option.{Option, none, some, Option·none-ne-some}
+use mathlib.Core.Option.{Option, some, Option·some-injective}
+use lib.IntN.{ℤ}
 use Rattle.semantics.specs.Language.{Val, int, truth, Expr, lit, Stmt, nil, assign, seq, if, while}
-use Rattle.semantics.specs.States.{Machine, value, storeOf}
+use Rattle.semantics.specs.States.{Machine, value}
 use Rattle.semantics.specs.Steps.{Config, at, storing, branch}
 use Rattle.semantics.specs.StepNumber.{E}
 use Rattle.semantics.specs.Conditions.{occurrences}
@@ -24,7 +25,9 @@ pub record Undisturbed (m : Machine) (P : ℕ → Type 0) (R Q : ℕ → ℕ →
 
 pub record Assignment (m : Machine) (P : ℕ → Type 0) (R G Q : ℕ → ℕ → Type 0) (moved : ℕ → Bool) (v : ℕ) (e : Expr) : Type 0 where
   pub undisturbed : Undisturbed m P R Q moved e
-  pub stores : (s : ℕ) → P s → (s′ : ℕ) × (storeOf m s v (value m e s) ≡ some s′) × Q s s′ × ((s′ ≡ s) ⊎ G s s′)  -- 40, 42, 43
+  pub valued : (s : ℕ) → P s → (z : ℤ) × (value m e s ≡ some (int z))  -- the expression's kind
+  pub ends : (s : ℕ) (z : ℤ) → P s → value m e s ≡ some (int z) → Q s (m .store s v z)  -- 42
+  pub keeps : (s : ℕ) (z : ℤ) → P s → value m e s ≡ some (int z) → (m .store s v z ≡ s) ⊎ G s (m .store s v z)  -- 43
 
 pub record Conditional (m : Machine) (P : ℕ → Type 0) (R G Q : ℕ → ℕ → Type 0) (moved : ℕ → Bool) (e : Expr) (b : Stmt) (n : ℕ) : Type 0 where
   pub undisturbed : Undisturbed m P R Q moved e
@@ -50,11 +53,6 @@ assigning m v = record { unended = λ e. refl; turn = λ e s. refl; waits-var = 
 
 testing : (m : Machine) (b : Stmt) → Context m (λ e. if e b) (λ e s. branch e b s)
 testing m b = record { unended = λ e. refl; turn = λ e s. refl; waits-var = λ w s. refl; waits-op = λ o l r s. refl }
-
--- A store that has a result stores a value.
-has-value : (m : Machine) (s v : ℕ) (o : Option Val) {s′ : ℕ} → storeOf m s v o ≡ some s′ → (w : Val) × (o ≡ some w)
-has-value m s v none h = absurd (Option·none-ne-some _ h)
-has-value m s v (some w) h = (w, refl)
 
 -- A test that is a truth value has one of two last steps.
 either-branch : {F : Config → Type 0} {o : Option Val} (w : Val) (b : Stmt) (u : ℕ) → o ≡ some w → (c : Bool) × (o ≡ some (truth c))
@@ -82,14 +80,15 @@ module _ {m : Machine} {P : ℕ → Type 0} {R G Q : ℕ → ℕ → Type 0} {mo
       → Each (Kept G (λ c. Safe m R G (Q s) 0 (c .rest) (c .state)) u) (storing m v (lit w) u)
   store-step τ u w a b has =
       let d = c .undisturbed in
-      let (s′, stores, in-Q, kept) = c .stores u (still-in (d .stable) p (star-trans a b)) in
-      let stored : storeOf m u v (some w) ≡ some s′ = rw (present d p a b has) at stores in
-      rw stored (and (kept, safe-nil (λ t r. ended-after d p (begun-before d p (star-trans a b) in-Q) r)) end)
+      let in-P = still-in (d .stable) p (star-trans a b) in
+      let (z, is) = c .valued u in-P in
+      let in-Q = begun-before d p (star-trans a b) (c .ends u z in-P is) in
+      rw (Option·some-injective _ _ (sym (present d p a b has) ∙ is)) (and (c .keeps u z in-P is, safe-nil (λ t r. ended-after d p in-Q r)) end)
 
   pub rule-assign : Safe m R G (Q s) (E e + 1) (assign v e) s
   rule-assign =
       let d = c .undisturbed in
-      evaluate (d .stable) (assigning m v) e p (λ u p. has-value m u v (value m e u) (c .stores u p .1)) store-step (E e + 1)
+      evaluate (d .stable) (assigning m v) e p (λ u p. (_, c .valued u p .1)) store-step (E e + 1)
       (omega (arith, d .unmoved)) (omega arith)
 
 module _ {m : Machine} {P : ℕ → Type 0} {R G Q : ℕ → ℕ → Type 0} {moved : ℕ → Bool} {e : Expr} {b : Stmt} {n : ℕ}

@@ -21,8 +21,8 @@ use Rattle.semantics.specs.Promise.{Promise}
 use Rattle.semantics.proofs.Safe.{stay, star-keeps, Safe, safe-weaken}
 use Rattle.semantics.proofs.Composition.{safe-nil, safe-seq, safe-par}
 use Rattle.semantics.proofs.Rules.{Undisturbed, rule-assign, rule-if, rule-while}
-use Rattle.semantics.proofs.Values.{fits-truth}
-use Rattle.semantics.proofs.Conditions.{TablesWithin, tables-within, relation-in, true-at, same-set, same-relation, set-lies-in, lies-in, says32, says33, says35, stable, stores, says41, says45, says46, says50, descending, says52, says53, says54, says55, says56, says60, says61, says66}
+use Rattle.semantics.proofs.Values.{fits-integer, fits-truth}
+use Rattle.semantics.proofs.Conditions.{TablesWithin, tables-within, relation-in, true-at, same-set, same-relation, set-lies-in, lies-in, says32, says33, says35, stable, says41, says42, says43, says45, says46, says50, descending, says52, says53, says54, says55, says56, says60, says61, says66}
 use Rattle.semantics.proofs.Runs.{promise}
 use Rattle.semantics.proofs.Clear.{Clear, clear, no-breach, neither, made, says30}
 
@@ -159,11 +159,13 @@ module _ (t : Tables) where
       as-made (skip h) S 0 e30 kinds (λ _ s p. safe-nil (λ u r.
       star-keeps (λ a b q x. says33 (t .machine) c (tables-within t h) e33 s a b p q x) r (says35 (t .machine) c (tables-within t h) e35 s p)))
   sound (assignment h) S n e kinds =
-      let (e30, (e31, (e32, (e33, (e40, (e41, (e42, (e43, _)))))))) = clear (obligations t (assignment h) S) (no-breach n _ e) in
+      let (e30, (e31, (e32, (e33, (e41, (e42, (e43, _))))))) = clear (obligations t (assignment h) S) (no-breach n _ e) in
       let c = specOf t h in
-      as-made (assignment h) S 1 e30 kinds (λ _. rule-assign (record {
+      as-made (assignment h) S 1 e30 kinds (λ k. rule-assign (record {
         undisturbed = undisturbed (t .machine) c (tables-within t h) (exprOf S) e31 e32 e33 (says41 (t .machine) c (tables-within t h) (exprOf S) e41);
-        stores = stores (t .machine) c (tables-within t h) (targetOf S) (exprOf S) e40 e42 e43;
+        valued = λ s p. fits-integer (t .machine) (exprOf S) s k;
+        ends = says42 (t .machine) c (tables-within t h) (targetOf S) (exprOf S) e42;
+        keeps = says43 (t .machine) c (tables-within t h) (targetOf S) (exprOf S) e43;
       }))
   sound (sequence h l r) S n e kinds =
       let (own, below) = neither _ _ e in

@@ -1,25 +1,22 @@
--- Storing and reading agree, so `weight` need not be trusted: after a store its variable holds the stored value and every other variable
--- is unchanged; and a state's number is that of its values, variable 0 most significant. By recursion on the sizes: if the later
--- variables have `row` states, the first value of s is s / row, and s % row is a state of the later variables.
+-- Storing and reading agree, so `weight` need not be trusted: after a store its variable holds the remainder of the stored integer and
+-- every other variable is unchanged; and a state's number is that of its values, variable 0 most significant. By recursion on the
+-- sizes: if the later variables have `row` states, the first value of s is s / row, and s % row is a state of the later variables.
 use Prim.Native.Nat.{ℕ, zero, suc, _+_, _-_, _*_, _/_, _%_, _≤_, _<_}
 use native.Mathlib.Nat.{add-zero, mul-zero, mul-assoc, mod-one, mod-lt, mod-eq-of-lt, mod-le, div-eq-of-lt, div-add-mod', div-lt-iff-lt-mul, div-mul-le-self, mul-add-div-right, mul-add-mod-self-right, mul-le-mul-right}
 use native.Mathlib.Omega.{arith}
-use borrow.Author.Tests.{ltb-true}
-use mathlib.Core.Bool.{Bool, true, false, cond}
 use mathlib.Core.List.{List, [], _∷_}
-use mathlib.Core.Option.{none, some, Option·some-injective, Option·none-ne-some}
-use mathlib.Core.Path.{_≡_, refl, sym, _∙_, ap, subst, fun-ext}
-use lib.Dec.{ltb}
-use lib.IntN.{ℤ, pos, negsuc}
+use mathlib.Core.Path.{_≡_, refl, sym, _∙_, ap, fun-ext}
+use lib.IntN.{ℤ, pos}
 use lib.ListN.{getD}
-use Rattle.semantics.specs.States.{product, weight, valueOf, machineOf}
+use Rattle.semantics.specs.States.{product, weight, valueOf, remainder, machineOf}
+use Rattle.semantics.proofs.Remainder.{remainder-below}
 
--- What holds of s′, the state after z is stored in variable v at s.
-pub record StoreRead (sizes : List ℕ) (s v : ℕ) (z : ℤ) (s′ : ℕ) : Type 0 where
+-- What holds of s′, the state after a store at s that leaves n in variable v.
+pub record StoreRead (sizes : List ℕ) (s v n s′ : ℕ) : Type 0 where
   -- it is a state
   pub state : s′ < product sizes
-  -- the variable holds z
-  pub holds : machineOf sizes .get s′ v ≡ z
+  -- the variable holds n
+  pub holds : machineOf sizes .get s′ v ≡ pos n
   -- every other variable is unchanged
   pub others : (w : ℕ) → (w ≡ v → ⊥) → machineOf sizes .get s′ w ≡ machineOf sizes .get s w
 
@@ -67,7 +64,7 @@ value-within : (sizes : List ℕ) (s v : ℕ) → valueOf sizes s v * weight siz
 value-within sizes s v =
     omega (arith, mul-le-mul-right (weight sizes v) (mod-le (s / weight sizes v) (getD sizes v 1)), div-mul-le-self s (weight sizes v))
 
--- The state after a store of a value in range.
+-- The state with n, a value in range, in place of the variable's present value.
 abbrev put : List ℕ → ℕ → ℕ → ℕ → ℕ
 put sizes s v n = s - valueOf sizes s v * weight sizes v + n * weight sizes v
 
@@ -76,7 +73,7 @@ module _ (size : ℕ) (sizes : List ℕ) (s : ℕ) (h : Split size (product size
   value-later : (v : ℕ) → valueOf sizes s v ≡ valueOf sizes (s % product sizes) v
   value-later v = rw (h .whole) at (value-apart sizes v (s / product sizes) (s % product sizes) (h .some-row))
 
-  put-first : (n : ℕ) → n < size → StoreRead (size ∷ sizes) s zero (pos n) (put (size ∷ sizes) s zero n)
+  put-first : (n : ℕ) → n < size → StoreRead (size ∷ sizes) s zero n (put (size ∷ sizes) s zero n)
   put-first n low =
       let is : put (size ∷ sizes) s zero n ≡ n * product sizes + s % product sizes = rw (mod-eq-of-lt (h .above)) (omega arith) in
       rw is (record {
@@ -89,8 +86,8 @@ module _ (size : ℕ) (sizes : List ℕ) (s : ℕ) (h : Split size (product size
       others zero apart = absurd (apart refl)
       others (suc w) apart = ap pos (value-apart sizes w n (s % product sizes) (h .some-row) ∙ sym (value-later w))
 
-  put-later : (v n : ℕ) → StoreRead sizes (s % product sizes) v (pos n) (put sizes (s % product sizes) v n)
-      → StoreRead (size ∷ sizes) s (suc v) (pos n) (put (size ∷ sizes) s (suc v) n)
+  put-later : (v n : ℕ) → StoreRead sizes (s % product sizes) v n (put sizes (s % product sizes) v n)
+      → StoreRead (size ∷ sizes) s (suc v) n (put (size ∷ sizes) s (suc v) n)
   put-later v n later =
       let is : put (size ∷ sizes) s (suc v) n ≡ s / product sizes * product sizes + put sizes (s % product sizes) v n
       = rw (value-later v) (omega (arith, value-within sizes (s % product sizes) v)) in
@@ -106,7 +103,7 @@ module _ (size : ℕ) (sizes : List ℕ) (s : ℕ) (h : Split size (product size
       others (suc w) apart =
           ap pos (value-apart sizes w (s / product sizes) _ (h .some-row)) ∙ later .others w (λ e. apart (ap suc e)) ∙ ap pos (sym (value-later w))
 
-put-reads : (sizes : List ℕ) (s v n : ℕ) → s < product sizes → n < getD sizes v 1 → StoreRead sizes s v (pos n) (put sizes s v n)
+put-reads : (sizes : List ℕ) (s v n : ℕ) → s < product sizes → n < getD sizes v 1 → StoreRead sizes s v n (put sizes s v n)
 put-reads [] s v n h low = record {
   state = omega (arith, mod-one (s / 1));
   holds = ap pos (mod-one _ ∙ omega arith);
@@ -116,15 +113,6 @@ put-reads (size ∷ sizes) s zero n h low = put-first size sizes s (split size (
 put-reads (size ∷ sizes) s (suc v) n h low =
     let rest = split size (product sizes) s h in
     put-later size sizes s rest v n (put-reads sizes (s % product sizes) v n (rest .left) low)
-
--- This holds for every store that has a result, of any integer in any variable, at any state.
-pub store-read : (sizes : List ℕ) (s v : ℕ) (z : ℤ) (s′ : ℕ) → s < product sizes → machineOf sizes .store s v z ≡ some s′ → StoreRead sizes s v z s′
-store-read sizes s v (negsuc n) s′ h made = absurd (Option·none-ne-some _ made)
-store-read sizes s v (pos n) s′ h made = by (ltb n (getD sizes v 1)) refl made
-  where
-    by : (b : Bool) → ltb n (getD sizes v 1) ≡ b → cond b (some (put sizes s v n)) none ≡ some s′ → StoreRead sizes s v (pos n) s′
-    by true low e = subst (StoreRead sizes s v (pos n)) (Option·some-injective _ _ e) (put-reads sizes s v n h (ltb-true n _ low))
-    by false low e = absurd (Option·none-ne-some _ e)
 
 -- A state's number is that of its values.
 pub number-read : (sizes : List ℕ) (s : ℕ) → s < product sizes → numberOf sizes (valueOf sizes s) ≡ s
@@ -140,3 +128,9 @@ value-below (size ∷ sizes) s zero h = mod-lt _ (omega (arith, split size (prod
 value-below (size ∷ sizes) s (suc v) h =
     let rest = split size (product sizes) s h in
     rw (value-later size sizes s rest v) (value-below sizes (s % product sizes) v (rest .left))
+
+-- A store of any integer in any variable, at any state, leaves the remainder by the variable's size.
+pub store-read : (sizes : List ℕ) (s v : ℕ) (z : ℤ) → s < product sizes
+    → StoreRead sizes s v (remainder z (getD sizes v 1)) (machineOf sizes .store s v z)
+store-read sizes s v z h =
+    put-reads sizes s v _ h (remainder-below z (getD sizes v 1) (omega (arith, value-below sizes s v h)))

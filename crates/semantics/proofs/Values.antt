@@ -8,6 +8,7 @@ use mathlib.Core.List.{[], _∷_}
 use mathlib.Core.Option.{Option, none, some, Option·map}
 use lib.ListN.{getD, List·getD-map}
 use lib.Dec.{ltb}
+use lib.IntN.{ℤ}
 use borrow.Author.Tests.{ltb-true}
 use Rattle.states.specs.Search.{all, implies}
 use Rattle.states.proofs.Search.{all-at, implies-at, and-left, and-right, and-both, true-or-false}
@@ -81,7 +82,17 @@ fits-kind m k (op o l r) s h =
     let made = of-kind (apply o v w) k (rw (apply-kind o v w) (row-gives o (kindOf v) (kindOf w) k met)) in
     subst₂ (λ a b. OfKind (both (apply o) a b) k) (sym left) (sym right) made
 
--- A test that fits is true or false.
+-- An assigned expression that fits is an integer, and a test that fits is true or false.
+pub fits-integer : (m : Machine) (e : Expr) (s : ℕ) → fits Integer e ≡ true → (z : ℤ) × (value m e s ≡ some (int z))
+fits-integer m e s h = by (fits-kind m Integer e s h)
+  where
+    by-kind : (v : Val) → sameKind (kindOf v) Integer ≡ true → (z : ℤ) × (v ≡ int z)
+    by-kind (int z) k = (z, refl)
+    by-kind (truth b) k = absurd (false≢true k)
+
+    by : OfKind (value m e s) Integer → (z : ℤ) × (value m e s ≡ some (int z))
+    by x = let (z, is) = by-kind (x .val) (x .kind) in (z, x .is ∙ ap some is)
+
 pub fits-truth : (m : Machine) (e : Expr) (s : ℕ) → fits Truth e ≡ true → (b : Bool) × (value m e s ≡ some (truth b))
 fits-truth m e s h = by (fits-kind m Truth e s h)
   where

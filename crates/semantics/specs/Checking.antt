@@ -9,7 +9,7 @@ use Rattle.states.specs.Search.{Search, must}
 use Rattle.semantics.specs.Language.{Expr, Stmt}
 use Rattle.semantics.specs.States.{Machine}
 use Rattle.semantics.specs.Derivations.{Derivation, skip, assignment, sequence, parallel, conditional, iteration, weaken, namesOf, nodes, Tables, Spec, setOf, relationOf, specOf}
-use Rattle.semantics.specs.Conditions.{statementCode, targetOf, exprOf, firstOf, secondOf, isTrue, isFalse, underTest, inRound, besides, c31, c32, c33, c34, c35, c36, c37, c38, c40, c41, c42, c43, c45, c46, c50, c51, c52, c53, c54, c55, c56, c57, c60, c61, c65, c66, c70, c71, c72, c73}
+use Rattle.semantics.specs.Conditions.{statementCode, targetOf, exprOf, firstOf, secondOf, isTrue, isFalse, underTest, inRound, besides, c31, c32, c33, c34, c35, c36, c37, c38, c41, c42, c43, c45, c46, c50, c51, c52, c53, c54, c55, c56, c57, c60, c61, c65, c66, c70, c71, c72, c73}
 
 -- A condition: its number, and the result of the search for a breach.
 pub record Condition : Type 0 where
@@ -54,7 +54,7 @@ isOneOf (j ∷ rest) k = eqb j k || isOneOf rest k
 -- How many states a broken condition names, by its number: the column "states" of docs/RULES.md.
 abbrev pub statesNamed : ℕ → ℕ
 statesNamed k =
-    cond (isOneOf (35 ∷ 40 ∷ 46 ∷ 51 ∷ 52 ∷ []) k) 1
+    cond (isOneOf (35 ∷ 46 ∷ 51 ∷ 52 ∷ []) k) 1
     (cond (isOneOf (31 ∷ 42 ∷ 43 ∷ 53 ∷ 54 ∷ 55 ∷ 56 ∷ 60 ∷ 66 ∷ []) k) 2
     (cond (isOneOf (32 ∷ 33 ∷ 57 ∷ 61 ∷ []) k) 3 0))
 
@@ -105,8 +105,7 @@ skipObligations n fits c =
 abbrev pub assignmentObligations : Machine → Bool → Spec → ℕ → Expr → List Condition
 assignmentObligations m fits c v e =
     common (m .states) fits c
-    ++ numbered 40 (c40 m c v e)
-    ∷ numbered 41 (c41 m c e)
+    ++ numbered 41 (c41 m c e)
     ∷ numbered 42 (c42 m c v e)
     ∷ numbered 43 (c43 m c v e)
     ∷ []

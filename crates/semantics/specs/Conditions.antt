@@ -93,10 +93,6 @@ module _ (m : Machine) where
   unfoldable pub moves : Spec → ℕ → Bool
   moves c v = any (m .states) (λ s. c .P s && any (m .states) (λ t. c .R s t && not (eqZ (m .get s v) (m .get t v))))
 
-unfoldable pub inRange : Option ℕ → Bool
-inRange none = false
-inRange (some s′) = true
-
 unfoldable pub toAfter : Option ℕ → (ℕ → Search) → Search
 toAfter none f = none
 toAfter (some s′) f = named s′ (f s′)
@@ -153,10 +149,6 @@ module _ (m : Machine) (c : Spec) where
   unmoved e = eqb (occurrences (moves m c) e) 0
 
   -- Assignment, for s in P, s′ being s after the store.
-  -- 40: the value at every s in P is in range.
-  unfoldable pub c40 : ℕ → Expr → Search
-  c40 v e = inSet (m .states) (c .P) (λ s. must (inRange (afterStore m v e s)))
-
   -- 41: R moves no variable of the expression.
   unfoldable pub c41 : Expr → Search
   c41 e = must (unmoved e)

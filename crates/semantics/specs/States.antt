@@ -5,7 +5,6 @@ use mathlib.Core.Bool.{Bool, true, false, cond}
 use mathlib.Core.List.{List, [], _∷_}
 use mathlib.Core.Option.{Option, none, some}
 use lib.ListN.{getD, drop}
-use lib.Dec.{ltb}
 use lib.IntN.{ℤ, pos, negsuc}
 use Rattle.semantics.specs.Language.{Val, int, truth, Expr, lit, var, op, apply}
 
@@ -21,16 +20,20 @@ weight sizes v = product (drop (suc v) sizes)
 abbrev pub valueOf : List ℕ → ℕ → ℕ → ℕ
 valueOf sizes s v = s / weight sizes v % getD sizes v 1
 
--- The state after storing a value in variable v; none if the value is outside 0 to size − 1.
-abbrev pub stored : List ℕ → ℕ → ℕ → ℤ → Option ℕ
-stored sizes s v (pos n) = cond (ltb n (getD sizes v 1)) (some (s - valueOf sizes s v * weight sizes v + n * weight sizes v)) none
-stored sizes s v (negsuc n) = none
+-- The remainder of an integer by a size, from 0 to size − 1: by 3, that of 3 is 0 and that of −1 is 2.
+abbrev pub remainder : ℤ → ℕ → ℕ
+remainder (pos n) size = n % size
+remainder (negsuc n) size = size - 1 - n % size
+
+-- The state after storing an integer in variable v, which then holds the remainder by its size: the registers wrap.
+abbrev pub stored : List ℕ → ℕ → ℕ → ℤ → ℕ
+stored sizes s v z = s - valueOf sizes s v * weight sizes v + remainder z (getD sizes v 1) * weight sizes v
 
 -- The variables as steps see them: N, a variable's present value, and a store.
 pub record Machine : Type 0 where
   pub states : ℕ
   pub get : ℕ → ℕ → ℤ
-  pub store : ℕ → ℕ → ℤ → Option ℕ
+  pub store : ℕ → ℕ → ℤ → ℕ
 
 abbrev pub machineOf : List ℕ → Machine
 machineOf sizes = record { states = product sizes; get = λ s v. pos (valueOf sizes s v); store = stored sizes }
@@ -53,8 +56,8 @@ isTruth b (some (int z)) = false
 isTruth true (some (truth c)) = c
 isTruth false (some (truth c)) = cond c false true
 
--- The state after a store of a value; none if the value is no integer or is out of range.
+-- The state after a store of an expression's value; none if there is no value or it is no integer.
 abbrev pub storeOf : Machine → ℕ → ℕ → Option Val → Option ℕ
 storeOf m s v none = none
-storeOf m s v (some (int z)) = m .store s v z
+storeOf m s v (some (int z)) = some (m .store s v z)
 storeOf m s v (some (truth b)) = none

@@ -47,7 +47,7 @@ branch (var v) body s = []
 branch (op o l r) body s = []
 
 module _ (m : Machine) where
-  -- Once the expression is a constant, one step stores it and leaves nil; out of range, that part stands still.
+  -- Once the expression is a constant, one step stores it and leaves nil; with a truth value, that part stands still.
   abbrev pub storing : ℕ → Expr → ℕ → List (Option Config)
   storing v (lit c) s = Option·map (at nil) (storeOf m s v (some c)) ∷ []
   storing v (var w) s = []

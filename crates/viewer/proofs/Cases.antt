@@ -46,7 +46,7 @@ shown-bits = refl
 abbrev nodes : List ℕ
 nodes =
     node 43 0 ∷ node 80 0 ∷ node 43 1 ∷ node 43 (2 ^ 32) ∷ node 43 (2 ^ 64 - 1)
-    ∷ node 2 0 ∷ node 18 0 ∷ node 25 0 ∷ node 39 0 ∷ node 44 0 ∷ node 58 0 ∷ node 81 0
+    ∷ node 2 0 ∷ node 18 0 ∷ node 25 0 ∷ node 39 0 ∷ node 40 0 ∷ node 44 0 ∷ node 58 0 ∷ node 81 0
     ∷ viewOf handler-file proof-file 43 2 0 ∷ viewOf handler-file proof-file 18 2 0
     -- the four nodes, in bytes 3, 5, 8 and 11, and no fifth
     ∷ viewOf handler-file four-nodes 60 1 0 ∷ viewOf handler-file four-nodes 55 1 1 ∷ viewOf handler-file four-nodes 35 1 2
@@ -59,7 +59,7 @@ nodes =
 -- The bytes that are shown: of the node, its 19 bits and the fill; of a fill bit that is not zero, the last byte; of 2, nothing.
 pub shown-nodes :
     (nodes
-    ≡ (2 ^ 32 + 3) ∷ (2 ^ 32 + 3) ∷ (2 ^ 32 + 6) ∷ (2 ^ 32 + 6) ∷ (2 ^ 32 + 6) ∷ 3 ∷ 3 ∷ 3 ∷ 3 ∷ 3 ∷ 3 ∷ 3 ∷ 3 ∷ 3
+    ≡ (2 ^ 32 + 3) ∷ (2 ^ 32 + 3) ∷ (2 ^ 32 + 6) ∷ (2 ^ 32 + 6) ∷ (2 ^ 32 + 6) ∷ 3 ∷ 3 ∷ 3 ∷ 3 ∷ 3 ∷ 3 ∷ 3 ∷ 3 ∷ 3 ∷ 3
     ∷ (2 ^ 32 + 3) ∷ (2 ^ 32 + 5) ∷ (2 ^ 32 + 8) ∷ (2 ^ 32 + 11) ∷ (2 ^ 32 + 14) ∷ (2 ^ 32 + 6) ∷ (2 ^ 32 + 7) ∷ [])
     × (viewed handler-file proof-file 43 (Node 0) ≡ 0x20 ∷ 0x02 ∷ 0x40 ∷ [])
     × (viewed (0x22 ∷ 0x20 ∷ 0x03 ∷ []) proof-file 18 (Bit 23) ≡ 0x03 ∷ [])

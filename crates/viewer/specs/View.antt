@@ -29,7 +29,7 @@ withProofBit k = between 20 25 k
 
 abbrev pub withNode : ℕ → Bool
 withNode k =
-    between 30 38 k || between 40 43 k || between 45 46 k || between 50 57 k
+    between 30 38 k || between 41 43 k || between 45 46 k || between 50 57 k
     || between 60 61 k || between 65 66 k || between 70 73 k || between 80 80 k
 
 -- The first bits of a derivation's nodes, in file order, where the root begins at a bit: a node has 19 bits, a while 27, and then

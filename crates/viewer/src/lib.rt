@@ -45,7 +45,7 @@ fn with_node(number: u32) -> bool
     ensures { λ r. ⌜ r ≡ withNode number ⌝ }
 {
     between(30, 38, number)
-        | between(40, 43, number)
+        | between(41, 43, number)
         | between(45, 46, number)
         | between(50, 57, number)
         | between(60, 61, number)

@@ -6,10 +6,9 @@ use reference::{Place, Verdict, TABLE_WORDS};
 use std::collections::BTreeSet;
 
 /// The numbers that a refusal of a check can have.
-pub const NUMBERS: [u32; 49] = [
+pub const NUMBERS: [u32; 48] = [
     1, 2, 10, 11, 12, 13, 14, 15, 16, 17, 18, 20, 21, 22, 23, 24, 25, 30, 31, 32, 33, 34, 35, 36,
-    37, 38, 40, 41, 42, 43, 45, 46, 50, 51, 52, 53, 54, 55, 56, 57, 60, 61, 65, 66, 70, 71, 72, 73,
-    80,
+    37, 38, 41, 42, 43, 45, 46, 50, 51, 52, 53, 54, 55, 56, 57, 60, 61, 65, 66, 70, 71, 72, 73, 80,
 ];
 
 /// The numbers that a refusal to write the form of a proof can have, in the order of the numbers.
@@ -19,17 +18,26 @@ pub const FORM_NUMBERS: [u32; 17] =
 /// The numbers that a refusal to compose two pairs can have besides those of a check.
 pub const COMPOSE_NUMBERS: [u32; 6] = [90, 91, 92, 93, 94, 95];
 
-/// The numbers of all refusals, in order: those that the pages and the C header list.
+/// Numbers of refusals that no longer occur; they are not used again.
+pub const UNUSED: [u32; 1] = [40];
+
+/// The numbers of all refusals, in order: those that the C header lists.
 pub fn all_numbers() -> Vec<u32> {
     let numbers = NUMBERS.into_iter().chain(FORM_NUMBERS).chain(COMPOSE_NUMBERS);
     let all: BTreeSet<u32> = numbers.collect();
     all.into_iter().collect()
 }
 
+/// The numbers that the pages' tables of all numbers list, in order: the unused ones too.
+pub fn listed_numbers() -> Vec<u32> {
+    let listed: BTreeSet<u32> = all_numbers().into_iter().chain(UNUSED).collect();
+    listed.into_iter().collect()
+}
+
 /// How many states a refusal of this number names.
 pub fn states_named(number: u32) -> u64 {
     match number {
-        35 | 40 | 46 | 51 | 52 => 1,
+        35 | 46 | 51 | 52 => 1,
         31 | 42 | 43 | 53..=56 | 60 | 66 => 2,
         32 | 33 | 57 | 61 => 3,
         _ => 0,

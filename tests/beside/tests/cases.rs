@@ -186,7 +186,7 @@ fn sizes() {
     }
 }
 
-/// With no state in P, no store is out of range and no test is moved.
+/// With no state in P, no store breaks Q or G and no test is moved.
 #[test]
 fn an_empty_precondition() {
     let beyond = store(0, number(100));

@@ -48,8 +48,6 @@ fn stability() {
 fn assignments() {
     let node = |p: &[usize], r, q| node(Step::Assignment, p, r, q, vec![]);
     let more = || set(operate(Operation::Add, c(), one()));
-    refused(more(), node(&[0, 2], none(), every()), 40, 0, &[2]);
-    refused(set(number(-1)), node(&[0], none(), every()), 40, 0, &[0]);
     accepted(more(), node(&[0, 1], none(), every()), 3);
     refused(set(c()), node(&[0, 1], pairs(&[(0, 1)]), every()), 41, 0, &[]);
     // A pair (s,s) moves nothing, nor does one from outside P.
@@ -59,6 +57,26 @@ fn assignments() {
     refused(set(one()), still, 43, 0, &[0, 1]);
     // A store of what is there needs no guarantee.
     accepted(set(one()), guarantee(node(&[1], none(), every()), none()), 1);
+}
+
+/// c has size 3: 42 and 43 are asked of the state that the wrapped value leads to.
+#[test]
+fn wrapped_assignments() {
+    let node = |p: &[usize], q, g| guarantee(node(Step::Assignment, p, none(), q, vec![]), g);
+    for (value, end) in [(3, 0), (4, 1), (5, 2), (127, 1), (-1, 2), (-2, 1), (-3, 0), (-128, 1)] {
+        for s in [0, 1, 2] {
+            let leads = |t: usize| pairs(&[(s, t)]);
+            let wrong = (end + 1) % 3;
+            accepted(set(number(value)), node(&[s], leads(end), leads(end)), 1);
+            let named = [s as u64, end as u64];
+            refused(set(number(value)), node(&[s], leads(wrong), every()), 42, 0, &named);
+            if s == end {
+                accepted(set(number(value)), node(&[s], leads(end), none()), 1);
+            } else {
+                refused(set(number(value)), node(&[s], leads(end), leads(wrong)), 43, 0, &named);
+            }
+        }
+    }
 }
 
 #[test]

@@ -17,7 +17,7 @@ mod words;
 #[path = "designing/world.rs"]
 mod world;
 
-use beside::lawful::all_numbers;
+use beside::lawful::{listed_numbers, UNUSED};
 use beside::{line, page};
 use std::collections::BTreeSet;
 use world::Claim;
@@ -119,14 +119,18 @@ fn searches_count() {
     }
 }
 
-/// Every number has one row below the page's first heading, and they are in order.
+/// Every number has one row below the page's first heading, and they are in order. The rows of the
+/// unused ones say so, and no other row does.
 #[test]
 fn every_number_has_a_row() {
     let faults = page("FAULTS.md");
     let (_, tables) = faults.split_once("\n## ").expect("the page has headings");
-    let first = |row: &str| row.strip_prefix('|')?.split('|').next()?.trim().parse::<u32>().ok();
-    let rows: Vec<u32> = tables.lines().filter_map(first).collect();
-    assert_eq!(rows, all_numbers());
+    let number = |row: &str| row.strip_prefix('|')?.split('|').next()?.trim().parse::<u32>().ok();
+    let rows = |kept: fn(&&str) -> bool| -> Vec<u32> {
+        tables.lines().filter(kept).filter_map(number).collect()
+    };
+    assert_eq!(rows(|_| true), listed_numbers());
+    assert_eq!(rows(|row| row.contains("| unused since ")), UNUSED);
 }
 
 /// The name by which a link leads to a heading.

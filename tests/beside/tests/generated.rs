@@ -9,6 +9,7 @@ use generate::construct::{self, Constructed};
 use generate::damage::damaged;
 use generate::pairs::{accepted, Pair, Scale};
 use generate::random::Random;
+use generate::wraps::in_tables;
 use reference::{Verdict, LONGEST_FILE, TABLE_WORDS};
 use std::collections::{BTreeMap, BTreeSet};
 
@@ -19,6 +20,9 @@ const LEAST_EACH: usize = 50;
 struct Tally {
     counts: BTreeMap<u32, usize>,
     states: BTreeMap<u32, Vec<u64>>,
+    /// Accepted pairs with a store that wraps.
+    wrap_up: usize,
+    wrap_down: usize,
     total: u64,
 }
 
@@ -55,6 +59,7 @@ impl Tally {
 
     fn print(&self) {
         println!("{} comparisons, accepted {}", self.total, self.of(0));
+        println!("accepted as generated, and wrap: up {}, down {}", self.wrap_up, self.wrap_down);
         print_rows(&NUMBERS, |number| self.of(number).to_string());
         println!("states compared, and how many different ones:");
         print_rows(&with_states(), |number| {
@@ -96,12 +101,16 @@ fn generated_files() {
     tally.print();
     often_enough("comparisons", &NUMBERS, |number| tally.of(number));
     often_enough("comparisons of states", &with_states(), |number| tally.with_states(number));
+    assert!(tally.wrap_up.min(tally.wrap_down) >= LEAST_EACH, "too few pairs wrap");
 }
 
 /// The pair itself, versions with damage, and one fault whose verdict is known.
 fn one_pair(random: &mut Random, pair: &Pair, tally: &mut Tally) {
     let verdict = tally.compare(&pair.handler_file.bytes, &pair.proof_file.bytes);
     assert!(matches!(verdict, Verdict::Accepted(_)), "{verdict:?} of {:?}", pair.handler);
+    let wraps = in_tables(&pair.handler.space, &pair.derivation, &pair.handler.statement);
+    tally.wrap_up += usize::from(wraps.up);
+    tally.wrap_down += usize::from(wraps.down);
     for _ in 0..30 {
         let (handler, proof) = damaged(random, pair);
         tally.compare(&handler, &proof);

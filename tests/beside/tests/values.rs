@@ -23,17 +23,38 @@ fn node(step: Step, states: usize, p: StateSet, children: Vec<Derivation>) -> De
     Derivation { step, tables, children }
 }
 
+/// Whether, with sizes 2 and 3, the store leads from one state to the other and to no third: Q is
+/// held to that (42).
+fn leads(variable: usize, value: i64, from: usize, end: usize) {
+    for other in 0..6 {
+        let mut root = node(Step::Assignment, 6, StateSet::NONE.with(from), vec![]);
+        root.tables.q = Relation::none();
+        root.tables.q.set_row(from, StateSet::NONE.with(other));
+        let expected = if other == end { Verdict::Accepted(1) } else { at_node(42, 0) };
+        assert_eq!(verdict(&[2, 3], store(variable, number(value)), root), expected);
+    }
+}
+
 /// With sizes 2 and 3, values 1 and 2 are state 5: a store of 0 in the first leads to state 2,
 /// one in the second to state 3.
 #[test]
 fn states_count_variable_0_as_most_significant() {
-    for (variable, end) in [(0, 2), (1, 3)] {
-        for other in 0..6 {
-            let mut root = node(Step::Assignment, 6, StateSet::NONE.with(5), vec![]);
-            root.tables.q = Relation::none();
-            root.tables.q.set_row(5, StateSet::NONE.with(other));
-            let expected = if other == end { Verdict::Accepted(1) } else { at_node(42, 0) };
-            assert_eq!(verdict(&[2, 3], store(variable, number(0)), root), expected);
+    leads(0, 0, 5, 2);
+    leads(1, 0, 5, 3);
+}
+
+/// A store leaves the remainder by the size of its own variable, from 0 up, and the other variable
+/// as it is.
+#[test]
+fn stores_wrap() {
+    for (value, left) in [(2, 0), (3, 1), (127, 1), (-1, 1), (-2, 0), (-127, 1), (-128, 0)] {
+        for from in 0..6 {
+            leads(0, value, from, left * 3 + from % 3);
+        }
+    }
+    for (value, left) in [(3, 0), (4, 1), (127, 1), (-1, 2), (-2, 1), (-3, 0), (-127, 2)] {
+        for from in 0..6 {
+            leads(1, value, from, from / 3 * 3 + left);
         }
     }
 }

@@ -68,22 +68,17 @@ impl Author<'_> {
         Statement::Assignment(variable, self.stored(variable, scope))
     }
 
-    /// A value for a store: mostly one that fits at every state.
+    /// A value for a store. A variable with a direction gets its last value, at times as a number
+    /// that wraps to it.
     fn stored(&mut self, variable: usize, scope: &Scope) -> Expression {
-        let top = self.space.sizes()[variable] as i64 - 1;
-        match self.directions[variable] {
-            Direction::Rising => return Expression::Integer(top),
-            Direction::Falling => return Expression::Integer(0),
-            Direction::Free => {}
-        }
-        for _ in 0..6 {
-            let value = self.integer(scope, 2);
-            let fits = |s: usize| (0..=top).contains(&value.value(self.space.values(s)));
-            if (0..self.space.states()).all(fits) || self.random.chance(4) {
-                return value;
-            }
-        }
-        Expression::Integer(self.random.between(0, top as usize) as i64)
+        let size = self.space.sizes()[variable] as i64;
+        let last = match self.directions[variable] {
+            Direction::Rising => size - 1,
+            Direction::Falling => 0,
+            Direction::Free => return self.integer(scope, 2),
+        };
+        let rounds = *self.random.pick(&[0, 0, 0, 0, 1, -1]);
+        Expression::Integer(last + rounds * size)
     }
 
     fn integer(&mut self, scope: &Scope, depth: usize) -> Expression {
@@ -162,12 +157,12 @@ impl Author<'_> {
             Direction::Free => self.random.chance(50),
             direction => direction == Direction::Rising,
         };
-        let (comparison, operation, bound) = if rises {
-            (Operation::Less, Operation::Add, self.random.between(1, top as usize) as i64)
-        } else {
-            let bound = self.random.between(0, top as usize - 1) as i64;
-            (Operation::Greater, Operation::Subtract, bound)
-        };
+        // A free counter may also go away from the bound, and end once it has wrapped.
+        let wraps = self.directions[counter] == Direction::Free && self.random.chance(25);
+        let (comparison, least) =
+            if rises != wraps { (Operation::Less, 1) } else { (Operation::Greater, 0) };
+        let bound = self.random.between(least, least + top as usize - 1) as i64;
+        let operation = if rises { Operation::Add } else { Operation::Subtract };
         let read = || Expression::Variable(counter);
         let test = operate(comparison, read(), Expression::Integer(bound));
         (test, operate(operation, read(), Expression::Integer(1)))

@@ -95,7 +95,7 @@ impl Deriver<'_> {
         }
         let (mut store, mut g) = (Relation::none(), Relation::none());
         for s in demand.p.members() {
-            let end = self.space.store(s, variable, value.value(self.space.values(s)))?;
+            let end = self.space.store(s, variable, value.value(self.space.values(s)));
             store.set_row(s, StateSet::NONE.with(end));
             g.set_row(s, StateSet::NONE.with(end).without(s));
         }

@@ -4,6 +4,7 @@
 //! from; changes by others stay within a layer, an own step leads to the next one.
 
 use crate::steps::{turn, Turn};
+use crate::wraps::{in_turn, Wraps};
 use reference::language::{Handler, Statement};
 use reference::states::{Relation, StateSet};
 use reference::{check, handler_file, proof_file, Verdict, TABLE_WORDS};
@@ -34,11 +35,12 @@ pub enum Breach {
 
 #[derive(Clone, Copy, PartialEq, Eq, Debug)]
 pub enum Exploration {
-    /// All claims hold; so many moments were looked at, and so many own steps the longest
-    /// run makes.
+    /// All claims hold; so many moments were looked at, so many own steps the longest run
+    /// makes, and so its stores wrap.
     Holds {
         moments: usize,
         longest: u32,
+        wraps: Wraps,
     },
     Broken(Breach),
     /// Given up: too many moments.
@@ -89,7 +91,10 @@ pub fn explore(handler: &Handler, promise: &Promise, most: usize) -> Exploration
             Err(breach) => return Exploration::Broken(breach),
         };
     }
-    Exploration::Holds { moments, longest }
+    let remaining = explorer.remaining.iter();
+    let wraps =
+        remaining.map(|rest| in_turn(&handler.space, rest)).fold(Wraps::default(), Wraps::or);
+    Exploration::Holds { moments, longest, wraps }
 }
 
 /// The layer with every change by others, any number of them in a row.

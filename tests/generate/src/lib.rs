@@ -18,3 +18,4 @@ pub mod renumber;
 pub mod steps;
 pub mod vacuous;
 pub mod words;
+pub mod wraps;

@@ -1,11 +1,11 @@
 //! The single steps (docs/RULES.md), written out anew so that they owe nothing to the
-//! evaluation that the checker uses.
+//! evaluation and the stores that the checker uses.
 
 use reference::language::{Expression, Operation, Statement};
 use reference::space::Space;
 
 /// What is open at a moment: what each step leaves, and whether some part that has its turn
-/// stands still before a store out of range.
+/// stands still, as one does whose values are of the wrong kind.
 #[derive(Clone, Default, Debug)]
 pub struct Turn {
     pub open: Vec<(Statement, usize)>,
@@ -34,7 +34,7 @@ pub fn turn(space: &Space, statement: &Statement, state: usize) -> Turn {
     match statement {
         Statement::Nil => Turn::default(),
         Statement::Assignment(variable, Expression::Integer(value)) => {
-            store(space, state, *variable, *value)
+            Turn::only(Statement::Nil, stored(space, state, *variable, *value))
         }
         Statement::Assignment(variable, value) => {
             of_expression(space, value, state, |value| Statement::Assignment(*variable, value))
@@ -57,11 +57,13 @@ pub fn turn(space: &Space, statement: &Statement, state: usize) -> Turn {
     }
 }
 
-fn store(space: &Space, state: usize, variable: usize, value: i64) -> Turn {
-    match space.store(state, variable, value) {
-        Some(end) => Turn::only(Statement::Nil, end),
-        None => Turn { open: vec![], stands_still: true },
-    }
+/// The state after a store, by its values: a register goes from its size − 1 on to 0, and from 0
+/// back to its size − 1.
+fn stored(space: &Space, state: usize, variable: usize, value: i64) -> usize {
+    let size = space.sizes()[variable] as i64;
+    let mut values = *space.values(state);
+    values[variable] = (value % size + size) % size;
+    space.sizes().iter().zip(values).fold(0, |number, (size, value)| number * size + value as usize)
 }
 
 fn parallel(space: &Space, left: &Statement, right: &Statement, state: usize) -> Turn {
@@ -81,33 +83,42 @@ fn of_expression(
     state: usize,
     around: impl Fn(Expression) -> Statement,
 ) -> Turn {
-    let open = reads(space, expression, state).into_iter().map(|e| (around(e), state)).collect();
-    Turn { open, stands_still: false }
+    let ready = reads(space, expression, state);
+    // A constant that gets here is of the wrong kind.
+    let stands_still = ready.is_empty() || ready.contains(&None);
+    let open = ready.into_iter().flatten().map(|e| (around(e), state)).collect();
+    Turn { open, stands_still }
 }
 
-/// What one step can make of an expression.
-fn reads(space: &Space, expression: &Expression, state: usize) -> Vec<Expression> {
+/// What each step that is ready makes of an expression, or none where it stands still.
+fn reads(space: &Space, expression: &Expression, state: usize) -> Vec<Option<Expression>> {
     match expression {
         Expression::Integer(_) | Expression::Truth(_) => vec![],
         Expression::Variable(variable) => {
-            vec![Expression::Integer(space.values(state)[*variable])]
+            vec![Some(Expression::Integer(space.values(state)[*variable]))]
+        }
+        Expression::Operation(operation, left, right)
+            if is_constant(left) && is_constant(right) =>
+        {
+            vec![result(*operation, left, right)]
         }
         Expression::Operation(operation, left, right) => {
-            if let Some(result) = result(*operation, left, right) {
-                return vec![result];
-            }
             let with = |left: Expression, right: Expression| {
                 Expression::Operation(*operation, Box::new(left), Box::new(right))
             };
-            let on_left = reads(space, left, state).into_iter().map(|l| with(l, (**right).clone()));
-            let on_right =
-                reads(space, right, state).into_iter().map(|r| with((**left).clone(), r));
+            let (on_left, on_right) = (reads(space, left, state), reads(space, right, state));
+            let on_left = on_left.into_iter().map(|l| Some(with(l?, (**right).clone())));
+            let on_right = on_right.into_iter().map(|r| Some(with((**left).clone(), r?)));
             on_left.chain(on_right).collect()
         }
     }
 }
 
-/// The result, once both operands are constants of the right kind.
+fn is_constant(expression: &Expression) -> bool {
+    matches!(expression, Expression::Integer(_) | Expression::Truth(_))
+}
+
+/// The result on two constants, if they are of the right kind.
 fn result(operation: Operation, left: &Expression, right: &Expression) -> Option<Expression> {
     use Expression::{Integer, Truth};
     match (operation, left, right) {

@@ -7,19 +7,40 @@ use generate::guests::guests;
 use generate::pairs::{accepted, Scale};
 use generate::programs::{count_down, number, parallel, read, sequence, store};
 use generate::random::Random;
-use reference::language::{Handler, Operation, Statement};
+use generate::wraps::Wraps;
+use reference::language::{Expression, Handler, Operation, Statement};
 use reference::space::Space;
 use reference::states::{Relation, StateSet};
 use reference::{compose, Composition, TABLE_WORDS};
 
 const MOST_MOMENTS: usize = 60_000;
 
-/// How many own steps the longest run makes, or none where the exploration was given up.
-fn longest_run(exploration: Exploration, handler: &[u8], proof: &[u8]) -> Option<u32> {
+/// How many own steps the longest run makes and how its stores wrap, or none where the
+/// exploration was given up.
+fn longest_run(exploration: Exploration, handler: &[u8], proof: &[u8]) -> Option<(u32, Wraps)> {
     match exploration {
         Exploration::Broken(breach) => panic!("{breach:?} {handler:02X?} {proof:02X?}"),
-        Exploration::Holds { longest, .. } => Some(longest),
+        Exploration::Holds { longest, wraps, .. } => Some((longest, wraps)),
         Exploration::TooLarge => None,
+    }
+}
+
+/// What the explored pairs are like.
+#[derive(Default, Debug)]
+struct Explored {
+    whole: usize,
+    long: usize,
+    wrap_up: usize,
+    wrap_down: usize,
+}
+
+impl Explored {
+    fn count(&mut self, run: Option<(u32, Wraps)>) {
+        let Some((longest, wraps)) = run else { return };
+        self.whole += 1;
+        self.long += usize::from(longest > 10);
+        self.wrap_up += usize::from(wraps.up);
+        self.wrap_down += usize::from(wraps.down);
     }
 }
 
@@ -27,30 +48,29 @@ fn longest_run(exploration: Exploration, handler: &[u8], proof: &[u8]) -> Option
 #[test]
 fn accepted_pairs_keep_demand_3() {
     let mut random = Random::new(0xE1);
-    let (mut whole, mut damaged_too, mut long) = (0, 0, 0);
+    let (mut generated, mut damaged_too) = (Explored::default(), Explored::default());
     for _ in 0..600 {
         let pair = accepted(&mut random, Scale::SMALL);
         let (handler, proof) = (&pair.handler_file.bytes, &pair.proof_file.bytes);
         let exploration =
             explore_files(handler, proof, MOST_MOMENTS).expect("a generated pair is accepted");
-        let longest = longest_run(exploration, handler, proof);
-        whole += usize::from(longest.is_some());
-        long += usize::from(longest > Some(10));
+        generated.count(longest_run(exploration, handler, proof));
         for _ in 0..12 {
             let (handler, proof) = damaged(&mut random, &pair);
             let explored = explore_files(&handler, &proof, MOST_MOMENTS);
-            let longest = explored.and_then(|found| longest_run(found, &handler, &proof));
-            damaged_too += usize::from(longest.is_some());
+            damaged_too.count(explored.and_then(|found| longest_run(found, &handler, &proof)));
         }
     }
-    assert!(whole > 500 && damaged_too > 1000 && long > 100, "{whole} {damaged_too} {long}");
+    let Explored { whole, long, wrap_up, wrap_down } = generated;
+    assert!(whole > 500 && long > 100 && wrap_up > 50 && wrap_down > 50, "{generated:?}");
+    assert!(damaged_too.whole > 1000, "{damaged_too:?}");
 }
 
 /// The parallel of two small guests, and of three where that is explored too.
 #[test]
 fn composed_pairs_keep_demand_3() {
     let mut random = Random::new(0xE4);
-    let (mut whole, mut long, mut again) = (0, 0, 0);
+    let (mut two_sides, mut again) = (Explored::default(), 0);
     for _ in 0..600 {
         let pairs = guests(&mut random, Scale::SMALL, 3);
         let [one, two, three] = [0, 1, 2].map(|index| {
@@ -58,13 +78,12 @@ fn composed_pairs_keep_demand_3() {
             (pair.handler_file.bytes.clone(), pair.proof_file.bytes.clone())
         });
         let Some(both) = composed(&one, &two) else { continue };
-        let longest = explored(&both);
-        whole += usize::from(longest.is_some());
-        long += usize::from(longest > Some(10));
+        two_sides.count(explored(&both));
         let all = composed(&both, &three).and_then(|all| explored(&all));
         again += usize::from(all.is_some());
     }
-    assert!(whole > 550 && long > 100 && again > 500, "{whole} {long} {again}");
+    let Explored { whole, long, .. } = two_sides;
+    assert!(whole > 550 && long > 100 && again > 500, "{two_sides:?} {again}");
 }
 
 type Files = (Vec<u8>, Vec<u8>);
@@ -78,8 +97,8 @@ fn composed(first: &Files, second: &Files) -> Option<Files> {
     }
 }
 
-/// How many own steps the longest run of an accepted pair makes, or none where it was given up.
-fn explored((handler, proof): &Files) -> Option<u32> {
+/// The longest run of an accepted pair, or none where the exploration was given up.
+fn explored((handler, proof): &Files) -> Option<(u32, Wraps)> {
     let exploration = explore_files(handler, proof, MOST_MOMENTS).expect("it is accepted");
     longest_run(exploration, handler, proof)
 }
@@ -148,13 +167,43 @@ fn a_countdown_ends() {
     assert_eq!(explore(&handler, &promise, 9000), Exploration::Broken(Breach::Steps));
 }
 
-/// A store out of range stands still, even where the other side still steps.
+/// Where c has size 3, c ← c + 1 leads from 2 to 0, and c ← c − 1 from 0 to 2; nowhere else.
 #[test]
-fn a_store_out_of_range_stands_still() {
-    let handler = handler(
-        &[2, 2],
-        parallel(store(0, number(2)), sequence(store(1, number(1)), store(1, number(0)))),
-    );
-    let promise = lenient(&handler, 100);
-    assert_eq!(explore(&handler, &promise, 1000), Exploration::Broken(Breach::StandsStill));
+fn a_register_wraps() {
+    for (operation, s, end, wraps) in [
+        (Operation::Add, 2, 0, Wraps { up: true, down: false }),
+        (Operation::Subtract, 0, 2, Wraps { up: false, down: true }),
+    ] {
+        let handler = handler(&[3], store(0, operate(operation, read(0), number(1))));
+        let mut promise = lenient(&handler, 3);
+        promise.p = StateSet::NONE.with(s);
+        let only = |s: usize, t: usize| {
+            let mut relation = Relation::none();
+            relation.set_row(s, StateSet::NONE.with(t));
+            relation
+        };
+        (promise.g, promise.q) = (only(s, end), only(s, end));
+        let explored = explore(&handler, &promise, 1000);
+        assert!(matches!(explored, Exploration::Holds { longest: 3, wraps: w, .. } if w == wraps));
+        promise.q = without(&lenient(&handler, 3).q, s, end);
+        assert_eq!(explore(&handler, &promise, 1000), Exploration::Broken(Breach::Postcondition));
+        promise.g = without(&lenient(&handler, 3).g, s, end);
+        assert_eq!(explore(&handler, &promise, 1000), Exploration::Broken(Breach::Guarantee));
+    }
+}
+
+/// A value of the wrong kind stands still, even where the other side still steps.
+#[test]
+fn a_wrong_kind_stands_still() {
+    let wrong = [
+        store(0, Expression::Truth(true)),
+        Statement::If(number(1), Box::new(Statement::Nil)),
+        store(0, operate(Operation::Add, number(1), Expression::Truth(true))),
+    ];
+    for left in wrong {
+        let right = sequence(store(1, number(1)), store(1, number(0)));
+        let handler = handler(&[2, 2], parallel(left, right));
+        let promise = lenient(&handler, 100);
+        assert_eq!(explore(&handler, &promise, 1000), Exploration::Broken(Breach::StandsStill));
+    }
 }

@@ -3,6 +3,7 @@
 use generate::derivation::{Derivation, Step, Tables};
 use generate::pairs::{accepted, Pair, Scale};
 use generate::random::Random;
+use generate::wraps::{in_tables, Wraps};
 use reference::language::Statement;
 use reference::space::Space;
 use reference::{check, handler_file, proof_file, Verdict, TABLE_WORDS};
@@ -48,7 +49,7 @@ fn pairs_are_varied() {
 
 type Shape = (&'static str, fn(&Pair) -> bool);
 
-const SHAPES: [Shape; 13] = [
+const SHAPES: [Shape; 16] = [
     ("a skip", |pair| any(&pair.derivation, &|n| matches!(n.step, Step::Skip))),
     ("an assignment", |pair| any(&pair.derivation, &|n| matches!(n.step, Step::Assignment))),
     ("a sequence", |pair| any(&pair.derivation, &|n| matches!(n.step, Step::Sequence))),
@@ -62,12 +63,28 @@ const SHAPES: [Shape; 13] = [
     ("a loop whose test reads a moved variable", |pair| {
         reads_moved(&pair.derivation, &pair.handler.statement, &pair.handler.space)
     }),
+    ("a store that wraps up", |pair| wraps(pair).up),
+    ("a store that wraps down", |pair| wraps(pair).down),
+    ("a store that wraps in a loop", |pair| {
+        wraps_in_loop(&pair.derivation, &pair.handler.statement, &pair.handler.space)
+    }),
     ("64 states", |pair| pair.handler.space.states() == 64),
     ("an empty P", |pair| pair.derivation.tables.p.members().next().is_none()),
 ];
 
 fn any(node: &Derivation, shape: &dyn Fn(&Derivation) -> bool) -> bool {
     shape(node) || node.children.iter().any(|child| any(child, shape))
+}
+
+fn wraps(pair: &Pair) -> Wraps {
+    in_tables(&pair.handler.space, &pair.derivation, &pair.handler.statement)
+}
+
+fn wraps_in_loop(node: &Derivation, statement: &Statement, space: &Space) -> bool {
+    let here = matches!(node.step, Step::While { .. })
+        && in_tables(space, node, statement) != Wraps::default();
+    let below = node.step.below(statement);
+    here || node.children.iter().zip(below).any(|(child, part)| wraps_in_loop(child, part, space))
 }
 
 /// A loop that starts somewhere, with a K that leaves out a part of P.

@@ -128,15 +128,12 @@ impl Examiner<'_> {
     }
 
     fn assignment(&self, own: &Tables, variable: usize, value: &Expression) -> Outcome {
-        let mut stores = Vec::with_capacity(64);
-        for s in own.p.members() {
-            let end = self.space.store(s, variable, value.value(self.space.values(s)));
-            stores.push([s, end.ok_or_else(|| (40, vec![s]))?]);
-        }
         must(value.occurrences(&self.moved(own)) == 0, 41)?;
-        let mut stores = stores.into_iter();
-        unless(stores.clone().find(|[s, end]| !own.q.has(*s, *end)), 42)?;
-        unless(stores.find(|[s, end]| s != end && !own.g.has(*s, *end)), 43)
+        let end = |s: usize| self.space.store(s, variable, value.value(self.space.values(s)));
+        let stores: Vec<[usize; 2]> = own.p.members().map(|s| [s, end(s)]).collect();
+        let mut pairs = stores.iter().copied();
+        unless(pairs.clone().find(|[s, end]| !own.q.has(*s, *end)), 42)?;
+        unless(pairs.find(|[s, end]| s != end && !own.g.has(*s, *end)), 43)
     }
 
     fn if_rule(&self, own: &Tables, body: &Tables, test: &Expression) -> Outcome {

@@ -34,12 +34,13 @@ impl Space {
         &self.values[state]
     }
 
-    /// The state after a store, or none where the value is out of the variable's range.
-    pub fn store(&self, state: usize, variable: usize, value: i64) -> Option<usize> {
-        let value = usize::try_from(value).ok().filter(|v| *v < self.sizes[variable])?;
+    /// The state after a store. A variable counts modulo its size: with size 3, a store of 3 leaves
+    /// 0, and a store of −1 leaves 2.
+    pub fn store(&self, state: usize, variable: usize, value: i64) -> usize {
+        let left = value.rem_euclid(self.sizes[variable] as i64) as usize;
         let stride: usize = self.sizes[variable + 1..].iter().product();
         let present = self.values[state][variable] as usize;
-        Some(state - present * stride + value * stride)
+        state - present * stride + left * stride
     }
 
     /// Whether the two states differ in the variable.

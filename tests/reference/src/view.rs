@@ -30,7 +30,7 @@ fn is_of_proof_file(number: u32) -> bool {
 
 /// Whether a check gives this number with a node.
 fn is_of_a_node(number: u32) -> bool {
-    let rules = matches!(number, 30..=38 | 40..=43 | 45 | 46 | 50..=57 | 60 | 61 | 65 | 66);
+    let rules = matches!(number, 30..=38 | 41..=43 | 45 | 46 | 50..=57 | 60 | 61 | 65 | 66);
     rules || matches!(number, 70..=73 | 80)
 }
 

@@ -9,7 +9,7 @@ use mathlib.Core.Option.{none, some}
 use mathlib.Core.Path.{_≡_, refl, sym, ap, _∙_}
 use borrow.Author.Needs.{needs, sfits-of}
 use borrow.Author.Tests.{lt-ltb, le-ltb}
-use lib.Dec.{ltb}
+use lib.Dec.{ltb, eqb}
 use lib.IntN.{ℤ, pos}
 use lib.ListN.{getD}
 use mir.Syntax.{w64}
@@ -32,13 +32,13 @@ use Rattle.evaluation.proofs.successors.Tie as tie
 
 -- Whether a store of the row's integer at s leads to t, a state that a set can hold.
 abbrev ends : Variable → List ℤ → ℕ → ℕ → Bool
-ends x integers s t = ltb t capacity && leadsTo (storedBy x s (getD integers s (pos 0))) t
+ends x integers s t = ltb t capacity && eqb (storedBy x s (getD integers s (pos 0))) t
 
 abbrev Inv-loop : tie.InvT-loop
-Inv-loop src v at rows₀ integers x s₀ end rows s = (s ≤ end) × RowsFilled (ends x integers) s rows
+Inv-loop src v at rows₀ integers x present s₀ end rows s = (s ≤ end) × RowsFilled (ends x integers) s rows
 
 abbrev μ-loop : tie.MeasureT-loop
-μ-loop src v at rows₀ integers x s₀ end rows s = end - s
+μ-loop src v at rows₀ integers x present s₀ end rows s = end - s
 
 no-integer : (m : Machine) (s v t k : ℕ) (z : ℤ) (b : Bool) → (k ≡ integersKind → ⊥)
     → false ≡ leadsTo (storeOf m s v (getD (some (int z) ∷ some (truth b) ∷ []) k none)) t
@@ -56,14 +56,15 @@ module _ (head : Head) (bytes : List ℕ) (at : ℕ) (row : Values) (known : Eva
       rw (← known .each s l) (no-integer (machineIn head) s v t (row .kind) (integerIn row s) (has (row .truths) s) other)
 
   stores : row .kind ≡ integersKind → (x : Variable) → x ≡ variableIn head v → (s : ℕ) → s < machineIn head .states → (t : ℕ)
-      → (ltb t capacity && leadsTo (storedBy x s (integerIn row s)) t) ≡ after s t
+      → (ltb t capacity && eqb (storedBy x s (integerIn row s)) t) ≡ after s t
   unfolding after afterStore
   stores is x same s l t =
       let integer : valueIn row s ≡ some (int (integerIn row s)) = rw is in
-      let here : afterStore (machineIn head) v (exprIn bytes (head .count) at) s ≡ storedBy x s (integerIn row s)
-      = ap (storeOf (machineIn head) s v) (sym (known .each s l) ∙ integer) ∙ rw same (store-variable head v s l (integerIn row s)) in
-      rw (← here)
-      (bool-ext _ _ (and-right (ltb t capacity) _) (λ h. and-both _ _ (lt-ltb t capacity (omega (arith, after-below head v (exprIn bytes (head .count) at) s t l h, states-most head))) h))
+      let here : afterStore (machineIn head) v (exprIn bytes (head .count) at) s ≡ some (storedBy x s (integerIn row s))
+      = ap (storeOf (machineIn head) s v) (sym (known .each s l) ∙ integer) ∙ rw same (ap some (store-variable head v s l (integerIn row s))) in
+      rw here
+      (bool-ext _ _ (and-right (ltb t capacity) _) (λ h. and-both _ _ (lt-ltb t capacity
+      (omega (arith, after-below head v (exprIn bytes (head .count) at) s t l (ap (λ o. leadsTo o t) here ∙ h), states-most head))) h))
 
   -- Rows that hold the states after the stores below N and are empty from N on.
   filled : (rows : List ℕ) → ((s : ℕ) → s < machineIn head .states → (t : ℕ) → mem (entryAt rows s) t ≡ after s t)
@@ -86,25 +87,43 @@ returns c =
 small-variable : (k : tie.After-variable-of Inv-loop μ-loop) → isSmall (k .variable-of .result) ≡ true
 small-variable k = ap isSmall (k .variable-of .ensures) ∙ variable-small _ _
 
+store-requires : tie.Need-store-requires Inv-loop μ-loop
+store-requires c κs =
+    let l = c .before .before .before in
+    let s = l .loop .s in
+    let x = l .before .before .variable-of in
+    let present = l .before .variable-row in
+    let row = l .before .before .before .before .before .before .values-at in
+    let all : x .result .states ≡ machineIn (l .before .before .before .before .before .before .before .before .args .head) .states
+    = ap (λ y. y .states) (x .ensures) ∙ variable-states _ _ in
+    let h = small-variable (l .before .before) in (
+      h,
+      omega (arith, small _ h),
+      toZ-ofZ {w = w64} {z = getD (present .result) s (pos 0)} (sfits-of (c .before .store-arg .given)) ∙ present .ensures s (omega arith),
+      rw (toZ-ofZ {w = w64} {z = getD (row .result .integers) s (pos 0)} (sfits-of (c .store-arg2 .given)))
+          (row .ensures .small (rw (l .before .before .before .before .if1 .left) (omega arith)) s (rw (← all) (omega arith))),
+    )
+
 loop-again : tie.Need-loop-again Inv-loop μ-loop
 loop-again c =
-    let d = c .before .before .before in
-    let l = d .before .before .before in
-    let x = l .before .variable-of .result in
-    let integers = l .before .before .before .before .before .values-at .result .integers in
-    let same = toZ-ofZ {w = w64} {z = getD integers (l .loop .s) (pos 0)} (sfits-of (d .before .store-arg .given)) in (
+    let d = c .before .before .before .before in
+    let l = d .before .before .before .before in
+    let x = l .before .before .variable-of .result in
+    let integers = l .before .before .before .before .before .before .values-at .result .integers in
+    let same = toZ-ofZ {w = w64} {z = getD integers (l .loop .s) (pos 0)} (sfits-of (d .before .store-arg2 .given)) in (
       omega arith,
       rw (c .before .put-entry .ensures)
-          (rows-more (ends x integers) (l .loop .s) _ _ (omega (arith, small x (small-variable (l .before))))
-          (λ t. d .store .ensures t ∙ ap (λ z. ltb t capacity && leadsTo (storedBy x (l .loop .s) z) t) same) (l .loop .inv .1)),
+          (rows-more (ends x integers) (l .loop .s) _ _ (omega (arith, small x (small-variable (l .before .before))))
+          (λ t. c .before .before .single .ensures t ∙ ap (λ e. ltb t capacity && eqb e t) (d .store .ensures ∙ ap (storedBy x (l .loop .s)) same))
+          (l .loop .inv .1)),
     )
 
 returns-2 : tie.Need-returns-2 Inv-loop μ-loop
 unfolding after
 returns-2 c =
     let l = c .before .loop in
-    let x = c .before .before .variable-of in
-    let k = c .before .before .before .before in
+    let x = c .before .before .before .variable-of in
+    let k = c .before .before .before .before .before in
     let known = k .before .before .values-at .ensures in
     let head = k .before .before .before .before .args .head in
     let all : machineIn head .states ≡ l .s = sym (variable-states head _) ∙ ap (λ y. y .states) (sym (x .ensures)) ∙ omega arith in
@@ -114,7 +133,9 @@ returns-2 c =
 pub successors-spec : {M : Type 1} → statement M
 successors-spec =
     tie.close
-    (tie.spec Inv-loop μ-loop (λ c κs. search needs) returns (λ c κs. search needs) (λ c. (omega arith, rows-none _)) (λ c. search needs)
-    (λ c. search needs) (λ c. omega (arith, small _ (small-variable (c .before .before))))
-    (λ c κs. let h = small-variable (c .before .before .before) in (h, omega (arith, small _ h))) (λ c. search needs)
-    (λ c. search needs) (λ c κs. search needs) (λ c. search needs) (λ c. search needs) loop-again returns-2)
+    (tie.spec Inv-loop μ-loop (λ c κs. search needs) returns (λ c κs. search needs)
+    (λ c κs. let known = small _ (small-variable c) in (known .few, known .weighs, known .sized))
+    (λ c. (omega arith, rows-none _)) (λ c. search needs) (λ c. search needs)
+    (λ c. omega (arith, small _ (small-variable (c .before .before .before)))) (λ c. search needs) (λ c. search needs)
+    (λ c. omega (arith, small _ (small-variable (c .before .before .before .before)))) store-requires (λ c. search needs)
+    (λ c. search needs) (λ c. search needs) (λ c κs. search needs) (λ c. search needs) (λ c. search needs) loop-again returns-2)

@@ -59,8 +59,9 @@ fn of_skips_and_assignments() {
     names(nil(), skip(&[1, 2, 4], none(), pairs(&[(1, 1)])), 35, &[2]);
     let store = |p: &[usize], q| node(Step::Assignment, p, none(), q, vec![]);
     let sum = |operation, left, right| set(operate(operation, left, right));
-    // Out of range from 3 on, which P does not hold.
-    names(sum(Operation::Add, c(), number(3)), store(&[1, 4, 5], every()), 40, &[4]);
+    // 1 comes to 4, and from 3 on the sum wraps: 4 comes to 1, and 5 to 2.
+    let wrapped = sum(Operation::Add, c(), number(3));
+    names(wrapped, store(&[1, 4, 5], pairs(&[(1, 4)])), 42, &[4, 1]);
     // 1 comes to 4, 2 to 3, and 3 to 2.
     let from_5 = sum(Operation::Subtract, number(5), c());
     names(from_5, store(&[1, 2, 3], pairs(&[(1, 4)])), 42, &[2, 3]);

@@ -10,6 +10,7 @@ pub fn claims() -> Vec<Claim> {
     claims.extend(starts());
     claims.extend(before_an_assignment());
     claims.extend(waits());
+    claims.extend(wraps());
     claims.extend(ifs_in_a_body());
     claims.extend(idles());
     claims
@@ -43,7 +44,7 @@ fn countdowns() -> Vec<Claim> {
     vec![
         with("countdown", &|_| {}),
         with("countdown-52", &|tables| tables.k = c.set(|[c, ..]| c > 1)),
-        with("countdown-40", &|tables| tables.k = c.all()),
+        with("countdown-wraps-42", &|tables| tables.k = c.all()),
         with("countdown-42", &|tables| {
             tables.w = c.relation(|[c, ..], [d, ..]| d + 1 == c && c != 2);
         }),
@@ -132,6 +133,40 @@ fn waits() -> Vec<Claim> {
         with("wait-53", &|tables| tables.k = w.set(|[f, t, ..]| f == 0 && t > 0)),
         with("wait-55", &|tables| tables.w = lower()),
         with("wait-57", &|tables| tables.w = lower().join(&tables.tables.r)),
+    ]
+}
+
+/// `while c > 0 do c ← c + 1`, which ends where c wraps; and with a test that is always true.
+fn wraps() -> Vec<Claim> {
+    let c = counter();
+    let tables = || Loop {
+        tables: Tables {
+            p: c.all(),
+            r: none(),
+            g: c.relation(|[c, ..], [d, ..]| c > 0 && d == (c + 1) % 4),
+            q: c.ending(|[c, ..]| c == 0),
+        },
+        k: c.set(|[c, ..]| c > 0),
+        w: c.relation(|[c, ..], [d, ..]| c > 0 && (d > c || d == 0)),
+    };
+    let with = |name, test: Expression, change: &dyn Fn(&mut Loop)| {
+        let mut tables = tables();
+        change(&mut tables);
+        let body = store(0, plus(read(0), number(1)));
+        c.claim(name, repeat(test, body), tables.node(assignment))
+    };
+    let above_0 = || greater(read(0), number(0));
+    vec![
+        with("wrap", above_0(), &|_| {}),
+        with("wrap-43", above_0(), &|tables| {
+            tables.tables.g = c.relation(|[c, ..], [d, ..]| c > 0 && d == c + 1);
+        }),
+        with("wrap-42", above_0(), &|tables| {
+            tables.w = c.relation(|[c, ..], [d, ..]| c > 0 && d > c);
+        }),
+        with("wrap-51", less(read(0), number(4)), &|tables| {
+            (tables.k, tables.w) = (c.all(), c.every_pair());
+        }),
     ]
 }
 

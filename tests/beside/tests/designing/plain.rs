@@ -67,7 +67,7 @@ fn sequences() -> Vec<Claim> {
     vec![
         with("then", ending(2), two, ending(1)),
         with("then-60", w.every_pair(), two, ending(1)),
-        with("then-40", w.every_pair(), w.all(), w.every_pair()),
+        with("then-42", w.every_pair(), w.all(), w.every_pair()),
         with("then-61", ending(2), two, w.relation(|[c, ..], [d, ..]| c == 0 && d == 1)),
     ]
 }

@@ -145,6 +145,10 @@ pub fn greater(left: Expression, right: Expression) -> Expression {
     operate(Operation::Greater, left, right)
 }
 
+pub fn plus(left: Expression, right: Expression) -> Expression {
+    operate(Operation::Add, left, right)
+}
+
 pub fn minus(left: Expression, right: Expression) -> Expression {
     operate(Operation::Subtract, left, right)
 }

@@ -27,13 +27,9 @@ returns-5 c = rw (c .before .before .before .before .before .match .keys5) (c .b
 
 returns-6 : tie.Need-returns-6
 unfolding storesOn
-returns-6 c = rw (c .before .before .before .before .before .match .keys6) (c .before .before .put6 .ensures)
-
-returns-7 : tie.Need-returns-7
-unfolding storesOn
-returns-7 c =
+returns-6 c =
     let no = c .before .before .before .before .match .rest in
-    rw (ne-eqb _ 40 (no .0 .0 .0 .0 .0 .1), ne-eqb _ 41 (no .0 .0 .0 .0 .1), ne-eqb _ 42 (no .0 .0 .0 .1), ne-eqb _ 43 (no .0 .0 .1), ne-eqb _ 45 (no .0 .1), ne-eqb _ 46 (no .1))
+    rw (ne-eqb _ 41 (no .0 .0 .0 .0 .1), ne-eqb _ 42 (no .0 .0 .0 .1), ne-eqb _ 43 (no .0 .0 .1), ne-eqb _ 45 (no .0 .1), ne-eqb _ 46 (no .1))
     (c .before .before .loop-sentence .ensures)
 
 pub store-sentence-spec : {M : Type 1} → statement M
@@ -45,12 +41,10 @@ store-sentence-spec =
     (λ c. search needs) (λ c κs. search needs)
     (λ c. search needs) (λ c κs. search needs)
     (λ c. search needs) (λ c κs. search needs)
-    (λ c. search needs) (λ c κs. search needs)
     (λ c κs. search needs)
     (λ c. search needs) returns
     (λ c. search needs) returns-2
     (λ c. search needs) returns-3
     (λ c. search needs) returns-4
     (λ c. search needs) returns-5
-    (λ c. search needs) returns-6
-    (λ c. search needs) returns-7)
+    (λ c. search needs) returns-6)

@@ -1,4 +1,4 @@
--- 30 to 33, then 40 to 43; the code's n is the machine's, and the rows say where a store leads.
+-- 30 to 33, then 41 to 43; the code's n is the machine's, and the rows say where a store leads.
 use mathlib.Core.Path.{_∙_, ap}
 use borrow.Author.Needs.{needs}
 use Rattle.states.specs.Search.{holds}
@@ -7,13 +7,13 @@ use Rattle.evaluation.specs.Values.{exprIn}
 use Rattle.rules.specs.Words.{wordSpec}
 use Rattle.rules.proofs.Asking.{asked-then}
 use Rattle.rules.proofs.Movement.{unmoved-41}
-use Rattle.rules.proofs.Stores.{in-range-40, store-in-post-42, store-in-guarantee-43}
+use Rattle.rules.proofs.Stores.{store-in-post-42, store-in-guarantee-43}
 use Rattle.rules.proofs.assignment.assignment_fault.Statement.{statement}
 use Rattle.rules.proofs.assignment.assignment_fault.Tie as tie
 
 returns : tie.Need-returns
 returns c =
-    let stores = c .before .before .before .before .before .before .before .before .before .before .before .before .before in
+    let stores = c .before .before .before .before .before .before .before .before .before .before in
     let a = stores .before .before .before .before .args in
     let n = stores .before .states-in .ensures in
     let e = exprIn (a .handler .now) (a .head .count) (a .expr) in
@@ -22,18 +22,16 @@ returns c =
     let still = c .before .before .before .before .before .before .before .unmoved .ensures ∙ unmoved-41 _ _ _ (c .before .before .before .before .before .before .before .before .moved .ensures) e in
     asked-then 43 _
     (asked-then 42 _
-    (asked-then 41 _
-    (asked-then 40 _ (rw n at (c .before .before .before .before .before .before .before .before .before .before .before .before .common .ensures))
-    (c .before .before .before .before .before .before .before .before .before .ask .ensures) (rw n at (c .before .before .before .before .before .before .before .before .before .before .in-range .ensures) ∙ ap holds (in-range-40 (a .head) (a .v) e _ rows own)))
-    (c .before .before .before .before .before .before .ask2 .ensures) still)
-    (c .before .before .before .ask3 .ensures) (rw n at (c .before .before .before .before .store-in-post .ensures) ∙ ap holds (store-in-post-42 (a .head) (a .v) e _ rows own)))
-    (c .ask4 .ensures) (rw n at (c .before .store-in-guarantee .ensures) ∙ ap holds (store-in-guarantee-43 (a .head) (a .v) e _ rows own))
+    (asked-then 41 _ (rw n at (c .before .before .before .before .before .before .before .before .before .common .ensures))
+    (c .before .before .before .before .before .before .ask .ensures) still)
+    (c .before .before .before .ask2 .ensures) (rw n at (c .before .before .before .before .store-in-post .ensures) ∙ ap holds (store-in-post-42 (a .head) (a .v) e _ rows own)))
+    (c .ask3 .ensures) (rw n at (c .before .store-in-guarantee .ensures) ∙ ap holds (store-in-guarantee-43 (a .head) (a .v) e _ rows own))
 
 pub assignment-fault-spec : {M : Type 1} → statement M
 assignment-fault-spec =
     tie.close
     (tie.spec
-    (λ c κs. search needs) (λ c κs. search needs) (λ c κs. search needs) (λ c. search needs) (λ c κs. search needs)
-    (λ c κs. search needs) (λ c κs. search needs) (λ c κs. search needs) (λ c κs. search needs) (λ c. search needs)
-    (λ c κs. search needs) (λ c κs. search needs) (λ c. search needs) (λ c κs. search needs) (λ c κs. search needs)
+    (λ c κs. search needs) (λ c κs. search needs) (λ c κs. search needs) (λ c κs. search needs) (λ c κs. search needs)
+    (λ c κs. search needs) (λ c. search needs) (λ c κs. search needs) (λ c κs. search needs) (λ c. search needs)
+    (λ c κs. search needs) (λ c κs. search needs)
     returns)

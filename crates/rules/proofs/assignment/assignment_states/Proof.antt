@@ -12,51 +12,40 @@ use Rattle.search.specs.Named.{naming}
 use Rattle.rules.specs.Asking.{statesFor}
 use Rattle.rules.specs.Words.{wordRelation, wordSpec}
 use Rattle.search.proofs.Breaches.{eqb-turned}
-use Rattle.rules.proofs.Stores.{in-range-40, store-in-post-42, store-in-guarantee-43}
+use Rattle.rules.proofs.Stores.{store-in-post-42, store-in-guarantee-43}
 use Rattle.rules.proofs.Naming.{other, plain, done, before-silent, found-as, one-same, within-same, or-same}
 use Rattle.rules.proofs.assignment.assignment_states.Statement.{statement}
 use Rattle.rules.proofs.assignment.assignment_states.Tie as tie
 
 returns : tie.Need-returns
-unfolding statesFor given
+unfolding statesFor given wordRelation
 returns c fits =
     let d = c .before .before .before in
     let a = d .before .before .before .before .before .before .args in
     let n = d .before .before .before .states-in .ensures in
     rw (d .match .keys1)
-    (found-as _ _ (rw n at (c .least-state .ensures))
-    (one-same _ _ _ _ _ (rw n at (d .before .before .set-at .ensures)) (λ s l low. rw (n, lt-ltb s capacity low) at (c .before .starting .ensures s))
-    ∙ in-range-40 (a .head) (a .v) (exprIn (a .handler .now) (a .head .count) (a .expr)) _ (d .before .successors .ensures) (wordSpec (machineIn (a .head) .states) (a .work .now) (a .own))))
-
-returns-2 : tie.Need-returns-2
-unfolding statesFor given wordRelation
-returns-2 c fits =
-    let d = c .before .before .before in
-    let a = d .before .before .before .before .before .before .args in
-    let n = d .before .before .before .states-in .ensures in
-    rw (d .match .keys2)
     (found-as _ _ (rw n at (c .least-pair .ensures))
     (within-same _ _ _ (rw n at (d .before .before .set-at .ensures)) refl (c .before .rows-of .ensures)
     ∙ store-in-post-42 (a .head) (a .v) (exprIn (a .handler .now) (a .head .count) (a .expr)) _ (d .before .successors .ensures) (wordSpec (machineIn (a .head) .states) (a .work .now) (a .own))))
 
-returns-3 : tie.Need-returns-3
+returns-2 : tie.Need-returns-2
 unfolding statesFor given wordRelation
-returns-3 c fits =
+returns-2 c fits =
     let d = c .before .before .before .before .before in
     let a = d .before .before .before .before .before .before .args in
     let n = d .before .before .before .states-in .ensures in
-    rw (d .match .keys3)
+    rw (d .match .keys2)
     (found-as _ _ (rw n at (c .least-pair2 .ensures))
     (or-same _ _ _ _ (λ s t. eqb t s) eqb-turned (rw n at (d .before .before .set-at .ensures)) refl (c .before .before .before .rows-of2 .ensures)
     (rw n at (c .before .before .with-same .ensures))
     ∙ store-in-guarantee-43 (a .head) (a .v) (exprIn (a .handler .now) (a .head .count) (a .expr)) _ (d .before .successors .ensures) (wordSpec (machineIn (a .head) .states) (a .work .now) (a .own))))
 
-returns-4 : tie.Need-returns-4
+returns-3 : tie.Need-returns-3
 unfolding c41
-returns-4 c fits =
+returns-3 c fits =
     let no = c .before .match .rest in
     rw (c .before .before .before .before .states-in .ensures) at (c .common-states .ensures fits)
-    ∙ sym (ap naming (before-silent _ _ _ (other (ne-eqb _ 40 (no .0 .0 .1)) (plain _ refl (other (ne-eqb _ 42 (no .0 .1)) (other (ne-eqb _ 43 (no .1)) done))))))
+    ∙ sym (ap naming (before-silent _ _ _ (plain _ refl (other (ne-eqb _ 42 (no .0 .1)) (other (ne-eqb _ 43 (no .1)) done)))))
 
 pub assignment-states-spec : {M : Type 1} → statement M
 assignment-states-spec =
@@ -64,8 +53,6 @@ assignment-states-spec =
     (tie.spec
     (λ c κs. search needs) (λ c κs. search needs) (λ c κs. search needs) (λ c. search needs) (λ c κs. search needs) (λ c κs. search needs)
     (λ c. search needs) (λ c κs. search needs) (λ c κs. search needs) (λ c. search needs) (λ c κs. search needs) (λ c κs. search needs)
-    (λ c. search needs) (λ c κs. search needs) (λ c κs. search needs)
     returns
     returns-2
-    returns-3
-    returns-4)
+    returns-3)
