@@ -35,6 +35,7 @@ pub fn all() -> Vec<Sample> {
         small::first(),
         small::slot(),
         small::countdown(),
+        small::ring(),
         small::counters(),
         findp::sample(),
         guests::producer(),

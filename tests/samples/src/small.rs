@@ -36,6 +36,17 @@ stores of the other, so that its W must descend along those too (condition 55). 
 counters have arrived, which neither side's Q says alone (condition 66). The conditions are those of
 [RULES.md](../../docs/RULES.md).";
 
+const RING: &str = "\
+A ring buffer has 4 slots. The handler reads the entries that are left, one in each round: it moves on
+to the next slot and then lowers the count. Nobody else changes either (R has no pair).
+
+slot wraps: from slot 3 the store of slot + 1, which is 4, leaves 0. The proof allows it as it allows
+every other store. G, relation 1, has (3,1) → (0,1) and (3,2) → (0,2), and the Q of the first
+assignment, relation 4, has them too: those are conditions 43 and 42. At the end no entry is left, and
+slot is as many slots on as entries were left at the start, counted around the ring: Q, relation 2,
+leads from (3,2) to (1,0). The loop ends because left goes down in every pair of W, relation 3; slot goes
+around. The conditions are those of [RULES.md](../../docs/RULES.md).";
+
 /// The pair with the least tables for this precondition and rely.
 pub(crate) fn derived(sizes: &[usize], statement: Statement, p: StateSet, r: &Relation) -> Pair {
     let space = Space::new(sizes);
@@ -95,6 +106,25 @@ pub fn countdown() -> Sample {
         about: COUNTDOWN,
         variables: &["c"],
         pair: derived(&[4], count_down(0), StateSet::first(4), &Relation::none()),
+    }
+}
+
+pub fn ring() -> Sample {
+    let sizes = [4, 3];
+    let (slot, left) = (0, 1);
+    let on = store(slot, operate(Operation::Add, read(slot), number(1)));
+    let fewer = store(left, operate(Operation::Subtract, read(left), number(1)));
+    let some_left = operate(Operation::Greater, read(left), number(0));
+    Sample {
+        name: "ring",
+        about: RING,
+        variables: &["slot", "left"],
+        pair: derived(
+            &sizes,
+            repeat(some_left, sequence(on, fewer)),
+            StateSet::first(12),
+            &Relation::none(),
+        ),
     }
 }
 

@@ -2,6 +2,7 @@
 //! what the program writes.
 
 use generate::explore::{explore, Exploration, Promise};
+use generate::wraps::Wraps;
 use reference::{check, compose, Composition, Verdict, TABLE_WORDS};
 use samples::{all, folder, Sample};
 
@@ -20,6 +21,8 @@ fn accepted_with_their_step_numbers() {
     let known = |name: &str| numbers.iter().find(|(sample, _)| *sample == name).map(|(_, n)| *n);
     assert_eq!(known("first"), Some(1));
     assert_eq!(known("countdown"), Some(28));
+    // A loop with N = 12 and E = 2, over two stores of 3 steps and one step between them.
+    assert_eq!(known("ring"), Some(12 * 4 + 11 * (3 + 3 + 1 + 1)));
     // Two loops with N = 16 and E = 2, over stores of 3 steps, and one step for the parallel.
     assert_eq!(known("counters"), Some(2 * (16 * 4 + 15 * 4) + 1));
     // A store of a constant. Then a loop with N = 12 and E = 5, an if with E = 2, the sequence.
@@ -84,6 +87,9 @@ fn every_run_keeps_the_promise() {
             steps: steps(&sample),
         };
         let explored = explore(&sample.pair.handler, &promise, 3_000_000);
-        assert!(matches!(explored, Exploration::Holds { .. }), "{}: {explored:?}", sample.name);
+        let Exploration::Holds { wraps, .. } = explored else {
+            panic!("{}: {explored:?}", sample.name);
+        };
+        assert_eq!(wraps, Wraps { up: sample.name == "ring", down: false }, "{}", sample.name);
     }
 }
