@@ -112,7 +112,7 @@ enum handover_fault {
     HANDOVER_FAULT_CHILD_R = 36,           /* a child's R is not the one that the rule gives it */
     HANDOVER_FAULT_CHILD_G = 37,           /* a child's G is not the one that the rule gives it */
     HANDOVER_FAULT_CHILD_Q = 38,           /* a child's Q is not the one that the rule gives it */
-    /* 40 is unused since A5. */
+    /* 40 is unused since A5: a store wraps. */
     HANDOVER_FAULT_ASSIGNMENT_MOVED = 41,  /* assignment: others change a variable of the expression */
     HANDOVER_FAULT_ASSIGNMENT_Q = 42,      /* assignment: the store is not in Q [s, s'] */
     HANDOVER_FAULT_ASSIGNMENT_G = 43,      /* assignment: the store is not in G [s, s'] */

@@ -2,9 +2,8 @@
 use mathlib.Core.Path.{_∙_, sym, ap, refl}
 use borrow.Author.Needs.{needs}
 use lib.Dec.{eqb}
-use borrow.Author.Tests.{lt-ltb, ne-eqb}
+use borrow.Author.Tests.{ne-eqb}
 use Rattle.states.specs.Search.{given}
-use Rattle.states.specs.Sets.{capacity}
 use Rattle.semantics.specs.Conditions.{c41}
 use Rattle.handler.specs.Header.{machineIn}
 use Rattle.evaluation.specs.Values.{exprIn}
@@ -13,7 +12,7 @@ use Rattle.rules.specs.Asking.{statesFor}
 use Rattle.rules.specs.Words.{wordRelation, wordSpec}
 use Rattle.search.proofs.Breaches.{eqb-turned}
 use Rattle.rules.proofs.Stores.{store-in-post-42, store-in-guarantee-43}
-use Rattle.rules.proofs.Naming.{other, plain, done, before-silent, found-as, one-same, within-same, or-same}
+use Rattle.rules.proofs.Naming.{other, plain, done, before-silent, found-as, within-same, or-same}
 use Rattle.rules.proofs.assignment.assignment_states.Statement.{statement}
 use Rattle.rules.proofs.assignment.assignment_states.Tie as tie
 
