@@ -35,8 +35,8 @@ pub enum Breach {
 
 #[derive(Clone, Copy, PartialEq, Eq, Debug)]
 pub enum Exploration {
-    /// All claims hold; so many moments were looked at, so many own steps the longest run
-    /// makes, and so its stores wrap.
+    /// All claims hold. So many moments were looked at, the longest run makes so many own steps,
+    /// and in some run stores wrap so.
     Holds {
         moments: usize,
         longest: u32,

@@ -15,7 +15,7 @@ use reference::{compose, Composition, TABLE_WORDS};
 
 const MOST_MOMENTS: usize = 60_000;
 
-/// How many own steps the longest run makes and how its stores wrap, or none where the
+/// How many own steps the longest run makes, and how stores wrap in some run; none where the
 /// exploration was given up.
 fn longest_run(exploration: Exploration, handler: &[u8], proof: &[u8]) -> Option<(u32, Wraps)> {
     match exploration {
