@@ -82,23 +82,22 @@ fits-kind m k (op o l r) s h =
     let made = of-kind (apply o v w) k (rw (apply-kind o v w) (row-gives o (kindOf v) (kindOf w) k met)) in
     subst₂ (λ a b. OfKind (both (apply o) a b) k) (sym left) (sym right) made
 
+-- What a kind says of its values, it says of the value that there is.
+made-of : {A : Type 0} {make : A → Val} {o : Option Val} {k : Kind} → ((v : Val) → sameKind (kindOf v) k ≡ true → (a : A) × (v ≡ make a))
+    → OfKind o k → (a : A) × (o ≡ some (make a))
+made-of is x = let (a, same) = is (x .val) (x .kind) in (a, x .is ∙ ap some same)
+
+an-integer : (v : Val) → sameKind (kindOf v) Integer ≡ true → (z : ℤ) × (v ≡ int z)
+an-integer (int z) k = (z, refl)
+an-integer (truth b) k = absurd (false≢true k)
+
+a-truth : (v : Val) → sameKind (kindOf v) Truth ≡ true → (b : Bool) × (v ≡ truth b)
+a-truth (int z) k = absurd (false≢true k)
+a-truth (truth b) k = (b, refl)
+
 -- An assigned expression that fits is an integer, and a test that fits is true or false.
 pub fits-integer : (m : Machine) (e : Expr) (s : ℕ) → fits Integer e ≡ true → (z : ℤ) × (value m e s ≡ some (int z))
-fits-integer m e s h = by (fits-kind m Integer e s h)
-  where
-    by-kind : (v : Val) → sameKind (kindOf v) Integer ≡ true → (z : ℤ) × (v ≡ int z)
-    by-kind (int z) k = (z, refl)
-    by-kind (truth b) k = absurd (false≢true k)
-
-    by : OfKind (value m e s) Integer → (z : ℤ) × (value m e s ≡ some (int z))
-    by x = let (z, is) = by-kind (x .val) (x .kind) in (z, x .is ∙ ap some is)
+fits-integer m e s h = made-of an-integer (fits-kind m Integer e s h)
 
 pub fits-truth : (m : Machine) (e : Expr) (s : ℕ) → fits Truth e ≡ true → (b : Bool) × (value m e s ≡ some (truth b))
-fits-truth m e s h = by (fits-kind m Truth e s h)
-  where
-    by-kind : (v : Val) → sameKind (kindOf v) Truth ≡ true → (b : Bool) × (v ≡ truth b)
-    by-kind (int z) k = absurd (false≢true k)
-    by-kind (truth b) k = (b, refl)
-
-    by : OfKind (value m e s) Truth → (b : Bool) × (value m e s ≡ some (truth b))
-    by x = let (b, is) = by-kind (x .val) (x .kind) in (b, x .is ∙ ap some is)
+fits-truth m e s h = made-of a-truth (fits-kind m Truth e s h)

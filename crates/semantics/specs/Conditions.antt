@@ -85,7 +85,7 @@ module _ (m : Machine) where
   unfoldable pub isFalse : Expr → ℕ → Bool
   isFalse e s = ltb s (m .states) && isTruth false (value m e s)
 
-  -- s′, the state after an assignment's store, if there is one.
+  -- s′, the state after an assignment's store; none if the value is no integer.
   unfoldable pub afterStore : ℕ → Expr → ℕ → Option ℕ
   afterStore v e s = storeOf m s v (value m e s)
 
