@@ -307,8 +307,8 @@ pub fn agreeing(x: Variable, s: u32) -> StateSet
     }
 }
 
-// The remainder, from 0 up, of a value by a size. `%` rounds toward 0, so enough sizes are added first to leave no negative number;
-// that takes no branch.
+// The remainder, from 0 up, of a value by a size. The `%` of a signed number rounds toward 0. So enough sizes are added that the sum
+// is not negative, which needs no branch.
 fn wrapped(size: u32, z: i64) -> u32
     requires { ⌜ (0 < size) × (size ≤ capacity) × (mag z < valueBound) ⌝ }
     ensures { λ r. ⌜ r ≡ remainder z size ⌝ }
@@ -317,7 +317,7 @@ fn wrapped(size: u32, z: i64) -> u32
     lifted as u32 % size
 }
 
-// The state after a store of z at state s, where the variable has a known value.
+// The state after a store of z at state s, from the value that the variable has there.
 fn store(x: Variable, s: u32, value: i64, z: i64) -> u32
     requires { ⌜ (isSmall x ≡ true) × (s < capacity) × (value ≡ pos (valueBy x s)) × (mag z < valueBound) ⌝ }
     ensures { λ r. ⌜ r ≡ storedBy x s z ⌝ }

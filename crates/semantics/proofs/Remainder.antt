@@ -1,5 +1,5 @@
--- The remainder of an integer by a size, which a store leaves: a number below the size is its own, and adding a multiple of the size
--- does not change it.
+-- The remainder of an integer by a size, which a store leaves: a number below the size is its own remainder, and adding a multiple
+-- of the size does not change the remainder.
 use Prim.Native.Nat.{ℕ, suc, _+_, _-_, _*_, _/_, _%_, _<_}
 use native.Mathlib.Nat.{mod-lt, mod-eq-of-lt, div-add-mod', mul-add-mod-self-right}
 use native.Mathlib.Omega.{arith}

@@ -60,9 +60,9 @@ value-apart (size ∷ sizes) zero a r h =
 value-apart (size ∷ sizes) (suc v) a r h =
     rw (← mul-assoc a size (product sizes)) (value-apart sizes v (a * size) r (split size (product sizes) 0 h .some-row))
 
-value-within : (sizes : List ℕ) (s v : ℕ) → valueOf sizes s v * weight sizes v ≤ s
-value-within sizes s v =
-    omega (arith, mul-le-mul-right (weight sizes v) (mod-le (s / weight sizes v) (getD sizes v 1)), div-mul-le-self s (weight sizes v))
+-- A variable's share of a state's number is at most that number.
+pub share-within : (s weight size : ℕ) → s / weight % size * weight ≤ s
+share-within s weight size = omega (arith, mul-le-mul-right weight (mod-le (s / weight) size), div-mul-le-self s weight)
 
 -- The state with n, a value in range, in place of the variable's present value.
 abbrev put : List ℕ → ℕ → ℕ → ℕ → ℕ
@@ -90,7 +90,7 @@ module _ (size : ℕ) (sizes : List ℕ) (s : ℕ) (h : Split size (product size
       → StoreRead (size ∷ sizes) s (suc v) n (put (size ∷ sizes) s (suc v) n)
   put-later v n later =
       let is : put (size ∷ sizes) s (suc v) n ≡ s / product sizes * product sizes + put sizes (s % product sizes) v n
-      = rw (value-later v) (omega (arith, value-within sizes (s % product sizes) v)) in
+      = rw (value-later v) (omega (arith, share-within (s % product sizes) (weight sizes v) (getD sizes v 1))) in
       rw is (record {
         state = rows-below size (product sizes) (s / product sizes) _ (h .above) (later .state);
         holds = ap pos (value-apart sizes v (s / product sizes) _ (h .some-row)) ∙ later .holds;

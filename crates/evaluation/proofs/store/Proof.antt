@@ -1,7 +1,7 @@
 -- The old value is subtracted before the new one, which is below the size, is added, so no number is larger than a state plus the
 -- square of the capacity.
 use Prim.Native.Nat.{ℕ, _*_, _/_, _≤_, _<_}
-use native.Mathlib.Nat.{mod-lt, mod-le, div-mul-le-self, mul-le-mul, mul-le-mul-right, le-trans}
+use native.Mathlib.Nat.{mod-lt, mul-le-mul}
 use native.Mathlib.Omega.{arith}
 use mathlib.Core.Bool.{true}
 use mathlib.Core.Path.{_≡_, _∙_}
@@ -11,20 +11,20 @@ use mir.Val.{ofZ, toZ}
 use mir.Facts.{fits-below, toZ-ofZ}
 use Rattle.states.specs.Sets.{capacity}
 use Rattle.semantics.proofs.Remainder.{remainder-below}
+use Rattle.semantics.proofs.Storing.{share-within}
 use Rattle.evaluation.specs.declared.Variable.{Variable}
 use Rattle.evaluation.specs.Values.{valueBy, isSmall}
 use Rattle.evaluation.proofs.Laws.{small}
 use Rattle.evaluation.proofs.store.Statement.{statement}
 use Rattle.evaluation.proofs.store.Tie as tie
 
-module _ (x : Variable) (h : isSmall x ≡ true) where
-  -- What is subtracted is at most the state's number.
-  taken : (s : ℕ) → valueBy x s * x .weight ≤ s
-  taken s = le-trans (mul-le-mul-right (x .weight) (mod-le _ (x .size))) (div-mul-le-self _ (x .weight))
+-- What is subtracted is at most the state's number.
+taken : (x : Variable) (s : ℕ) → valueBy x s * x .weight ≤ s
+taken x s = share-within s (x .weight) (x .size)
 
-  -- What is added is small.
-  put : (n : ℕ) → n < x .size → n * x .weight ≤ capacity * capacity
-  put n low = mul-le-mul {n₂ = capacity} {m₂ = capacity} (omega (arith, small x h)) (small x h .light)
+-- What is added is small.
+put : (x : Variable) → isSmall x ≡ true → (n : ℕ) → n < x .size → n * x .weight ≤ capacity * capacity
+put x h n low = mul-le-mul {n₂ = capacity} {m₂ = capacity} (omega (arith, small x h)) (small x h .light)
 
 -- The old value, as the code holds it.
 held : (c : tie.Start) → toZ w64 (ofZ w64 (c .args .value)) ≡ pos (valueBy (c .args .x) (c .args .s))
@@ -54,6 +54,6 @@ pub store-spec : {M : Type 1} → statement M
 store-spec =
     tie.close
     (tie.spec cast-result
-    (λ c. rw (held (c .before)) (omega (arith, taken (c .before .args .x) (c .before .pre .0) (c .before .args .s))))
-    (λ c. rw (held (c .before)) (taken (c .before .args .x) (c .before .pre .0) (c .before .args .s))) wrapped-requires
+    (λ c. rw (held (c .before)) (omega (arith, taken (c .before .args .x) (c .before .args .s))))
+    (λ c. rw (held (c .before)) (taken (c .before .args .x) (c .before .args .s))) wrapped-requires
     (λ c. omega (arith, added c)) (λ c. omega (arith, added c)) returns)

@@ -1,13 +1,13 @@
 -- A value and `valueBound` sizes together are a number that is not negative and fits, and its remainder is the value's.
 use Prim.Native.Nat.{ℕ, suc, _+_, _-_, _*_, _≤_, _<_}
 use native.Mathlib.Omega.{arith}
-use mathlib.Core.Path.{_≡_, refl, _∙_}
+use mathlib.Core.Path.{_≡_, refl, sym, _∙_, subst}
 use borrow.Author.Needs.{needs}
 use borrow.Author.Tests.{le-ltb}
 use lib.IntN.{ℤ, pos, negsuc, _+ℤ_}
 use lib.Signed.{mag}
 use mir.Syntax.{w64}
-use mir.Val.{ofZ, toZ}
+use mir.Val.{SFits, ofZ, toZ}
 use mir.Facts.{fits-below, toZ-ofZ, toZ-pos}
 use Rattle.states.specs.Sets.{capacity}
 use Rattle.semantics.proofs.Remainder.{remainder-lifted}
@@ -35,7 +35,7 @@ computed : (c : tie.Start) → toZ w64 (ofZ w64 (c .args .z)) +ℤ toZ w64 (valu
 computed c = rw (toZ-ofZ (c .fits .z), toZ-pos w64 {n = valueBound * c .args .size} (omega arith)) (sum-of c .is)
 
 add-lifted : tie.Need-add-lifted
-add-lifted c = rw (computed c) (record { sfits = omega (arith, sum-of c .small) })
+add-lifted c = subst (SFits w64) (sym (computed c)) (record { sfits = omega (arith, sum-of c .small) })
 
 held : (c : tie.Start) → toZ w64 (ofZ w64 (toZ w64 (ofZ w64 (c .args .z)) +ℤ toZ w64 (valueBound * c .args .size))) ≡ pos (sum-of c .sum)
 held c = toZ-ofZ (add-lifted c) ∙ computed c
