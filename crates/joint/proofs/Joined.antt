@@ -35,10 +35,10 @@ module _ (t : Tables) where
   -- 31 to 33 are asked at every node.
   own-holds : (d : Derivation) (S : Stmt) → Clear (obligations t d S) → RootHolds (t .machine .states) (specOf t (namesOf d))
   own-holds (skip h) S (_, (e31, (e32, (e33, _)))) = (e31, e32, e33)
-  own-holds (assignment h) S (_, (e31, (e32, (e33, _)))) = (e31, e32, e33)
+  own-holds (assignment h) S (_, (_, (e31, (e32, (e33, _))))) = (e31, e32, e33)
   own-holds (sequence h l r) S (_, (e31, (e32, (e33, _)))) = (e31, e32, e33)
   own-holds (parallel h l r) S (_, (e31, (e32, (e33, _)))) = (e31, e32, e33)
-  own-holds (conditional h d) S (_, (e31, (e32, (e33, _)))) = (e31, e32, e33)
+  own-holds (conditional h d) S (_, (_, (e31, (e32, (e33, _))))) = (e31, e32, e33)
   own-holds (iteration h K W d) S (_, (e31, (e32, (e33, _)))) = (e31, e32, e33)
   own-holds (weaken h d) S (_, (e31, (e32, (e33, _)))) = (e31, e32, e33)
 

@@ -1,11 +1,11 @@
 -- The states that a condition names, looked up by its number, and each condition's search as one of the three searches of the code.
 use Prim.Native.Nat.{ℕ, _<_}
-use mathlib.Core.Path.{_≡_, refl, sym, ap, ap₂, _∙_}
+use mathlib.Core.Path.{_≡_, refl, sym, ap, ap₂, _∙_, subst}
 use mathlib.Core.Bool.{Bool, true, false, not, _&&_, _||_}
 use mathlib.Core.List.{List, [], _∷_, _++_}
 use mathlib.Core.Option.{none, some}
 use lib.Dec.{ltb, eqb}
-use borrow.Author.Tests.{lt-ltb}
+use borrow.Author.Tests.{lt-ltb, eqb-true}
 use Rattle.states.specs.Search.{Search, must, given, each}
 use Rattle.states.specs.Sets.{capacity, has}
 use Rattle.states.specs.Relations.{rel}
@@ -40,6 +40,17 @@ pub before-silent : (k : ℕ) (cs rest : List Condition) → Silent k rest → s
 unfolding statesFor
 before-silent k [] rest quiet = silent k rest quiet
 before-silent k (c ∷ cs) rest quiet = ap (orStates (given (eqb k (c .number)) (c .breach))) (before-silent k cs rest quiet)
+
+-- A plain condition in the second place can be left out, if no later one names states under its number.
+pub second-plain : (k : ℕ) (first c : Condition) (rest : List Condition) (b : Bool) → c .breach ≡ must b → Silent (c .number) rest
+    → statesFor k (first ∷ c ∷ rest) ≡ statesFor k (first ∷ rest)
+unfolding statesFor given must
+second-plain k first c rest b e quiet = ap (orStates (given (eqb k (first .number)) (first .breach))) (rw e (by b (eqb k (c .number)) refl))
+  where
+    by : (b hit : Bool) → eqb k (c .number) ≡ hit → orStates (given hit (must b)) (statesFor k rest) ≡ statesFor k rest
+    by b false is = refl
+    by true true is = refl
+    by false true is = sym (silent k rest (subst (λ j. Silent j rest) (sym (eqb-true k (c .number) is)) quiet))
 
 -- What a search of the code has found, for a condition whose number is asked for.
 pub found-as : (x y : Search) {r : Named} → r ≡ naming (statesFound x) → x ≡ y → r ≡ naming (orStates y [])

@@ -1,7 +1,7 @@
 // The assignment rule.
 use crate::NodeVerdict;
 use crate::ask;
-use crate::common;
+use crate::ask_stability;
 use crate::common_states;
 use crate::moving::moved;
 use crate::moving::unmoved;
@@ -81,12 +81,13 @@ pub fn assignment_fault(
 {
     let n = states_in(head);
     let after = successors(handler, head, v, expr);
-    let found = common(n, work, own, fits);
+    let found = ask(NodeVerdict::Holds, 30, fits);
     let found = ask(
         found,
         41,
         unmoved(handler, head, moved(head, work, own), expr),
     );
+    let found = ask_stability(found, n, work, own);
     let found = ask(found, 42, store_in_post(n, work, own, &after));
     ask(found, 43, store_in_guarantee(n, work, own, &after))
 }

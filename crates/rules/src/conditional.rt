@@ -1,7 +1,7 @@
 // The if rule.
 use crate::NodeVerdict;
 use crate::ask;
-use crate::common;
+use crate::ask_stability;
 use crate::common_states;
 use crate::moving::moved;
 use crate::moving::unmoved;
@@ -75,13 +75,14 @@ pub fn if_fault(
     let test = truths_at(handler, head, expr);
     let truth = test.holds;
     let falsity = test.fails;
-    let found = common(n, work, own, fits);
-    let found = if_tables(found, n, work, own, truth, child);
+    let found = ask(NodeVerdict::Holds, 30, fits);
     let found = ask(
         found,
         45,
         unmoved(handler, head, moved(head, work, own), expr),
     );
+    let found = ask_stability(found, n, work, own);
+    let found = if_tables(found, n, work, own, truth, child);
     ask(found, 46, skip_satisfies_post(n, work, own, falsity))
 }
 

@@ -35,7 +35,7 @@ use weaken::weaken_fault;
 ghost use mathlib.Core.Path.{_≡_};
 ghost use mathlib.Core.Bool.{Bool};
 ghost use Rattle.rules.specs.Words.{wordSpec};
-ghost use Rattle.semantics.specs.Checking.{firstBroken, common as commonObligations};
+ghost use Rattle.semantics.specs.Checking.{firstBroken, stability as stabilityObligations, common as commonObligations};
 ghost use Rattle.rules.specs.declared.NodeVerdict.the-variants.{Holds};
 ghost use Rattle.rules.specs.Asking.{asked, askedAll, statesFor, faultOf};
 ghost use Rattle.search.specs.Named.{naming};
@@ -80,15 +80,21 @@ pub fn ask(found: NodeVerdict, number: u32, held: bool) -> NodeVerdict
     }
 }
 
-// 30 to 33, which are checked at every node.
-pub fn common(n: u32, work: &[u64], own: Names, fits: bool) -> NodeVerdict
-    ensures { λ r. ⌜ r ≡ askedAll Holds (commonObligations n fits (wordSpec n (now (work .entry)) own)) ⌝ }
+// 31 to 33, which are checked at every node.
+pub fn ask_stability(found: NodeVerdict, n: u32, work: &[u64], own: Names) -> NodeVerdict
+    ensures { λ r. ⌜ r ≡ askedAll found (stabilityObligations n (wordSpec n (now (work .entry)) own)) ⌝ }
 {
     let held = stable_under_rely(n, work, own);
-    let found = ask(NodeVerdict::Holds, 30, fits);
     let found = ask(found, 31, held.pre);
     let found = ask(found, 32, held.before);
     ask(found, 33, held.after)
+}
+
+// 30 to 33, with which every rule but assignment and if begins.
+pub fn common(n: u32, work: &[u64], own: Names, fits: bool) -> NodeVerdict
+    ensures { λ r. ⌜ r ≡ askedAll Holds (commonObligations n fits (wordSpec n (now (work .entry)) own)) ⌝ }
+{
+    ask_stability(ask(NodeVerdict::Holds, 30, fits), n, work, own)
 }
 
 // The states that 31, 32 or 33 names, by its number. No other number has states here.

@@ -14,7 +14,7 @@ use Rattle.semantics.specs.Language.{Val, int, truth, Expr, Stmt}
 use Rattle.semantics.specs.States.{Machine, value, storeOf}
 use Rattle.semantics.specs.Derivations.{Derivation, skip, assignment, sequence, parallel, conditional, iteration, weaken, nodes, Tables, Spec}
 use Rattle.semantics.specs.Conditions.{firstOf, secondOf, inSet, afterStore, toAfter, c31, c32, c33, c34, c35, c36, c37, c38, c41, c42, c43, c45, c46, c50, c51, c52, c53, c54, c55, c56, c57, c60, c61, c65, c66, c70, c71, c72, c73}
-use Rattle.semantics.specs.Checking.{Condition, Breach, Broken, orBreach, firstBroken, orBroken, atNode, isOneOf, statesNamed, common, obligations, firstFault}
+use Rattle.semantics.specs.Checking.{Condition, Breach, Broken, orBreach, firstBroken, orBroken, atNode, isOneOf, statesNamed, stability, common, obligations, firstFault}
 
 -- A list of so many of the n states.
 pub data Named (n : ℕ) : ℕ → List ℕ → Type 0 where
@@ -127,16 +127,21 @@ module _ (t : Tables) (stores : Stores (t .machine)) where
   abbrev N : ℕ
   N = t .machine .states
 
+  -- 31 to 33, and then the rest.
+  steady : (c : Spec) {rest : List Condition} → AllFind N rest → AllFind N (stability N c ++ rest)
+  unfolding c31 c32 c33
+  steady c p = next (two N _ _ _) (next (three N _ _ _ _) (next (three N _ _ _ _) p))
+
   -- 30 to 33, and then the rest.
   shared : (fits : Bool) (c : Spec) {rest : List Condition} → AllFind N rest → AllFind N (common N fits c ++ rest)
-  unfolding c31 c32 c33
-  shared fits c p = next (must-finds N fits) (next (two N _ _ _) (next (three N _ _ _ _) (next (three N _ _ _ _) p)))
+  shared fits c p = next (must-finds N fits) (steady c p)
 
   own : (d : Derivation) (S : Stmt) → AllFind N (obligations t d S)
   unfolding c34 c35 c36 c37 c38 c41 c42 c43 c45 c46 c50 c51 c52 c53 c54 c55 c56 c57 c60 c61 c65 c66 c70 c71 c72 c73
   own (skip h) S = shared _ _ (next (one N _ _) no-more)
   own (assignment h) S =
-      shared _ _ (next (must-finds N _) (next (ends (t .machine) stores _ _ _ _) (next (ends (t .machine) stores _ _ _ _) no-more)))
+      next (must-finds N _) (next (must-finds N _) (steady _
+      (next (ends (t .machine) stores _ _ _ _) (next (ends (t .machine) stores _ _ _ _) no-more))))
   own (sequence h l r) S =
       shared _ _ (next (must-finds N _) (next (must-finds N _) (next (must-finds N _) (next (must-finds N _) (next (must-finds N _)
       (next (two N _ _ _) (next (three N _ _ _ _) no-more)))))))
@@ -144,8 +149,8 @@ module _ (t : Tables) (stores : Stores (t .machine)) where
       shared _ _ (next (must-finds N _) (next (must-finds N _) (next (must-finds N _) (next (must-finds N _) (next (must-finds N _)
       (next (two N _ _ _) no-more))))))
   own (conditional h d) S =
-      shared _ _ (next (must-finds N _) (next (must-finds N _) (next (must-finds N _) (next (must-finds N _) (next (must-finds N _)
-      (next (one-in N _ _ _) no-more))))))
+      next (must-finds N _) (next (must-finds N _) (steady _
+      (next (must-finds N _) (next (must-finds N _) (next (must-finds N _) (next (must-finds N _) (next (one-in N _ _ _) no-more)))))))
   own (iteration h k w d) S =
       shared _ _ (next (must-finds N _) (next (must-finds N _) (next (must-finds N _) (next (must-finds N _) (next (must-finds N _)
       (next (each-finds N 0 _ (λ s l. must-finds N _)) (next (each-finds N 2 _ (λ s l. two N _ _ _)) (next (one-in N _ _ _)

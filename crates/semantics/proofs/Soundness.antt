@@ -159,7 +159,7 @@ module _ (t : Tables) where
       as-made (skip h) S 0 e30 kinds (λ _ s p. safe-nil (λ u r.
       star-keeps (λ a b q x. says33 (t .machine) c (tables-within t h) e33 s a b p q x) r (says35 (t .machine) c (tables-within t h) e35 s p)))
   sound (assignment h) S n e kinds =
-      let (e30, (e31, (e32, (e33, (e41, (e42, (e43, _))))))) = clear (obligations t (assignment h) S) (no-breach n _ e) in
+      let (e30, (e41, (e31, (e32, (e33, (e42, (e43, _))))))) = clear (obligations t (assignment h) S) (no-breach n _ e) in
       let c = specOf t h in
       as-made (assignment h) S 1 e30 kinds (λ k. rule-assign (record {
         undisturbed = undisturbed (t .machine) c (tables-within t h) (exprOf S) e31 e32 e33 (says41 (t .machine) c (tables-within t h) (exprOf S) e41);
@@ -185,7 +185,7 @@ module _ (t : Tables) where
       (sound r (secondOf S) (suc n + nodes l) on-right (and-right (kindsFit (firstOf S)) _ k)))
   sound (conditional h d) S n e kinds =
       let (own, below) = neither _ _ e in
-      let (e30, (e31, (e32, (e33, (e34, (e36, (e37, (e38, (e45, (e46, _)))))))))) = clear (obligations t (conditional h d) S) (no-breach n _ own) in
+      let (e30, (e45, (e31, (e32, (e33, (e34, (e36, (e37, (e38, (e46, _)))))))))) = clear (obligations t (conditional h d) S) (no-breach n _ own) in
       as-made (conditional h d) S 4 e30 kinds (λ k. if-safe (t .machine) (specOf t h) (specOf t (namesOf d)) (tables-within t h) (tables-within t (namesOf d))
       (exprOf S) (firstOf S) _ (and-left (fits Truth (exprOf S)) _ k) e31 e32 e33 (e34, (e36, (e37, (e38, tt)))) e45 e46
       (sound d (firstOf S) (suc n) below (and-right (fits Truth (exprOf S)) _ k)))

@@ -59,14 +59,18 @@ statesNamed k =
     (cond (isOneOf (32 ∷ 33 ∷ 57 ∷ 61 ∷ []) k) 3 0))
 
 -- The conditions on a node of each rule, in the order in which they are asked, over its own tables c and those of its children.
--- 30: the rule is that of the statement at hand. 30 to 33 are asked at every node.
-abbrev pub common : ℕ → Bool → Spec → List Condition
-common n fits c =
-    numbered 30 (must fits)
-    ∷ numbered 31 (c31 n c)
+-- 31 to 33 are asked at every node.
+abbrev pub stability : ℕ → Spec → List Condition
+stability n c =
+    numbered 31 (c31 n c)
     ∷ numbered 32 (c32 n c)
     ∷ numbered 33 (c33 n c)
     ∷ []
+
+-- 30, which is asked first at every node: the rule is that of the statement at hand. Then 31 to 33; but assignment and if first ask
+-- whether R moves what they read (41, 45).
+abbrev pub common : ℕ → Bool → Spec → List Condition
+common n fits c = numbered 30 (must fits) ∷ stability n c
 
 -- The children's tables, against those that the rule asks for; the left child's come before the right's. If and while: all four.
 abbrev pub bodyTables : ℕ → Spec → Spec → List Condition
@@ -104,9 +108,10 @@ skipObligations n fits c =
 
 abbrev pub assignmentObligations : Machine → Bool → Spec → ℕ → Expr → List Condition
 assignmentObligations m fits c v e =
-    common (m .states) fits c
-    ++ numbered 41 (c41 m c e)
-    ∷ numbered 42 (c42 m c v e)
+    numbered 30 (must fits)
+    ∷ numbered 41 (c41 m c e)
+    ∷ stability (m .states) c
+    ++ numbered 42 (c42 m c v e)
     ∷ numbered 43 (c43 m c v e)
     ∷ []
 
@@ -128,10 +133,11 @@ parallelObligations n fits c l r =
 
 abbrev pub ifObligations : Machine → Bool → Spec → Expr → Spec → List Condition
 ifObligations m fits c e d =
-    common (m .states) fits c
+    numbered 30 (must fits)
+    ∷ numbered 45 (c45 m c e)
+    ∷ stability (m .states) c
     ++ bodyTables (m .states) (underTest c (isTrue m e)) d
-    ++ numbered 45 (c45 m c e)
-    ∷ numbered 46 (c46 (m .states) c (isFalse m e))
+    ++ numbered 46 (c46 (m .states) c (isFalse m e))
     ∷ []
 
 abbrev pub whileObligations : Machine → Bool → Spec → Expr → (ℕ → Bool) → (ℕ → ℕ → Bool) → Spec → List Condition

@@ -2,6 +2,8 @@
 
 #[path = "conditions/children.rs"]
 mod children;
+#[path = "conditions/complaints.rs"]
+mod complaints;
 #[path = "conditions/least.rs"]
 mod least;
 #[path = "conditions/reach.rs"]

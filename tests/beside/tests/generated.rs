@@ -10,10 +10,24 @@ use generate::damage::damaged;
 use generate::pairs::{accepted, Pair, Scale};
 use generate::random::Random;
 use generate::wraps::in_tables;
-use reference::{Verdict, LONGEST_FILE, TABLE_WORDS};
+use reference::{former, Place, Verdict, LONGEST_FILE, TABLE_WORDS};
 use std::collections::{BTreeMap, BTreeSet};
 
 const LEAST_EACH: usize = 50;
+
+/// The answers that request A6 changed, from the former number to the present one.
+const CHANGED: [(u32, u32); 10] = [
+    (31, 41),
+    (31, 45),
+    (32, 41),
+    (32, 45),
+    (33, 41),
+    (33, 45),
+    (34, 45),
+    (36, 45),
+    (37, 45),
+    (38, 45),
+];
 
 /// How often each number occurred, 0 being acceptance, and the states that came with it.
 #[derive(Default)]
@@ -23,6 +37,8 @@ struct Tally {
     /// Accepted pairs with a store that wraps.
     wrap_up: usize,
     wrap_down: usize,
+    /// Refusals that had another number before request A6, by that number and the present one.
+    changed: BTreeMap<(u32, u32), usize>,
     total: u64,
 }
 
@@ -39,8 +55,19 @@ impl Tally {
         if states != 0 {
             self.states.entry(number(verdict)).or_default().push(states);
         }
+        self.count_changed(handler, proof, verdict);
         self.total += 1;
         verdict
+    }
+
+    fn count_changed(&mut self, handler: &[u8], proof: &[u8], verdict: Verdict) {
+        let Verdict::Refused { number: number @ (41 | 45), place: Place::Node(node) } = verdict
+        else {
+            return;
+        };
+        if let Some(former) = former::answer(handler, proof, node) {
+            *self.changed.entry((former, number)).or_default() += 1;
+        }
     }
 
     fn of(&self, number: u32) -> usize {
@@ -61,6 +88,7 @@ impl Tally {
         println!("{} comparisons, accepted {}", self.total, self.of(0));
         println!("accepted as generated, and wrap: up {}, down {}", self.wrap_up, self.wrap_down);
         print_rows(&NUMBERS, |number| self.of(number).to_string());
+        println!("changed by A6, former number to present one: {:?}", self.changed);
         println!("states compared, and how many different ones:");
         print_rows(&with_states(), |number| {
             format!("{} {}", self.with_states(number), self.different_states(number))
@@ -101,6 +129,8 @@ fn generated_files() {
     tally.print();
     often_enough("comparisons", &NUMBERS, |number| tally.of(number));
     often_enough("comparisons of states", &with_states(), |number| tally.with_states(number));
+    assert!(tally.changed.keys().copied().eq(CHANGED), "other changes: {:?}", tally.changed);
+    assert!(tally.changed.values().all(|times| *times >= LEAST_EACH), "{:?}", tally.changed);
     assert!(tally.wrap_up.min(tally.wrap_down) >= LEAST_EACH, "too few pairs wrap");
 }
 

@@ -235,7 +235,10 @@ fn the_order_of_each_rule_has_its_conditions() {
         let digits = |part: &str| part.chars().filter(char::is_ascii_digit).collect::<String>();
         let asked: Vec<usize> =
             order.split(',').map(|part| digits(part).parse().expect(part)).collect();
-        let expected = [of_section("Conditions on every node"), of_section(heading)].concat();
+        let (every, own) = (of_section("Conditions on every node"), of_section(heading));
+        // An assignment and an if ask the first of their own between 30 and 31.
+        let early = usize::from(["Assignment", "If"].contains(&heading));
+        let expected = [&every[..1], &own[..early], &every[1..], &own[early..]].concat();
         assert_eq!(asked, expected, "{heading}");
         rules += 1;
     }

@@ -2,6 +2,7 @@
 
 use reference::language::Statement;
 use reference::proof_file::{Node, Proof, Rule};
+use reference::space::Space;
 use reference::states::{Relation, StateSet};
 
 /// A node's four tables.
@@ -11,6 +12,15 @@ pub struct Tables {
     pub r: Relation,
     pub g: Relation,
     pub q: Relation,
+}
+
+impl Tables {
+    /// The variables that R moves from a state of P.
+    pub fn moved(&self, space: &Space) -> Vec<usize> {
+        let pairs = || self.p.members().flat_map(|s| self.r.row(s).members().map(move |t| (s, t)));
+        let moves = |v: &usize| pairs().any(|(s, t)| space.differ(*v, s, t));
+        (0..space.sizes().len()).filter(moves).collect()
+    }
 }
 
 /// The rule of a node, a while with its K and W.

@@ -11,12 +11,40 @@ use crate::states::{Relation, StateSet};
 
 /// Tries the nodes by number. Node 0 has the whole statement at hand.
 pub fn examine(handler: &Handler, proof: &Proof) -> Result<(), Fault> {
-    let mut examiner = Examiner { space: &handler.space, proof, next: 0 };
-    examiner.node(&proof.root, &handler.statement)
+    let examiner = Examiner { space: &handler.space, proof };
+    for (number, (node, statement)) in nodes(handler, proof).into_iter().enumerate() {
+        let at_node = |(fault, states)| Fault::at_node(fault, number as u32, states);
+        examiner.conditions(node, statement).map_err(at_node)?;
+    }
+    Ok(())
+}
+
+/// The nodes by number, each with its statement at hand. What is below a node that does not fit its
+/// statement (30) can be missing.
+pub(crate) fn nodes<'a>(handler: &'a Handler, proof: &'a Proof) -> Vec<(&'a Node, &'a Statement)> {
+    let mut found = Vec::new();
+    list(&proof.root, &handler.statement, &mut found);
+    found
+}
+
+/// A node, then its children: file order is the order of the numbers.
+fn list<'a>(node: &'a Node, statement: &'a Statement, found: &mut Vec<(&'a Node, &'a Statement)>) {
+    found.push((node, statement));
+    let parts = match statement {
+        _ if node.rule == Rule::Weaken => [Some(statement), None],
+        Statement::Nil | Statement::Assignment(..) => [None, None],
+        Statement::Sequence(left, right) | Statement::Parallel(left, right) => {
+            [Some(&**left), Some(&**right)]
+        }
+        Statement::If(_, body) | Statement::While(_, body) => [Some(&**body), None],
+    };
+    for (child, part) in node.children.iter().zip(parts.into_iter().flatten()) {
+        list(child, part, found);
+    }
 }
 
 /// A condition that fails is named by its number, with the states that it names.
-type Outcome = Result<(), (u32, Vec<usize>)>;
+pub(crate) type Outcome = Result<(), (u32, Vec<usize>)>;
 
 /// A condition that names no states.
 fn must(holds: bool, number: u32) -> Outcome {
@@ -82,33 +110,13 @@ impl<'a> Tables<'a> {
 struct Examiner<'a> {
     space: &'a Space,
     proof: &'a Proof,
-    next: u32,
 }
 
 impl Examiner<'_> {
-    /// A node, then its children: file order is the order of the numbers.
-    fn node(&mut self, node: &Node, statement: &Statement) -> Result<(), Fault> {
-        let number = self.next;
-        self.next += 1;
-        self.conditions(node, statement)
-            .map_err(|(fault, states)| Fault::at_node(fault, number, states))?;
-        let parts = match statement {
-            _ if node.rule == Rule::Weaken => [Some(statement), None],
-            Statement::Nil | Statement::Assignment(..) => [None, None],
-            Statement::Sequence(left, right) | Statement::Parallel(left, right) => {
-                [Some(&**left), Some(&**right)]
-            }
-            Statement::If(_, body) | Statement::While(_, body) => [Some(&**body), None],
-        };
-        for (child, part) in node.children.iter().zip(parts.into_iter().flatten()) {
-            self.node(child, part)?;
-        }
-        Ok(())
-    }
-
     fn conditions(&self, node: &Node, statement: &Statement) -> Outcome {
         must(fits(node.rule, statement), 30)?;
         let own = Tables::of(self.proof, node);
+        self.undisturbed(&own, node.rule, statement)?;
         stable(&own)?;
         let below = node.children.iter();
         let children: Vec<Tables> = below.map(|child| Tables::of(self.proof, child)).collect();
@@ -127,8 +135,18 @@ impl Examiner<'_> {
         }
     }
 
+    /// 41 and 45, before 31 to 33: the rely moves no variable that an assignment or the test of
+    /// an if reads.
+    fn undisturbed(&self, own: &Tables, rule: Rule, statement: &Statement) -> Outcome {
+        let unread = |expression: &Expression| expression.occurrences(&self.moved(own)) == 0;
+        match (rule, statement) {
+            (Rule::Assignment, Statement::Assignment(_, value)) => must(unread(value), 41),
+            (Rule::If, Statement::If(test, _)) => must(unread(test), 45),
+            _ => Ok(()),
+        }
+    }
+
     fn assignment(&self, own: &Tables, variable: usize, value: &Expression) -> Outcome {
-        must(value.occurrences(&self.moved(own)) == 0, 41)?;
         let end = |s: usize| self.space.store(s, variable, value.value(self.space.values(s)));
         let stores: Vec<[usize; 2]> = own.p.members().map(|s| [s, end(s)]).collect();
         let mut pairs = stores.iter().copied();
@@ -138,10 +156,7 @@ impl Examiner<'_> {
 
     fn if_rule(&self, own: &Tables, body: &Tables, test: &Expression) -> Outcome {
         let holds = self.space.where_true(test);
-        must(body.p == own.p.meet(holds), 34)?;
-        same_r_and_g(own, body)?;
-        must(body.q == own.q, 38)?;
-        must(test.occurrences(&self.moved(own)) == 0, 45)?;
+        body_tables(own, body, own.p.meet(holds), own.q)?;
         unless(least_state(own.p.minus(holds), |s| !own.q.has(s, s)), 46)
     }
 
@@ -155,9 +170,7 @@ impl Examiner<'_> {
     ) -> Outcome {
         let holds = self.space.where_true(test);
         let fails = own.p.minus(holds);
-        must(body.p == own.p.meet(k), 34)?;
-        same_r_and_g(own, body)?;
-        must(*body.q == w.ending_in(own.p), 38)?;
+        body_tables(own, body, own.p.meet(k), &w.ending_in(own.p))?;
         must(test.occurrences(&self.moved(own)) <= 1, 50)?;
         // 51 and 57 range over all N states, P or not.
         unless(least_state(self.space.all(), |s| w.has(s, s)), 51)?;
@@ -197,7 +210,7 @@ fn fits(rule: Rule, statement: &Statement) -> bool {
 }
 
 /// 31 to 33: interference keeps P, and Q takes it in before and after.
-fn stable(own: &Tables) -> Outcome {
+pub(crate) fn stable(own: &Tables) -> Outcome {
     unless(least_pair(own.p, |s| own.r.row(s).minus(own.p)), 31)?;
     unless(least_chain(own.p, own.r, own.q, own.q), 32)?;
     unless(least_chain(own.p, own.q, own.r, own.q), 33)
@@ -207,6 +220,13 @@ fn stable(own: &Tables) -> Outcome {
 fn same_r_and_g(own: &Tables, child: &Tables) -> Outcome {
     must(child.r == own.r, 36)?;
     must(child.g == own.g, 37)
+}
+
+/// 34 and 36 to 38: the body of an if or a while has this P and Q, and the node's own R and G.
+pub(crate) fn body_tables(own: &Tables, body: &Tables, p: StateSet, q: &Relation) -> Outcome {
+    must(body.p == p, 34)?;
+    same_r_and_g(own, body)?;
+    must(body.q == q, 38)
 }
 
 fn skip(own: &Tables) -> Outcome {

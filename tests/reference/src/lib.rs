@@ -7,6 +7,7 @@ pub mod canonical;
 pub mod compose;
 pub mod conditions;
 pub mod fault;
+pub mod former;
 pub mod handler_file;
 pub mod handler_writer;
 pub mod language;

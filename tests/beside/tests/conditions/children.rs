@@ -14,7 +14,7 @@ const OF_A_SEQUENCE: Asked = &[(0, 34), (0, 36), (0, 37), (1, 36), (1, 37)];
 const OF_A_PARALLEL: Asked = &[(0, 34), (0, 36), (1, 34), (1, 36)];
 
 /// Changes the table that the number is about in state 2 or in the pair (2,2).
-fn change(tables: &mut Tables, number: u32) {
+pub fn change(tables: &mut Tables, number: u32) {
     let relation = match number {
         34 => return tables.p = StateSet(tables.p.0 ^ 4),
         36 => &mut tables.r,
@@ -91,5 +91,5 @@ fn of_a_parallel() {
 fn after_the_rely() {
     let mut later = when_0(&[0], pairs(&[(0, 1)]), every());
     change(&mut later.children[0].tables, 34);
-    refused(when(c_is(0), nil()), later, 31, 0, &[0, 1]);
+    refused(when(Expression::Truth(true), nil()), later, 31, 0, &[0, 1]);
 }

@@ -170,6 +170,11 @@ fn flags() -> Vec<Claim> {
     let act = when(equal(read(0), number(1)), store(1, number(1)));
     vec![
         w.claim("flag-41", copy(), assignment(tables(w.all(), w.every_pair()))),
+        w.claim(
+            "flag-copied-41",
+            copy(),
+            assignment(tables(w.all(), w.ending(|[f, h, ..]| f == h))),
+        ),
         w.claim("flag-45", act, when_node(tables(w.all(), w.every_pair()), raised, assignment)),
         w.claim(
             "flag-settled",

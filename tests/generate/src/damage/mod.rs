@@ -1,6 +1,7 @@
 //! Damage to accepted pairs: in the bytes, in the fields, in the tables and in the handler.
 
 mod loops;
+mod readers;
 mod tables;
 mod text;
 
@@ -24,9 +25,10 @@ pub fn damaged(random: &mut Random, pair: &Pair) -> Files {
         6..=11 => (field(random, &pair.handler_file, &HANDLER_FIELDS), proof()),
         12..=18 => (handler(), field(random, &pair.proof_file, &PROOF_FIELDS)),
         19..=26 => (handler(), field(random, &pair.proof_file, &[What::Table])),
-        27..=71 => tables::changed(random, pair).unwrap_or_else(|| (handler(), proof())),
-        72..=77 => text::altered(random, pair).unwrap_or_else(|| (handler(), proof())),
-        78..=91 => text::retested(random, pair).unwrap_or_else(|| (handler(), proof())),
+        27..=65 => tables::changed(random, pair).unwrap_or_else(|| (handler(), proof())),
+        66..=71 => text::altered(random, pair).unwrap_or_else(|| (handler(), proof())),
+        72..=84 => text::retested(random, pair).unwrap_or_else(|| (handler(), proof())),
+        85..=92 => readers::disturbed(random, pair).unwrap_or_else(|| (handler(), proof())),
         _ => loops::disordered(random, pair).unwrap_or_else(|| (handler(), proof())),
     }
 }

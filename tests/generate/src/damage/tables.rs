@@ -18,7 +18,10 @@ pub fn changed(random: &mut Random, pair: &Pair) -> Option<Files> {
         let path = random.pick(&paths).clone();
         let node = derivation.at(&path);
         match random.below(100) {
-            0..=44 => change_slot(random, space, node),
+            0..=44 => {
+                let slot = random.below(6);
+                change_slot(random, space, node, slot);
+            }
             45..=84 => change_everywhere(random, space, &mut derivation, &path),
             _ => forget_ends(random, space, node),
         }
@@ -34,9 +37,8 @@ fn extent(random: &mut Random) -> usize {
     *random.pick(&[1, 1, 1, 4, 32])
 }
 
-/// Members more or less in one table of one node.
-fn change_slot(random: &mut Random, space: &Space, node: &mut Derivation) {
-    let slot = random.below(6);
+/// Members more or less in one table of one node: P, R, G, Q, and K and W of a loop.
+pub fn change_slot(random: &mut Random, space: &Space, node: &mut Derivation, slot: usize) {
     for _ in 0..extent(random) {
         change_member(random, space, node, slot);
     }

@@ -4,7 +4,7 @@
 use super::tables::mend;
 use super::{repack, Files};
 use crate::author::operate;
-use crate::derivation::{Derivation, Step, Tables};
+use crate::derivation::{Derivation, Step};
 use crate::pairs::Pair;
 use crate::random::Random;
 use reference::language::{Expression, Operation, Statement};
@@ -60,11 +60,8 @@ fn likely_variable(random: &mut Random, pair: &Pair) -> usize {
     let space = &pair.handler.space;
     let mut moved = Vec::new();
     pair.derivation.each(&mut |node| {
-        let Tables { p, r, .. } = &node.tables;
-        let pairs = || p.members().flat_map(|s| r.row(s).members().map(move |t| (s, t)));
-        let moves = |v: &usize| pairs().any(|(s, t)| space.differ(*v, s, t));
         if matches!(node.step, Step::While { .. }) {
-            moved.extend((0..space.sizes().len()).filter(moves));
+            moved.extend(node.tables.moved(space));
         }
     });
     if moved.is_empty() || random.chance(20) {

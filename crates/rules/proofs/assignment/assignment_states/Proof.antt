@@ -1,10 +1,12 @@
 -- By cases on the number; the code's n is the machine's, and the rows say where a store leads.
 use mathlib.Core.Path.{_∙_, sym, ap, refl}
+use mathlib.Core.List.{_∷_}
 use borrow.Author.Needs.{needs}
 use lib.Dec.{eqb}
 use borrow.Author.Tests.{ne-eqb}
 use Rattle.states.specs.Search.{given}
 use Rattle.semantics.specs.Conditions.{c41}
+use Rattle.semantics.specs.Checking.{stability}
 use Rattle.handler.specs.Header.{machineIn}
 use Rattle.evaluation.specs.Values.{exprIn}
 use Rattle.search.specs.Named.{naming}
@@ -12,7 +14,7 @@ use Rattle.rules.specs.Asking.{statesFor}
 use Rattle.rules.specs.Words.{wordRelation, wordSpec}
 use Rattle.search.proofs.Breaches.{eqb-turned}
 use Rattle.rules.proofs.Stores.{store-in-post-42, store-in-guarantee-43}
-use Rattle.rules.proofs.Naming.{other, plain, done, before-silent, found-as, within-same, or-same}
+use Rattle.rules.proofs.Naming.{other, done, before-silent, second-plain, found-as, within-same, or-same}
 use Rattle.rules.proofs.assignment.assignment_states.Statement.{statement}
 use Rattle.rules.proofs.assignment.assignment_states.Tie as tie
 
@@ -44,7 +46,8 @@ unfolding c41
 returns-3 c fits =
     let no = c .before .match .rest in
     rw (c .before .before .before .before .states-in .ensures) at (c .common-states .ensures fits)
-    ∙ sym (ap naming (before-silent _ _ _ (plain _ refl (other (ne-eqb _ 42 (no .0 .1)) (other (ne-eqb _ 43 (no .1)) done)))))
+    ∙ sym (ap naming (before-silent _ (_ ∷ _ ∷ stability _ _) _ (other (ne-eqb _ 42 (no .0 .1)) (other (ne-eqb _ 43 (no .1)) done))
+    ∙ second-plain _ _ _ (stability _ _) _ refl (other refl (other refl (other refl done)))))
 
 pub assignment-states-spec : {M : Type 1} → statement M
 assignment-states-spec =
