@@ -6,6 +6,7 @@ pub mod AtHand
 pub mod Meaning
 pub mod Judging
 pub mod Acceptance
+pub mod FormerOrder
 pub mod Promised
 pub mod Bounds
 pub mod Names

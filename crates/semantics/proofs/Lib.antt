@@ -11,5 +11,7 @@ pub mod Storing
 pub mod Conditions
 pub mod Clear
 pub mod Soundness
+pub mod FormerOrder
+pub mod Complaints
 pub mod Numbers
 pub mod Naming
