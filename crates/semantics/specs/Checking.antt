@@ -67,7 +67,7 @@ stability n c =
     ∷ numbered 33 (c33 n c)
     ∷ []
 
--- 30, which is asked first at every node: the rule is that of the statement at hand. Then 31 to 33; but assignment and if first ask
+-- 30 is asked first at every node: the rule is that of the statement at hand. 31 to 33 follow; assignment and if ask between them
 -- whether R moves what they read (41, 45).
 abbrev pub common : ℕ → Bool → Spec → List Condition
 common n fits c = numbered 30 (must fits) ∷ stability n c
