@@ -1,11 +1,9 @@
--- The order before request A6, for the bytes themselves: the check accepts the same pairs of files with the same step number.
+-- The order before request A6, for the bytes themselves: the same pairs of files are accepted, with the same step number.
 use Prim.Native.Nat.{ℕ}
-use mathlib.Core.Path.{_≡_}
+use mathlib.Core.Path.{_≡_, refl}
 use mathlib.Core.Bool.{Bool, true, false, cond, _||_}
 use mathlib.Core.List.{List}
-use mathlib.Core.Logic.{_↔_}
-use mathlib.Core.Option.{Option}
-use native.Mathlib.Omega.{arith}
+use mathlib.Core.Option.{Option, none, some}
 use lib.ListN.{length}
 use lib.Dec.{ltb}
 use Rattle.semantics.specs.Language.{Stmt}
@@ -17,7 +15,8 @@ use Rattle.handler.specs.Reading.{HandlerRead, handler, refused, readHandler}
 use Rattle.derivation.specs.Tables.{workWords, tableWord}
 use Rattle.derivation.specs.Reading as Proofs
 use Rattle.checker.specs.declared.Place.the-variants.{Bit}
-use Rattle.checker.specs.declared.Verdict.the-variants.{Accepted}
+use Rattle.checker.specs.declared.Verdict.{Verdict}
+use Rattle.checker.specs.declared.Verdict.the-variants.{Accepted, Refused}
 use Rattle.checker.specs.Verdicts.{CheckResult, refusedAt, tablesOf, untouched, cleared, onFault, onProof, onHandler, answer}
 
 module _ (pb : List ℕ) where
@@ -37,32 +36,32 @@ formerAnswer hb pb words =
     cond (ltb words workWords) (untouched (refusedAt 1 (Bit 0)))
     (cond (ltb 16384 (length hb) || ltb 16384 (length pb)) (untouched (refusedAt 2 (Bit 0))) (formerOnHandler pb (readHandler hb)))
 
--- Two results accept alike.
-abbrev Alike : CheckResult → CheckResult → Type 0
-Alike former now = (k : ℕ) → (former .verdict ≡ Accepted k) ↔ (now .verdict ≡ Accepted k)
+-- The step number that an acceptance states.
+abbrev pub stepsStated : Verdict → Option ℕ
+stepsStated (Accepted k) = some k
+stepsStated (Refused fault) = none
 
-itself : (r : CheckResult) → Alike r r
-itself r k = ((λ e. e), (λ e. e))
+abbrev Alike : CheckResult → CheckResult → Type 0
+Alike former now = stepsStated (former .verdict) ≡ stepsStated (now .verdict)
 
 by-cond : (b : Bool) (x former now : CheckResult) → Alike former now → Alike (cond b x former) (cond b x now)
-by-cond true x former now later = itself x
+by-cond true x former now later = refl
 by-cond false x former now later = later
 
 by-fault : (former : Option Broken) {now : Option Broken} (n : ℕ) (words : ℕ → ℕ) → Reordered former now → Alike (onFault former n words) (onFault now n words)
-by-fault former n words same = itself (onFault former n words)
-by-fault former n words (instead j is) =
-    λ k. ((λ e. absurd (let z : _≡_ {A = ℕ} 0 1 = cc in omega arith)), (λ e. absurd (let z : _≡_ {A = ℕ} 0 1 = cc in omega arith)))
+by-fault former n words same = refl
+by-fault former n words (instead j is) = refl
 
 module _ (pb : List ℕ) where
   by-proof : (sizes : List ℕ) (S : Stmt) (r : Proofs.ProofRead) → Alike (formerOnProof pb sizes S r) (onProof pb sizes S r)
-  by-proof sizes S (Proofs.refused k place) = itself (cleared (refusedAt k (Bit place)))
+  by-proof sizes S (Proofs.refused k place) = refl
   by-proof sizes S (Proofs.proof sets relations root d) = by-fault (formerFault (tablesOf pb sizes sets) d S 0) _ _ (reordered (tablesOf pb sizes sets) d S 0)
 
   by-handler : (r : HandlerRead) → Alike (formerOnHandler pb r) (onHandler pb r)
-  by-handler (refused k place) = itself (cleared (refusedAt k (Bit place)))
+  by-handler (refused k place) = refl
   by-handler (handler sizes at S) = by-proof sizes S (Proofs.readProof pb (product sizes))
 
-pub accepted-as-before : (hb pb : List ℕ) (words k : ℕ) → (formerAnswer hb pb words .verdict ≡ Accepted k) ↔ (answer hb pb words .verdict ≡ Accepted k)
+pub accepted-as-before : (hb pb : List ℕ) (words : ℕ) → stepsStated (formerAnswer hb pb words .verdict) ≡ stepsStated (answer hb pb words .verdict)
 unfolding answer
 accepted-as-before hb pb words =
     by-cond (ltb words workWords) _ _ _ (by-cond (ltb 16384 (length hb) || ltb 16384 (length pb)) _ _ _ (by-handler pb (readHandler hb)))

@@ -19,7 +19,7 @@ use Rattle.semantics.specs.declared.Names.{Names}
 use Rattle.semantics.specs.Language.{Expr, eqZ}
 use Rattle.semantics.specs.States.{Machine}
 use Rattle.semantics.specs.Derivations.{Spec}
-use Rattle.semantics.specs.Conditions.{occurrences, inSet, moves, unmoved, c41, c45, c50}
+use Rattle.semantics.specs.Conditions.{occurrences, inSet, moves, unmoved, c50}
 use Rattle.handler.specs.declared.head.Head.{Head}
 use Rattle.handler.specs.Header.{machineIn}
 use Rattle.handler.specs.Shapes.{inMask}
@@ -45,13 +45,9 @@ module _ (m : Machine) (c : Spec) (p : ℕ → Bool) (same : (v : ℕ) → p v �
   counted : occurrences p e ≡ occurrences (moves m c) e
   counted = ap (λ q. occurrences q e) (fun-ext same)
 
-  pub unmoved-41 : eqb (occurrences p e) 0 ≡ holds (c41 m c e)
-  unfolding c41 unmoved
-  unmoved-41 = ap (λ k. eqb k 0) counted ∙ sym (holds-must _)
-
-  pub unmoved-45 : eqb (occurrences p e) 0 ≡ holds (c45 m c e)
-  unfolding c45 unmoved
-  unmoved-45 = ap (λ k. eqb k 0) counted ∙ sym (holds-must _)
+  pub unmoved-41-45 : eqb (occurrences p e) 0 ≡ holds (must (unmoved m c e))
+  unfolding unmoved
+  unmoved-41-45 = ap (λ k. eqb k 0) counted ∙ sym (holds-must _)
 
   pub read-once-50 : leb (occurrences p e) 1 ≡ holds (c50 m c e)
   unfolding c50

@@ -12,7 +12,8 @@ use Rattle.states.specs.Relations.{rel}
 use Rattle.states.specs.declared.StateSet.{StateSet}
 use Rattle.states.proofs.Members.{has-below}
 use Rattle.semantics.specs.Conditions.{inSet}
-use Rattle.semantics.specs.Checking.{Condition}
+use Rattle.semantics.specs.Derivations.{Spec}
+use Rattle.semantics.specs.Checking.{Condition, numbered, stability, common, commonReading}
 use Rattle.search.specs.declared.Named.{Named}
 use Rattle.search.specs.Named.{statesFound, naming}
 use Rattle.rules.specs.Asking.{orStates, statesFor}
@@ -41,16 +42,23 @@ unfolding statesFor
 before-silent k [] rest quiet = silent k rest quiet
 before-silent k (c ∷ cs) rest quiet = ap (orStates (given (eqb k (c .number)) (c .breach))) (before-silent k cs rest quiet)
 
--- A plain condition in the second place can be left out, if no later one names states under its number.
-pub second-plain : (k : ℕ) (first c : Condition) (rest : List Condition) (b : Bool) → c .breach ≡ must b → Silent (c .number) rest
-    → statesFor k (first ∷ c ∷ rest) ≡ statesFor k (first ∷ rest)
+-- A plain condition can be left out, if no later one names states under its number.
+plain-out : (k number : ℕ) (b : Bool) (rest : List Condition) → Silent number rest → statesFor k (numbered number (must b) ∷ rest) ≡ statesFor k rest
 unfolding statesFor given must
-second-plain k first c rest b e quiet = ap (orStates (given (eqb k (first .number)) (first .breach))) (rw e (by b (eqb k (c .number)) refl))
+plain-out k number b rest quiet = by b (eqb k number) refl
   where
-    by : (b hit : Bool) → eqb k (c .number) ≡ hit → orStates (given hit (must b)) (statesFor k rest) ≡ statesFor k rest
+    by : (b hit : Bool) → eqb k number ≡ hit → orStates (given hit (must b)) (statesFor k rest) ≡ statesFor k rest
     by b false is = refl
     by true true is = refl
-    by false true is = sym (silent k rest (subst (λ j. Silent j rest) (sym (eqb-true k (c .number) is)) quiet))
+    by false true is = sym (silent k rest (subst (λ j. Silent j rest) (sym (eqb-true k number is)) quiet))
+
+-- Of the conditions of an assignment or an if: 41 or 45 can be left out, and those after 33 that name no state.
+pub reading-silent : (k n number : ℕ) (fits b : Bool) (c : Spec) (rest : List Condition) → Silent number (stability n c) → Silent k rest
+    → statesFor k (commonReading n fits (numbered number (must b)) c ++ rest) ≡ statesFor k (common n fits c)
+unfolding statesFor
+reading-silent k n number fits b c rest apart quiet =
+    before-silent k (commonReading n fits (numbered number (must b)) c) rest quiet
+    ∙ ap (orStates (given (eqb k 30) (must fits))) (plain-out k number b (stability n c) apart)
 
 -- What a search of the code has found, for a condition whose number is asked for.
 pub found-as : (x y : Search) {r : Named} → r ≡ naming (statesFound x) → x ≡ y → r ≡ naming (orStates y [])

@@ -1,10 +1,8 @@
 // The assignment rule.
 use crate::NodeVerdict;
 use crate::ask;
-use crate::ask_stability;
+use crate::common_reading;
 use crate::common_states;
-use crate::moving::moved;
-use crate::moving::unmoved;
 use crate::tables::row_at;
 use crate::tables::rows_of;
 use crate::tables::set_at;
@@ -81,13 +79,7 @@ pub fn assignment_fault(
 {
     let n = states_in(head);
     let after = successors(handler, head, v, expr);
-    let found = ask(NodeVerdict::Holds, 30, fits);
-    let found = ask(
-        found,
-        41,
-        unmoved(handler, head, moved(head, work, own), expr),
-    );
-    let found = ask_stability(found, n, work, own);
+    let found = common_reading(handler, head, work, own, fits, 41, expr);
     let found = ask(found, 42, store_in_post(n, work, own, &after));
     ask(found, 43, store_in_guarantee(n, work, own, &after))
 }

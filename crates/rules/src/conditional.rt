@@ -1,10 +1,8 @@
 // The if rule.
 use crate::NodeVerdict;
 use crate::ask;
-use crate::ask_stability;
+use crate::common_reading;
 use crate::common_states;
-use crate::moving::moved;
-use crate::moving::unmoved;
 use crate::tables::same_relation;
 use crate::tables::same_set;
 use crate::tables::set_at;
@@ -75,13 +73,7 @@ pub fn if_fault(
     let test = truths_at(handler, head, expr);
     let truth = test.holds;
     let falsity = test.fails;
-    let found = ask(NodeVerdict::Holds, 30, fits);
-    let found = ask(
-        found,
-        45,
-        unmoved(handler, head, moved(head, work, own), expr),
-    );
-    let found = ask_stability(found, n, work, own);
+    let found = common_reading(handler, head, work, own, fits, 45, expr);
     let found = if_tables(found, n, work, own, truth, child);
     ask(found, 46, skip_satisfies_post(n, work, own, falsity))
 }

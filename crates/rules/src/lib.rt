@@ -17,6 +17,8 @@ use handler::head::states_in;
 use handler::table::Statement;
 use iteration::while_fault;
 use iteration::while_states;
+use moving::moved;
+use moving::unmoved;
 use search::pairs::all_into;
 use parallel::parallel_fault;
 use parallel::parallel_states;
@@ -35,7 +37,11 @@ use weaken::weaken_fault;
 ghost use mathlib.Core.Path.{_≡_};
 ghost use mathlib.Core.Bool.{Bool};
 ghost use Rattle.rules.specs.Words.{wordSpec};
-ghost use Rattle.semantics.specs.Checking.{firstBroken, stability as stabilityObligations, common as commonObligations};
+ghost use Rattle.states.specs.Search.{must};
+ghost use Rattle.semantics.specs.Conditions.{unmoved as movesNothing};
+ghost use Rattle.semantics.specs.Checking.{numbered, firstBroken, stability as stabilityObligations, common as commonObligations, commonReading};
+ghost use Rattle.handler.specs.Header.{machineIn};
+ghost use Rattle.evaluation.specs.Values.{exprIn};
 ghost use Rattle.rules.specs.declared.NodeVerdict.the-variants.{Holds};
 ghost use Rattle.rules.specs.Asking.{asked, askedAll, statesFor, faultOf};
 ghost use Rattle.search.specs.Named.{naming};
@@ -90,7 +96,28 @@ pub fn ask_stability(found: NodeVerdict, n: u32, work: &[u64], own: Names) -> No
     ask(found, 33, held.after)
 }
 
-// 30 to 33, with which every rule but assignment and if begins.
+// How assignment and if begin: 30, then 41 or 45 by its number (R moves no variable of the expression), then 31 to 33.
+pub fn common_reading(
+    handler: &[u8],
+    head: Head,
+    work: &[u64],
+    own: Names,
+    fits: bool,
+    number: u32,
+    expr: usize,
+) -> NodeVerdict
+    ensures { λ r.
+        ⌜ r ≡ askedAll Holds (commonReading (machineIn head .states) fits
+        (numbered number (must (movesNothing (machineIn head) (wordSpec (machineIn head .states) (now (work .entry)) own)
+        (exprIn (now (handler .entry)) (head .count) expr))))
+        (wordSpec (machineIn head .states) (now (work .entry)) own)) ⌝ }
+{
+    let found = ask(NodeVerdict::Holds, 30, fits);
+    let still = unmoved(handler, head, moved(head, work, own), expr);
+    ask_stability(ask(found, number, still), states_in(head), work, own)
+}
+
+// How every other rule begins: 30 to 33.
 pub fn common(n: u32, work: &[u64], own: Names, fits: bool) -> NodeVerdict
     ensures { λ r. ⌜ r ≡ askedAll Holds (commonObligations n fits (wordSpec n (now (work .entry)) own)) ⌝ }
 {

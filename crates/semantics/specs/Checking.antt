@@ -67,10 +67,13 @@ stability n c =
     ∷ numbered 33 (c33 n c)
     ∷ []
 
--- 30 is asked first at every node: the rule is that of the statement at hand. 31 to 33 follow; assignment and if ask between them
--- whether R moves what they read (41, 45).
+-- 30 is asked first at every node: the rule is that of the statement at hand.
 abbrev pub common : ℕ → Bool → Spec → List Condition
 common n fits c = numbered 30 (must fits) ∷ stability n c
+
+-- Assignment and if: 30, then 41 or 45, then 31 to 33.
+abbrev pub commonReading : ℕ → Bool → Condition → Spec → List Condition
+commonReading n fits reads c = numbered 30 (must fits) ∷ reads ∷ stability n c
 
 -- The children's tables, against those that the rule asks for; the left child's come before the right's. If and while: all four.
 abbrev pub bodyTables : ℕ → Spec → Spec → List Condition
@@ -108,9 +111,7 @@ skipObligations n fits c =
 
 abbrev pub assignmentObligations : Machine → Bool → Spec → ℕ → Expr → List Condition
 assignmentObligations m fits c v e =
-    numbered 30 (must fits)
-    ∷ numbered 41 (c41 m c e)
-    ∷ stability (m .states) c
+    commonReading (m .states) fits (numbered 41 (c41 m c e)) c
     ++ numbered 42 (c42 m c v e)
     ∷ numbered 43 (c43 m c v e)
     ∷ []
@@ -133,9 +134,7 @@ parallelObligations n fits c l r =
 
 abbrev pub ifObligations : Machine → Bool → Spec → Expr → Spec → List Condition
 ifObligations m fits c e d =
-    numbered 30 (must fits)
-    ∷ numbered 45 (c45 m c e)
-    ∷ stability (m .states) c
+    commonReading (m .states) fits (numbered 45 (c45 m c e)) c
     ++ bodyTables (m .states) (underTest c (isTrue m e)) d
     ++ numbered 46 (c46 (m .states) c (isFalse m e))
     ∷ []

@@ -1,12 +1,10 @@
 -- By cases on the number; the code's n is the machine's, and the rows say where a store leads.
 use mathlib.Core.Path.{_∙_, sym, ap, refl}
-use mathlib.Core.List.{_∷_}
 use borrow.Author.Needs.{needs}
 use lib.Dec.{eqb}
 use borrow.Author.Tests.{ne-eqb}
 use Rattle.states.specs.Search.{given}
 use Rattle.semantics.specs.Conditions.{c41}
-use Rattle.semantics.specs.Checking.{stability}
 use Rattle.handler.specs.Header.{machineIn}
 use Rattle.evaluation.specs.Values.{exprIn}
 use Rattle.search.specs.Named.{naming}
@@ -14,7 +12,7 @@ use Rattle.rules.specs.Asking.{statesFor}
 use Rattle.rules.specs.Words.{wordRelation, wordSpec}
 use Rattle.search.proofs.Breaches.{eqb-turned}
 use Rattle.rules.proofs.Stores.{store-in-post-42, store-in-guarantee-43}
-use Rattle.rules.proofs.Naming.{other, done, before-silent, second-plain, found-as, within-same, or-same}
+use Rattle.rules.proofs.Naming.{other, done, reading-silent, found-as, within-same, or-same}
 use Rattle.rules.proofs.assignment.assignment_states.Statement.{statement}
 use Rattle.rules.proofs.assignment.assignment_states.Tie as tie
 
@@ -46,8 +44,7 @@ unfolding c41
 returns-3 c fits =
     let no = c .before .match .rest in
     rw (c .before .before .before .before .states-in .ensures) at (c .common-states .ensures fits)
-    ∙ sym (ap naming (before-silent _ (_ ∷ _ ∷ stability _ _) _ (other (ne-eqb _ 42 (no .0 .1)) (other (ne-eqb _ 43 (no .1)) done))
-    ∙ second-plain _ _ _ (stability _ _) _ refl (other refl (other refl (other refl done)))))
+    ∙ sym (ap naming (reading-silent _ _ 41 _ _ _ _ (other refl (other refl (other refl done))) (other (ne-eqb _ 42 (no .0 .1)) (other (ne-eqb _ 43 (no .1)) done))))
 
 pub assignment-states-spec : {M : Type 1} → statement M
 assignment-states-spec =

@@ -2,17 +2,15 @@
 use Prim.Native.Nat.{ℕ}
 use mathlib.Core.Path.{_≡_, _∙_, sym, ap, ap₂, refl}
 use mathlib.Core.Bool.{_&&_}
-use mathlib.Core.List.{_∷_}
 use borrow.Author.Needs.{needs}
 use borrow.Author.Tests.{ne-eqb}
 use Rattle.states.specs.Search.{given}
 use Rattle.semantics.specs.Conditions.{isFalse, c34, c36, c37, c38, c45, c46}
-use Rattle.semantics.specs.Checking.{stability}
 use Rattle.search.specs.Named.{naming}
 use Rattle.rules.specs.Asking.{statesFor}
 use Rattle.rules.specs.Words.{wordSet, wordRelation}
 use Rattle.rules.proofs.Searches.{inSet-and}
-use Rattle.rules.proofs.Naming.{other, plain, done, before-silent, second-plain, found-as, stay-same}
+use Rattle.rules.proofs.Naming.{other, plain, done, reading-silent, found-as, stay-same}
 use Rattle.rules.proofs.conditional.if_states.Statement.{statement}
 use Rattle.rules.proofs.conditional.if_states.Tie as tie
 
@@ -30,9 +28,8 @@ returns-2 : tie.Need-returns-2
 unfolding c34 c36 c37 c38 c45
 returns-2 c fits child =
     rw (c .before .before .states-in .ensures) at (c .common-states .ensures fits)
-    ∙ sym (ap naming (before-silent _ (_ ∷ _ ∷ stability _ _) _ (plain _ refl (plain _ refl (plain _ refl (plain _ refl
-    (other (ne-eqb _ 46 (c .before .if1 .left)) done)))))
-    ∙ second-plain _ _ _ (stability _ _) _ refl (other refl (other refl (other refl done)))))
+    ∙ sym (ap naming (reading-silent _ _ 45 _ _ _ _ (other refl (other refl (other refl done)))
+    (plain _ refl (plain _ refl (plain _ refl (plain _ refl (other (ne-eqb _ 46 (c .before .if1 .left)) done)))))))
 
 pub if-states-spec : {M : Type 1} → statement M
 if-states-spec =
