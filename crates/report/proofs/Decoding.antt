@@ -47,7 +47,7 @@ unfolding indexOf
 place-small (Bit i) h = omega arith
 place-small (Node k) h = omega arith
 
-lossless : (v : Verdict) → Bounded v → Lossless v
+pub lossless : (v : Verdict) → Bounded v → Lossless v
 lossless (Accepted n) h = h
 lossless (Refused f) h = (h .0, omega arith, place-small (f .place) (h .2))
 

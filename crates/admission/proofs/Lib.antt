@@ -1,0 +1,4 @@
+pub mod Arrays
+pub mod Looking
+pub mod Laying
+pub mod Decoding
