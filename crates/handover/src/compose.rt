@@ -1,13 +1,10 @@
 // Two pairs of files on one core: reads the four files, and writes the two files of their parallel, both or neither.
-ghost use Prim.Native.Nat.{_≤_};
-ghost use lib.ListN.{length};
-ghost use Rattle.handover.specs.Reading.{amount};
 use super::ARGUMENT_BYTES;
 use super::BUFFER_BYTES;
 use super::Reading;
 use super::argument;
 use super::print_front;
-use super::read_file;
+use super::read_argument;
 use super::save::save_both;
 use checker::MOST_BYTES;
 use checker::Verdict;
@@ -31,15 +28,6 @@ fn print_pair(v: Verdict, pair: u32) -> bool {
     let mut line = [0u8; report::LINE_BYTES];
     let n = report::write_pair(v, pair, &mut line);
     print_front(&line, n)
-}
-
-// Reads the file that argument i names, as much as `buf` holds.
-fn read_argument(i: usize, buf: &mut [u8]) -> Reading
-    ensures { λ r. ⌜ amount r ≤ length (now (buf .entry)) ⌝ }
-{
-    let mut name = [0u8; ARGUMENT_BYTES];
-    let n = argument(i, &mut name);
-    read_file(&name[..n], buf)
 }
 
 // Writes the two files under the names that the arguments give them.

@@ -3,9 +3,13 @@
 // Without arguments the files are handler.bin and proof.bin of the working folder; two arguments name them. Three arguments, the first
 // the word explain, name them too, and then what the verdict means is printed after the line. Four arguments, the first the word
 // canonical, name them and the file to which the proof file's one form is written. Seven arguments, the first the word compose, name
-// the files of two pairs and the two files to which their parallel is written. Any other arguments print the usage on standard error.
-// A file that cannot be opened, read or written is named on standard error. In both cases no line is printed.
+// the files of two pairs and the two files to which their parallel is written. After the word admit come the length of a core's frame and,
+// for each of 1 to 16 guests, its ticks per step and its two files; then a line for each guest says its slot or why it was turned away.
+// Any other arguments print the usage on standard error. A number that is none, and a file that cannot be opened, read or written, are
+// named on standard error. In all these cases no line is printed.
+mod admit;
 mod compose;
+mod number;
 mod save;
 
 ghost use Prim.Native.Nat.{_≤_, _<_};
@@ -208,6 +212,15 @@ fn argument(i: usize, name: &mut [u8]) -> usize
     n
 }
 
+// Reads the file that argument i names, as much as `buf` holds.
+fn read_argument(i: usize, buf: &mut [u8]) -> Reading
+    ensures { λ r. ⌜ amount r ≤ length (now (buf .entry)) ⌝ }
+{
+    let mut name = [0u8; ARGUMENT_BYTES];
+    let n = argument(i, &mut name);
+    read_file(&name[..n], buf)
+}
+
 // Does the task with the files that the arguments from `first` on name: the handler, the proof and, for Write, the file to be written.
 fn do_with_arguments(first: usize, task: Task)
     requires { ⌜ first < 3 ⌝ }
@@ -244,11 +257,12 @@ fn asks_to(command: &[u8]) -> bool {
 // Prints on standard error how the program is called and what its line means.
 fn print_usage() {
     let usage =
-        b"usage: handover                                checks handler.bin and proof.bin of the working folder
-       handover HANDLER PROOF                  checks these two files
-       handover explain HANDLER PROOF          checks them, and says below the line what the verdict means
-       handover canonical HANDLER PROOF OUT    writes the proof file in its one form to the file OUT
-       handover compose H1 P1 H2 P2 HOUT POUT  writes the parallel of two accepted pairs to the files HOUT and POUT
+        b"usage: handover                                     checks handler.bin and proof.bin of the working folder
+       handover HANDLER PROOF                       checks these two files
+       handover explain HANDLER PROOF               checks them, and says below the line what the verdict means
+       handover canonical HANDLER PROOF OUT         writes the proof file in its one form to the file OUT
+       handover compose H1 P1 H2 P2 HOUT POUT       writes the parallel of two accepted pairs to the files HOUT and POUT
+       handover admit FRAME TICKS HANDLER PROOF ..  gives guests slots in a frame, each by its ticks per step and its files
 Checks a handler against its proof and prints one line, the verdict:
   accepted K               the proof is right: while others keep its rely, the handler takes at most K steps
   refused NUMBER bit B     a file is too long or ill-formed: the first fault is at its bit B
@@ -261,6 +275,11 @@ With compose the line is one of these:
   refused .. first pair    the first pair is refused, or a file of it is too long; HOUT and POUT are as they were
   refused .. second pair   the same of the second pair
   refused NUMBER bit 0     the pairs are accepted but cannot be composed; HOUT and POUT are as they were
+With admit there is a line for each guest, on the places 0, 1, .. in order, and a last one. There are up to 16 guests; FRAME, in
+ticks, is 1 to 1000000, and TICKS 1 to 1000:
+  place P first F length L   the guest has the L ticks from tick F on: its step number times TICKS
+  place P refused ..         the guest is turned away with the number and the place of a fault, and has no ticks
+  left over N                the last N ticks of the frame are no guest's
 The numbers are explained in docs/FAULTS.md. The exit status is always 0.
 ";
     io::write_all(STDERR_FILENO, usage);
@@ -269,6 +288,7 @@ The numbers are explained in docs/FAULTS.md. The exit status is always 0.
 // Chooses by the number of arguments. The program's own name is one of those that `os` counts.
 fn main() {
     let count = os::arg_count();
+    let guests = admit::guests_among(count);
     if count < 2 {
         do_with_files(b"handler.bin", b"proof.bin", b"", Task::Check);
     } else if count == 3 {
@@ -279,6 +299,8 @@ fn main() {
         do_with_arguments(2, Task::Write);
     } else if (count == 8) & asks_to(b"compose") {
         compose::compose_arguments();
+    } else if (guests > 0) & asks_to(b"admit") {
+        admit::admit_arguments(guests);
     } else {
         print_usage();
     }

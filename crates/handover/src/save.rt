@@ -12,7 +12,7 @@ use libc::STDERR_FILENO;
 const LONGEST: usize = PATH_MAX - 5;
 
 // Says on standard error what is wrong with a path, where there is no error of the system.
-fn report(path: &[u8], text: &[u8]) {
+pub(crate) fn report(path: &[u8], text: &[u8]) {
     io::write_all(STDERR_FILENO, path);
     io::write_all(STDERR_FILENO, text);
 }

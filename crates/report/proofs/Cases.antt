@@ -1,5 +1,5 @@
--- Worked examples: the lines of the least and the greatest step number, of a file that was written, of two pairs that were composed or not,
--- and the roots of some pairs.
+-- Worked examples: the lines of the least and the greatest step number, of a file that was written, of two pairs that were composed or not
+-- and of the guests of a core, and the roots of some pairs.
 use Prim.Native.Nat.{ℕ, _+_, _*_, _^_}
 use mathlib.Core.List.{List, [], _∷_}
 use mathlib.Core.Path.{_≡_, refl}
@@ -14,7 +14,7 @@ use Rattle.derivation.specs.Reading.{readProof}
 use Rattle.checker.specs.declared.Place.the-variants.{Bit, Node}
 use Rattle.checker.specs.declared.Verdict.the-variants.{Accepted}
 use Rattle.checker.specs.Verdicts.{refusedAt}
-use Rattle.report.specs.Line.{ascii, digits, decimal, placeText, verdictText, lineOf, pairText, pairLine, writtenLine, composedLine}
+use Rattle.report.specs.Line.{ascii, digits, decimal, placeText, verdictText, lineOf, pairText, pairLine, writtenLine, composedLine, guestText, slotLine, turnedLine, leftLine}
 use Rattle.report.specs.Root.{rootOf}
 use Rattle.report.proofs.Marked.{sample-handler, sample-proof}
 
@@ -34,6 +34,14 @@ pub pairs-composed :
     × (pairLine (refusedAt 90 (Bit 0)) 0 ≡ ascii "refused 90 bit 0\n")
 unfolding composedLine pairLine pairText verdictText placeText decimal digits
 pairs-composed = (refl, refl, refl, refl)
+
+pub guests-tried :
+    (slotLine 15 0 1000000 ≡ ascii "place 15 first 0 length 1000000\n")
+    × (turnedLine 2 (refusedAt 103 (Bit 0)) ≡ ascii "place 2 refused 103 bit 0\n")
+    × (turnedLine 0 (refusedAt 43 (Node 7)) ≡ ascii "place 0 refused 43 node 7\n")
+    × (leftLine 866 ≡ ascii "left over 866\n")
+unfolding slotLine turnedLine leftLine guestText verdictText placeText decimal digits
+guests-tried = (refl, refl, refl, refl)
 
 -- The sample: 2 states, and P 0, R 0, G 1, Q 2. A pair that is refused, because with G 0 it breaks 43, has a root all the same. A handler
 -- file that is a byte short, and a proof file with a byte too many, give 0.

@@ -46,3 +46,8 @@ short (suc k) (suc fuel) n h =
 pub decimal-short : (n : ℕ) → n < 2 ^ 64 → length (decimal n) ≤ 20
 unfolding decimal
 decimal-short n h = short 19 (suc n) n (omega arith)
+
+-- One that a u32 can hold has at most 10.
+pub decimal-short-32 : (n : ℕ) → n < 2 ^ 32 → length (decimal n) ≤ 10
+unfolding decimal
+decimal-short-32 n h = short 9 (suc n) n (omega arith)

@@ -12,8 +12,8 @@ use Rattle.checker.specs.declared.Place.the-variants.{Bit, Node}
 use Rattle.checker.specs.declared.Verdict.{Verdict}
 use Rattle.checker.specs.declared.Verdict.the-variants.{Accepted, Refused}
 use Rattle.report.specs.Code.{indexOf}
-use Rattle.report.specs.Line.{ascii, decimal, placeText, verdictText, lineOf, pairText, pairLine, lineLength, WithinTypes}
-use Rattle.report.proofs.Decimal.{decimal-short}
+use Rattle.report.specs.Line.{ascii, decimal, placeText, verdictText, lineOf, pairText, pairLine, guestText, slotLine, turnedLine, lineLength, WithinTypes}
+use Rattle.report.proofs.Decimal.{decimal-short, decimal-short-32}
 
 place-short : (place : Place) → indexOf place < 2 ^ 64 → length (placeText place) ≤ 26
 unfolding placeText indexOf
@@ -40,6 +40,10 @@ pair-short pair = by (eqb pair 1) (eqb pair 2)
     by false true = omega arith
     by false false = omega arith
 
+guest-short : (place : ℕ) → place < 2 ^ 32 → length (guestText place) ≤ 17
+unfolding guestText
+guest-short place h = omega (arith, length-append (ascii "place " ++ decimal place) (ascii " "), decimal-short-32 place h)
+
 -- 80 bytes hold every line.
 pub line-short : (v : Verdict) → WithinTypes v → length (lineOf v) ≤ 80
 unfolding lineOf
@@ -55,6 +59,17 @@ pair-line-short v pair h =
       words-short v h,
       pair-short pair,
     )
+
+pub slot-line-short : (place first length′ : ℕ) → place < 2 ^ 32 → first < 2 ^ 32 → length′ < 2 ^ 32
+    → length (slotLine place first length′) ≤ 80
+unfolding slotLine
+slot-line-short place first length′ hp hf hl =
+    simp length-append (omega (arith, guest-short place hp, decimal-short-32 first hf, decimal-short-32 length′ hl))
+
+pub turned-line-short : (place : ℕ) (v : Verdict) → place < 2 ^ 32 → WithinTypes v → length (turnedLine place v) ≤ 80
+unfolding turnedLine
+turned-line-short place v hp h =
+    simp length-append (omega (arith, guest-short place hp, words-short v h))
 
 -- No more is written than there is room for.
 pub line-within : (line out : List ℕ) → lineLength line out ≤ length out

@@ -1,6 +1,7 @@
 -- The check program prints one line in full: the word and the step number, or the word, the number, `node` or `bit`, and the place; of a
 -- file that it wrote, the word and the length; of two pairs that it composed, the word and the step number, or the refusal and its pair.
--- A text is the list of its bytes.
+-- Of the guests of a core it prints a line each, the place and the slot or the refusal, and last the ticks that are left over. A text is the
+-- list of its bytes.
 use Prim.Native.Nat.{ℕ, zero, suc, _+_, _/_, _%_, _^_, _<_}
 use Prim.Native.Char.{code}
 use Prim.Native.String.{String, [] as []ˢ, _∷_ as _∷ˢ_}
@@ -59,6 +60,23 @@ pairText pair = cond (eqb pair 1) (ascii " first pair") (cond (eqb pair 2) (asci
 -- The line of a verdict on one of two pairs.
 unfoldable pub pairLine : Verdict → ℕ → List ℕ
 pairLine v pair = (verdictText v ++ pairText pair) ++ ascii "\n"
+
+-- The guest place that a line is about.
+unfoldable pub guestText : ℕ → List ℕ
+guestText place = (ascii "place " ++ decimal place) ++ ascii " "
+
+-- The line of a guest that was admitted: its place, and the first tick and the length of its slot.
+unfoldable pub slotLine : ℕ → ℕ → ℕ → List ℕ
+slotLine place first length =
+    ((guestText place ++ (ascii "first " ++ decimal first)) ++ (ascii " length " ++ decimal length)) ++ ascii "\n"
+
+-- The line of a guest that was turned away: its place, and the refusal.
+unfoldable pub turnedLine : ℕ → Verdict → List ℕ
+turnedLine place v = (guestText place ++ verdictText v) ++ ascii "\n"
+
+-- The line of the ticks after the last slot.
+unfoldable pub leftLine : ℕ → List ℕ
+leftLine ticks = (ascii "left over " ++ decimal ticks) ++ ascii "\n"
 
 -- The range of the code's types: every number is below 2 ^ 64.
 abbrev pub WithinTypes : Verdict → Type 0

@@ -6,7 +6,7 @@ ghost use lib.ListN.{length, take};
 ghost use Rattle.search.specs.Named.{listed};
 ghost use Rattle.report.specs.Code.{codeOf};
 ghost use Rattle.report.specs.States.{statesOf, statesNumber};
-ghost use Rattle.report.specs.Line.{ascii, decimal, placeText, verdictText, pairText, pairLine, lineOf, writtenLine, composedLine, lineInto, lineLength};
+ghost use Rattle.report.specs.Line.{ascii, decimal, placeText, verdictText, pairText, pairLine, lineOf, writtenLine, composedLine, guestText, slotLine, turnedLine, leftLine, lineInto, lineLength};
 ghost use Rattle.report.specs.Put.{Put};
 use checker::Place;
 use checker::Verdict;
@@ -117,17 +117,17 @@ fn put_place(out: &mut [u8], at: usize, place: Place) -> usize
     }
 }
 
-// Puts the line without its end at the front.
-fn put_words(out: &mut [u8], v: Verdict) -> usize
-    requires { ⌜ 54 ≤ length (now out) ⌝ }
-    ensures { λ r. ⌜ Put (now (out .entry)) 0 (verdictText v) (now (out .exit)) r ⌝ }
-    ensures { λ r. ⌜ r ≤ 54 ⌝ }
+// Puts the words of a verdict.
+fn put_words(out: &mut [u8], at: usize, v: Verdict) -> usize
+    requires { ⌜ at + 54 ≤ length (now out) ⌝ }
+    ensures { λ r. ⌜ Put (now (out .entry)) at (verdictText v) (now (out .exit)) r ⌝ }
+    ensures { λ r. ⌜ r ≤ at + 54 ⌝ }
 {
     match v {
-        Verdict::Accepted(steps) => put_named(out, 0, b"accepted ", steps as u64),
+        Verdict::Accepted(steps) => put_named(out, at, b"accepted ", steps as u64),
         Verdict::Refused(fault) => {
             let place = fault.place;
-            let next = put_named(out, 0, b"refused ", fault.number as u64);
+            let next = put_named(out, at, b"refused ", fault.number as u64);
             put_place(out, next, place)
         }
     }
@@ -146,6 +146,16 @@ fn put_pair(out: &mut [u8], at: usize, pair: u32) -> usize
         return put(out, at, b" second pair");
     }
     put(out, at, b"")
+}
+
+// Puts the guest place that the line is about at the front, with at most 10 digits.
+fn put_guest(out: &mut [u8], place: u32) -> usize
+    requires { ⌜ 27 ≤ length (now out) ⌝ }
+    ensures { λ r. ⌜ Put (now (out .entry)) 0 (guestText place) (now (out .exit)) r ⌝ }
+    ensures { λ r. ⌜ r ≤ 17 ⌝ }
+{
+    let next = put_named(out, 0, b"place ", place as u64);
+    put(out, next, b" ")
 }
 
 // Ends the line in the first `end` bytes with a newline and puts it at the front of `out`; returns its length, or 0 if there is no room.
@@ -167,7 +177,7 @@ pub fn write_line(v: Verdict, out: &mut [u8]) -> usize
     ensures { λ r. ⌜ (r ≡ lineLength (lineOf v) (now (out .entry))) × (now (out .exit) ≡ lineInto (lineOf v) (now (out .entry))) ⌝ }
 {
     let mut line = [0u8; LINE_BYTES];
-    let end = put_words(&mut line, v);
+    let end = put_words(&mut line, 0, v);
     put_line(&mut line, end, out)
 }
 
@@ -177,14 +187,14 @@ pub fn write_pair(v: Verdict, pair: u32, out: &mut [u8]) -> usize
         × (now (out .exit) ≡ lineInto (pairLine v pair) (now (out .entry))) ⌝ }
 {
     let mut line = [0u8; LINE_BYTES];
-    let words = put_words(&mut line, v);
+    let words = put_words(&mut line, 0, v);
     let end = put_pair(&mut line, words, pair);
     put_line(&mut line, end, out)
 }
 
-// Does the same with a word of at most 9 bytes and a number.
+// Does the same with a word of at most 10 bytes and a number.
 fn write_named(word: &[u8], n: u64, out: &mut [u8]) -> usize
-    requires { ⌜ length (now word) ≤ 9 ⌝ }
+    requires { ⌜ length (now word) ≤ 10 ⌝ }
     ensures { λ r. ⌜ (r ≡ lineLength ((now (word .entry) ++ decimal n) ++ ascii "\n") (now (out .entry)))
         × (now (out .exit) ≡ lineInto ((now (word .entry) ++ decimal n) ++ ascii "\n") (now (out .entry))) ⌝ }
 {
@@ -207,4 +217,35 @@ pub fn write_composed(steps: u32, out: &mut [u8]) -> usize
         × (now (out .exit) ≡ lineInto (composedLine steps) (now (out .entry))) ⌝ }
 {
     write_named(b"composed ", steps as u64, out)
+}
+
+// Does the same with the line of a guest that was admitted, its place and its slot.
+pub fn write_slot(place: u32, first: u32, length: u32, out: &mut [u8]) -> usize
+    ensures { λ r. ⌜ (r ≡ lineLength (slotLine place first length) (now (out .entry)))
+        × (now (out .exit) ≡ lineInto (slotLine place first length) (now (out .entry))) ⌝ }
+{
+    let mut line = [0u8; LINE_BYTES];
+    let guest = put_guest(&mut line, place);
+    let start = put_named(&mut line, guest, b"first ", first as u64);
+    let end = put_named(&mut line, start, b" length ", length as u64);
+    put_line(&mut line, end, out)
+}
+
+// Does the same with the line of a guest that was turned away, its place and the refusal.
+pub fn write_turned(place: u32, v: Verdict, out: &mut [u8]) -> usize
+    ensures { λ r. ⌜ (r ≡ lineLength (turnedLine place v) (now (out .entry)))
+        × (now (out .exit) ≡ lineInto (turnedLine place v) (now (out .entry))) ⌝ }
+{
+    let mut line = [0u8; LINE_BYTES];
+    let guest = put_guest(&mut line, place);
+    let end = put_words(&mut line, guest, v);
+    put_line(&mut line, end, out)
+}
+
+// Does the same with the line of the ticks that no guest has.
+pub fn write_left(ticks: u32, out: &mut [u8]) -> usize
+    ensures { λ r. ⌜ (r ≡ lineLength (leftLine ticks) (now (out .entry)))
+        × (now (out .exit) ≡ lineInto (leftLine ticks) (now (out .entry))) ⌝ }
+{
+    write_named(b"left over ", ticks as u64, out)
 }

@@ -2,8 +2,8 @@
 use mathlib.Core.Path.{sym}
 use borrow.Author.Needs.{needs}
 use lib.Seq.{length-take-le}
-use Rattle.handover.proofs.compose.read_argument.Statement.{statement}
-use Rattle.handover.proofs.compose.read_argument.Tie as tie
+use Rattle.handover.proofs.read_argument.Statement.{statement}
+use Rattle.handover.proofs.read_argument.Tie as tie
 
 pub read-argument-spec : {M : Type 1} → statement M
 read-argument-spec =
