@@ -1,10 +1,11 @@
-/* bounds FILE: the six calls read and write nothing outside their buffers, over the pairs of a file (pairs.h).
+/* bounds FILE: the eight calls read and write nothing outside their buffers, over the pairs of a file (pairs.h).
 
-   The files, the work words and the output are put right before a page that cannot be accessed, and then right after one, so that
-   an access one byte outside ends the program by a signal. The answers, the words and the output must be those of a call with
-   ordinary buffers, and the files must be unchanged. The output has just as many bytes as the form, and then one fewer. Each pair is
-   composed with itself and with one that allows it, into just as many bytes as both files have, and then one fewer in either. Ends
-   with 1 where something differs, with 2 where nothing was tested. */
+   The files, the work words, the output and the record are put right before a page that cannot be accessed, and then right after one,
+   so that an access one byte outside ends the program by a signal. The answers, the words, the output and the record must be those of
+   a call with ordinary buffers, and the files must be unchanged. The output has just as many bytes as the form, and then one fewer.
+   Each pair is composed with itself and with one that allows it, into just as many bytes as both files have, and then one fewer in
+   either. Each pair is admitted to a frame with 15 guests, and the first of them is released; and records have every length from 0 to
+   60. Ends with 1 where something differs, with 2 where nothing was tested. */
 #define _GNU_SOURCE
 #include "pairs.h"
 
@@ -141,6 +142,72 @@ static bool same_composition(const struct pair *second, size_t *compositions)
     return same;
 }
 
+/* The longest frame with a slot of one tick for each of the first 15 places. */
+static void crowd(uint32_t *record)
+{
+    handover_bare(record, HANDOVER_MOST_FRAME);
+    record[1] = HANDOVER_PLACES - 1;
+    for (uint32_t i = 0; i < HANDOVER_PLACES - 1; i++) {
+        const uint32_t slot[3] = {i, i, 1};
+        memcpy(record + 2 + 3 * i, slot, sizeof slot);
+    }
+}
+
+/* Where so many numbers of a record begin. */
+static uint32_t *record_at(size_t numbers, bool at_end)
+{
+    return (uint32_t *)(void *)placed(rooms[3], numbers * sizeof(uint32_t), at_end);
+}
+
+/* Whether an admission and a release do with guarded buffers what they do with ordinary ones; counts the admissions. */
+static bool same_admission(bool at_end, size_t *admissions)
+{
+    uint32_t plain[HANDOVER_RECORD_NUMBERS];
+    uint32_t *record = record_at(HANDOVER_RECORD_NUMBERS, at_end);
+    uint8_t *handler = placed(rooms[0], pair.handler_len, at_end);
+    uint8_t *proof = placed(rooms[1], pair.proof_len, at_end);
+    uint64_t *work = (uint64_t *)(void *)placed(rooms[2], sizeof plain_work, at_end);
+    memcpy(handler, pair.handler, pair.handler_len);
+    memcpy(proof, pair.proof, pair.proof_len);
+    memset(plain_work, 0x77, sizeof plain_work);
+    memset(work, 0x77, sizeof plain_work);
+    crowd(plain);
+    crowd(record);
+    uint64_t known = handover_admit(plain, HANDOVER_RECORD_NUMBERS, HANDOVER_PLACES - 1, pair.handler, pair.handler_len, pair.proof,
+                                    pair.proof_len, 1, plain_work, HANDOVER_WORK_WORDS);
+    bool same = handover_admit(record, HANDOVER_RECORD_NUMBERS, HANDOVER_PLACES - 1, handler, pair.handler_len, proof, pair.proof_len,
+                               1, work, HANDOVER_WORK_WORDS) == known
+        && memcmp(record, plain, sizeof plain) == 0 && memcmp(work, plain_work, sizeof plain_work) == 0
+        && memcmp(handler, pair.handler, pair.handler_len) == 0 && memcmp(proof, pair.proof, pair.proof_len) == 0;
+    *admissions += handover_admitted(known);
+    return same && handover_admitted(handover_release(plain, HANDOVER_RECORD_NUMBERS, 0))
+        && handover_admitted(handover_release(record, HANDOVER_RECORD_NUMBERS, 0)) && memcmp(record, plain, sizeof plain) == 0;
+}
+
+/* Whether every length of a record but the right one is refused, with a place in the last slot that is there in full. Its count says
+   that there are more. */
+static bool short_records(void)
+{
+    bool same = true;
+    for (size_t numbers = 0; numbers <= 60; numbers++) {
+        for (int at_end = 0; at_end < 2; at_end++) {
+            uint32_t *record = record_at(numbers, at_end == 1);
+            size_t full = numbers < 5 ? 0 : (numbers - 2) / 3 > HANDOVER_PLACES ? HANDOVER_PLACES : (numbers - 2) / 3;
+            memset(record, 0xFF, numbers * sizeof *record);
+            if (full > 0) {
+                record[3 * full - 1] = 0;
+            }
+            uint32_t admit = full > 0 ? HANDOVER_ADMIT_TAKEN : HANDOVER_ADMIT_RECORD;
+            uint32_t release = full > 0 ? HANDOVER_ADMIT_RECORD : HANDOVER_ADMIT_TAKEN;
+            uint64_t answer = handover_admit(record, numbers, 0, pair.handler, pair.handler_len, pair.proof, pair.proof_len, 1,
+                                             plain_work, HANDOVER_WORK_WORDS);
+            same = same && handover_number(answer) == admit;
+            same = same && handover_number(handover_release(record, numbers, 0)) == release;
+        }
+    }
+    return same;
+}
+
 /* The views of two files, the place of a refusal first. */
 static void look(const uint8_t *handler, const uint8_t *proof, uint64_t check, uint64_t views[PLACES])
 {
@@ -206,7 +273,7 @@ static struct answers answers_of_pair(void)
 int main(int argc, char **argv)
 {
     FILE *file = argc == 2 ? fopen(argv[1], "rb") : NULL;
-    size_t pairs = 0, forms = 0, compositions = 0;
+    size_t pairs = 0, forms = 0, compositions = 0, admissions = 0;
     if (file == NULL) {
         give_up("usage: bounds FILE");
     }
@@ -219,11 +286,16 @@ int main(int argc, char **argv)
         forms += form_length(&known) > 0;
         make_quiet(&pair, &quiet);
         same = same && same_at(true, &known) && same_at(false, &known);
+        same = same && same_admission(true, &admissions) && same_admission(false, &admissions);
         if (!same || !same_composition(&pair, &compositions) || !same_composition(&quiet, &compositions)) {
             printf("bounds: pair %zu differs\n", pairs);
             return 1;
         }
     }
-    printf("bounds: %zu pairs, %zu forms, %zu compositions\n", pairs, forms, compositions);
-    return forms > 0 && compositions > 0 ? 0 : 2;
+    if (!short_records()) {
+        printf("bounds: a record of another length is not refused as it must be\n");
+        return 1;
+    }
+    printf("bounds: %zu pairs, %zu forms, %zu compositions, %zu admissions\n", pairs, forms, compositions, admissions);
+    return forms > 0 && compositions > 0 && admissions > 0 ? 0 : 2;
 }

@@ -54,6 +54,7 @@ static uint8_t out[HANDOVER_MOST_BYTES];
 static uint8_t other_out[HANDOVER_MOST_BYTES];
 static uint8_t untouched[HANDOVER_MOST_BYTES];
 static uint64_t untouched_work[HANDOVER_WORK_WORDS];
+static uint32_t record[HANDOVER_RECORD_NUMBERS + 10];
 static const uint64_t cleared_work[HANDOVER_WORK_WORDS] = {0};
 
 /* Every fault number, in the order of the header. */
@@ -406,6 +407,133 @@ static void compositions(void)
     not_composed("a byte short for the proof", &smallest, &beside, words, h, p - 1, 0, HANDOVER_COMPOSE_OUTPUT);
 }
 
+/* The limits of frames and the numbers of their faults, each out of an answer that has it. */
+static void frames(void)
+{
+    static const enum handover_admit_fault numbers[] = {HANDOVER_ADMIT_PLACE, HANDOVER_ADMIT_TAKEN, HANDOVER_ADMIT_RECORD,
+                                                        HANDOVER_ADMIT_ROOM, HANDOVER_ADMIT_TICKS};
+    same("numbers of a record", HANDOVER_RECORD_NUMBERS, 2 + 3 * HANDOVER_PLACES);
+    same("places", HANDOVER_PLACES, 16);
+    same("the longest frame", HANDOVER_MOST_FRAME, 1000000);
+    same("the most ticks", HANDOVER_MOST_TICKS, 1000);
+    same("admitted", handover_admitted(0), 1);
+    same("one is none", handover_admitted(1), 0);
+    for (uint32_t i = 0; i < sizeof numbers / sizeof numbers[0]; i++) {
+        uint64_t answer = (uint64_t)numbers[i] << 33;
+        same("the number", (uint64_t)numbers[i], 100 + i);
+        same("not admitted", handover_admitted(answer), 0);
+        same("number of the answer", handover_number(answer), 100 + i);
+        same("its kind", (uint64_t)handover_kind(answer), HANDOVER_BIT);
+        same("its place", handover_place(answer), 0);
+    }
+}
+
+/* A slot of the record. */
+static void slot(const char *name, uint32_t i, uint32_t place, uint32_t first, uint32_t length)
+{
+    same(name, handover_slots(record) > i, 1);
+    same("its place", handover_slot_place(record, i), place);
+    same("its first tick", handover_slot_first(record, i), first);
+    same("its length", handover_slot_length(record, i), length);
+}
+
+/* The last slot is at the end of the record, and a bare record has nothing but its frame. */
+static void records(void)
+{
+    for (uint32_t i = 0; i < HANDOVER_RECORD_NUMBERS; i++) {
+        record[i] = 1000 + i;
+    }
+    same("count", handover_slots(record), 1001);
+    slot("slot 0", 0, 1002, 1003, 1004);
+    slot("slot 15", 15, 1047, 1048, 1049);
+    record[HANDOVER_RECORD_NUMBERS] = 77;
+    handover_bare(record, HANDOVER_MOST_FRAME);
+    same("frame", record[0], HANDOVER_MOST_FRAME);
+    for (uint32_t i = 1; i < HANDOVER_RECORD_NUMBERS; i++) {
+        same("a number of a bare record", record[i], 0);
+    }
+    same("the number after it", record[HANDOVER_RECORD_NUMBERS], 77);
+}
+
+/* Admits a pair with so many words. */
+static uint64_t admit(const struct files *a, size_t numbers, uint32_t place, uint32_t ticks, size_t words)
+{
+    memset(work, 0x77, sizeof work);
+    return handover_admit(record, numbers, place, a->handler, a->handler_len, a->proof, a->proof_len, ticks, work, words);
+}
+
+/* A call that is refused: its number, with the record as it was, and the words as they were, 0 or the tables. */
+static void not_admitted(const char *name, const struct files *a, size_t numbers, uint32_t place, uint32_t ticks, size_t words,
+                         uint32_t number)
+{
+    uint32_t before[sizeof record / sizeof record[0]];
+    memcpy(before, record, sizeof record);
+    uint64_t answer = admit(a, numbers, place, ticks, words);
+    bool reached = number != HANDOVER_ADMIT_PLACE && number != HANDOVER_ADMIT_TAKEN && number != HANDOVER_ADMIT_RECORD
+        && number != HANDOVER_ADMIT_TICKS;
+    memset(other_work, 0x77, sizeof other_work);
+    if (reached) {
+        handover_check(a->handler, a->handler_len, a->proof, a->proof_len, other_work, words);
+    }
+    same(name, handover_number(answer), number);
+    same("not admitted", handover_admitted(answer), 0);
+    same("its kind", (uint64_t)handover_kind(answer), number >= 30 && number <= 80 ? HANDOVER_NODE : HANDOVER_BIT);
+    same("its place", handover_place(answer), 0);
+    same("the record", memcmp(record, before, sizeof record) == 0, 1);
+    same("the words", memcmp(work, other_work, sizeof work) == 0, 1);
+}
+
+/* The smallest pair makes one step, so that its need is its ticks. Guests come and go in a frame of 100 ticks. */
+static void admissions(void)
+{
+    const size_t words = HANDOVER_WORK_WORDS, numbers = HANDOVER_RECORD_NUMBERS;
+    handover_bare(record, 100);
+    memset(record + 2, 0xFF, 48 * sizeof record[0]);
+    same("the first guest", admit(&smallest, numbers, 15, 10, words), 0);
+    same("a guest of no steps", admit(&beside, numbers, 0, 1000, words), 0);
+    same("the third guest", admit(&smallest, numbers, 7, 90, words), 0);
+    same("a table in the words", handover_in_relation(work, 1, 0, 1), 1);
+    same("three slots", handover_slots(record), 3);
+    slot("the first", 0, 15, 0, 10);
+    slot("the second", 1, 0, 10, 0);
+    slot("the third", 2, 7, 10, 90);
+    same("past the slots", record[11], 0);
+    not_admitted("no room", &smallest, numbers, 1, 1, words, HANDOVER_ADMIT_ROOM);
+    same("a release", handover_release(record, numbers, 15), 0);
+    same("two slots", handover_slots(record), 2);
+    slot("the former second", 0, 0, 0, 0);
+    slot("the former third", 1, 7, 0, 90);
+    same("past the two", record[8], 0);
+    same("a second release", handover_number(handover_release(record, numbers, 15)), HANDOVER_ADMIT_TAKEN);
+    not_admitted("a tick too many", &smallest, numbers, 15, 11, words, HANDOVER_ADMIT_ROOM);
+    same("the last ticks", admit(&smallest, numbers, 15, 10, words), 0);
+    slot("the last", 2, 15, 90, 10);
+}
+
+/* Each fault comes before those after it. */
+static void admissions_turned_away(void)
+{
+    const size_t words = HANDOVER_WORK_WORDS, numbers = HANDOVER_RECORD_NUMBERS;
+    handover_bare(record, 0);
+    same("a release of no place", handover_release(record, 0, 16), UINT64_C(100) << 33);
+    same("a release from no numbers", handover_release(record, 0, 15), UINT64_C(101) << 33);
+    record[1] = 1;
+    not_admitted("place 16", &long_proof, 0, 16, 0, words - 1, HANDOVER_ADMIT_PLACE);
+    not_admitted("a place that is taken", &long_proof, numbers - 1, 0, 0, words - 1, HANDOVER_ADMIT_TAKEN);
+    same("a release from too few numbers", handover_release(record, numbers - 1, 0), UINT64_C(102) << 33);
+    record[0] = 1;
+    not_admitted("too few numbers", &long_proof, numbers - 1, 1, 0, words - 1, HANDOVER_ADMIT_RECORD);
+    not_admitted("too many numbers", &long_proof, numbers + 1, 1, 0, words - 1, HANDOVER_ADMIT_RECORD);
+    not_admitted("no ticks", &long_proof, numbers, 1, 0, words - 1, HANDOVER_ADMIT_TICKS);
+    not_admitted("too many ticks", &long_proof, numbers, 1, HANDOVER_MOST_TICKS + 1, words - 1, HANDOVER_ADMIT_TICKS);
+    not_admitted("a word short", &long_proof, numbers, 1, HANDOVER_MOST_TICKS, words - 1, HANDOVER_FAULT_WORK_WORDS);
+    not_admitted("too long a proof", &long_proof, numbers, 1, HANDOVER_MOST_TICKS, words, HANDOVER_FAULT_FILE_LENGTH);
+    not_admitted("no handler", &no_handler, numbers, 1, HANDOVER_MOST_TICKS, words, HANDOVER_FAULT_HANDLER_SHORT);
+    not_admitted("the pair's own", &broken, numbers, 1, HANDOVER_MOST_TICKS, words, HANDOVER_FAULT_ASSIGNMENT_G);
+    not_admitted("no room", &smallest, numbers, 1, 2, words, HANDOVER_ADMIT_ROOM);
+    same("room", admit(&smallest, numbers, 1, 1, words), 0);
+}
+
 int main(void)
 {
     memset(untouched, 0x77, sizeof untouched);
@@ -423,5 +551,9 @@ int main(void)
     forms_turned_away();
     compositions_apart();
     compositions();
+    frames();
+    records();
+    admissions();
+    admissions_turned_away();
     return failures == 0 ? 0 : 1;
 }

@@ -1,4 +1,4 @@
-/* stack FILE: how much stack each of the six calls takes at most, over the pairs of a file (pairs.h).
+/* stack FILE: how much stack each of the eight calls takes at most, over the pairs of a file (pairs.h).
 
    Every call is made in a thread of its own whose stack was painted beforehand. What is counted reaches from the frame that makes
    the call down to the lowest byte that is no longer paint. A byte that happens to be written in the colour of the paint is not
@@ -23,6 +23,7 @@ static struct pair pair, quiet;
 static uint64_t work[HANDOVER_WORK_WORDS];
 static uint8_t out[HANDOVER_MOST_BYTES];
 static uint8_t other_out[HANDOVER_MOST_BYTES];
+static uint32_t record[HANDOVER_RECORD_NUMBERS];
 static uint64_t answer;
 
 static void *call_check(void *unused)
@@ -78,6 +79,34 @@ static void *call_compose(void *unused)
     return unused;
 }
 
+/* The longest frame with a slot of one tick for each of the first so many places. */
+static void crowd(uint32_t guests)
+{
+    handover_bare(record, HANDOVER_MOST_FRAME);
+    record[1] = guests;
+    for (uint32_t i = 0; i < guests; i++) {
+        const uint32_t slot[3] = {i, i, 1};
+        memcpy(record + 2 + 3 * i, slot, sizeof slot);
+    }
+}
+
+/* The last place of a crowded frame. */
+static void *call_admit(void *unused)
+{
+    frame = (uint8_t *)__builtin_frame_address(0);
+    answer = handover_admit(record, HANDOVER_RECORD_NUMBERS, HANDOVER_PLACES - 1, pair.handler, pair.handler_len, pair.proof,
+                            pair.proof_len, 1, work, HANDOVER_WORK_WORDS);
+    return unused;
+}
+
+/* The first of all places. */
+static void *call_release(void *unused)
+{
+    frame = (uint8_t *)__builtin_frame_address(0);
+    answer = handover_release(record, HANDOVER_RECORD_NUMBERS, 0);
+    return unused;
+}
+
 /* The same, with no call. */
 static void *call_nothing(void *unused)
 {
@@ -91,6 +120,7 @@ static size_t stack_of(void *(*call)(void *), int paint)
     pthread_attr_t attributes;
     pthread_t thread;
     memset(stack, paint, STACK_BYTES);
+    crowd(call == call_release ? HANDOVER_PLACES : HANDOVER_PLACES - 1);
     if (pthread_attr_init(&attributes) != 0 || pthread_attr_setstack(&attributes, stack, STACK_BYTES) != 0) {
         give_up("the thread's stack cannot be set");
     }
@@ -132,16 +162,20 @@ static struct measured calls[] = {
     {"handover_view of the root", call_view_root, HANDOVER_STACK_BYTES, 0},
     {"handover_canonical", call_canonical, HANDOVER_STACK_BYTES, 0},
     {"handover_compose", call_compose, HANDOVER_COMPOSE_STACK_BYTES, 0},
+    {"handover_admit", call_admit, HANDOVER_STACK_BYTES, 0},
+    {"handover_release", call_release, HANDOVER_STACK_BYTES, 0},
 };
 
 enum { CALLS = sizeof calls / sizeof calls[0] };
 
-/* How many pairs there are, how many of them are accepted, for how many states are named, and how many are composed. */
+/* How many pairs there are, how many of them are accepted, for how many states are named, how many are composed and how many are
+   admitted. */
 struct counts {
     size_t pairs;
     size_t accepted;
     size_t with_states;
     size_t composed;
+    size_t admitted;
 };
 
 static void measure(const char *name, struct counts *counts)
@@ -158,6 +192,10 @@ static void measure(const char *name, struct counts *counts)
             counts->accepted += calls[i].call == call_check && handover_accepted(answer);
             counts->with_states += calls[i].call == call_states && answer != 0;
             counts->composed += calls[i].call == call_compose && handover_composed(answer);
+            counts->admitted += calls[i].call == call_admit && handover_admitted(answer);
+            if (calls[i].call == call_release && !handover_admitted(answer)) {
+                give_up("a guest is not released");
+            }
         }
     }
     fclose(file);
@@ -165,7 +203,7 @@ static void measure(const char *name, struct counts *counts)
 
 int main(int argc, char **argv)
 {
-    struct counts counts = {0, 0, 0, 0};
+    struct counts counts = {0, 0, 0, 0, 0};
     bool enough = true;
     if (argc != 2) {
         give_up("usage: stack FILE");
@@ -177,11 +215,12 @@ int main(int argc, char **argv)
     stack = (uint8_t *)memory;
     measure(argv[1], &counts);
     size_t nothing = most_of(call_nothing);
-    if (counts.accepted == 0 || counts.accepted == counts.pairs || counts.with_states == 0 || counts.composed == 0) {
+    if (counts.accepted == 0 || counts.accepted == counts.pairs || counts.with_states == 0 || counts.composed == 0
+        || counts.admitted == 0) {
         give_up("the pairs are too few to measure anything");
     }
-    printf("stack: %zu pairs, %zu accepted, %zu with states, %zu composed:", counts.pairs, counts.accepted, counts.with_states,
-           counts.composed);
+    printf("stack: %zu pairs, %zu accepted, %zu with states, %zu composed, %zu admitted:", counts.pairs, counts.accepted,
+           counts.with_states, counts.composed, counts.admitted);
     for (int i = 0; i < CALLS; i++) {
         if (calls[i].most <= nothing) {
             give_up("a call takes no stack");

@@ -5,34 +5,38 @@
    whether the derivation is right. Where it is, handover_root says which of its tables the decision is about. Where it is not,
    handover_states gives the states that break a condition, and handover_view the bytes at the place of the fault.
    handover_canonical writes a proof file in its one form, so that equal proofs are equal files. handover_compose writes the two
-   files of the parallel of two accepted pairs. All six are in target/staticlib/libhost.a, which `rt staticlib host` writes: an
-   archive for x86-64 and the System V calling convention that has no other global symbols.
+   files of the parallel of two accepted pairs. handover_admit gives an accepted pair a slot in the frame of a core, and
+   handover_release takes it back. All eight are in target/staticlib/libhost.a, which `rt staticlib host` writes: an archive for
+   x86-64 and the System V calling convention that has no other global symbols.
 
    docs/FORMAT.md describes the two files, docs/RULES.md the rules and what acceptance promises, docs/COMPOSITION.md the parallel of
-   two pairs, docs/FAULTS.md every fault number. examples/c has two programs that use all this.
+   two pairs, docs/ADMISSION.md frames and slots, docs/FAULTS.md every fault number. examples/c has three programs that use all this.
 
    What the host owes, in every call:
    - No pointer is null, also where its length is 0. (Pass the address of any object then.)
    - handler and proof point to handler_len and proof_len readable bytes; work points to work_len readable and writable words, and
-     out to out_len readable and writable bytes. In handover_compose that holds for h1, p1, h2 and p2 as for handler and proof, and
-     for hout and pout as for out. Every length may be passed: if a file has more than HANDOVER_MOST_BYTES bytes, the pair is
-     refused with number 2. Only handover_view wants files of fewer than 2^32 bytes, so that its answer can be taken apart.
-   - work is aligned to 8 bytes, as every array of uint64_t is. The files and out need no alignment.
-   - work and out overlap neither handler nor proof: that is what `restrict` says below. Where they do, the behaviour is undefined,
-     and the answer can be `accepted` for a pair that must be refused. In handover_compose no two of work, hout and pout overlap
-     either. The files are only read, and may overlap each other.
-   - Until the call returns, nothing else (no thread, guest or device) writes the files, or reads or writes the work words or out.
-     If a guest can write the memory that its files are in, the host copies them first.
+     out to out_len readable and writable bytes; record points to record_len readable and writable numbers. In handover_compose that
+     holds for h1, p1, h2 and p2 as for handler and proof, and for hout and pout as for out. Every length may be passed: if a file
+     has more than HANDOVER_MOST_BYTES bytes, the pair is refused with number 2. Only handover_view wants files of fewer than 2^32
+     bytes, so that its answer can be taken apart.
+   - work is aligned to 8 bytes, as every array of uint64_t is, and record to 4, as every array of uint32_t is. The files and out need
+     no alignment.
+   - work, out and record overlap neither handler nor proof: that is what `restrict` says below. Where they do, the behaviour is
+     undefined, and the answer can be `accepted` for a pair that must be refused. In handover_compose no two of work, hout and pout
+     overlap either, and in handover_admit work and record do not. The files are only read, and may overlap each other.
+   - Until the call returns, nothing else (no thread, guest or device) writes the files, or reads or writes the work words, out or the
+     record. If a guest can write the memory that its files are in, the host copies them first.
    - HANDOVER_STACK_BYTES of stack are free at the call, for handover_compose HANDOVER_COMPOSE_STACK_BYTES.
 
    What the host gets, from every call:
    - It returns. No content of the files makes it run forever, or read or write outside the buffers.
-   - It allocates no memory, makes no system call, and has no global variables, so nothing is kept from one call to the next. Calls
-     from several threads at once are safe if each call has its own work words and its own out; they may share the files.
-   - It writes the first HANDOVER_WORK_WORDS work words at most (handover_root, handover_view and handover_canonical have none), of
-     out only as many bytes as the answer says, and never the files.
+   - It allocates no memory, makes no system call, and has no global variables, so nothing is kept from one call to the next but what
+     the host keeps in a record. Calls from several threads at once are safe if each call has its own work words, its own out and its
+     own record; they may share the files.
+   - It writes the first HANDOVER_WORK_WORDS work words at most (handover_root, handover_view, handover_canonical and handover_release
+     have none), of out only as many bytes as the answer says, the record only if the answer is 0, and never the files.
    - Its answer depends on what is passed alone: on the bytes of the files, the number of work words or of bytes of out (not what
-     they hold), and the number, kind and place.
+     they hold), the number, kind and place of handover_view, and the record, the place and the ticks of the last two functions.
    - Of the C library it needs memcpy and memset, and nothing else.
    - It uses the vector registers xmm0 to xmm15 with SSE2 instructions, for moves and for integer arithmetic; there is no
      floating-point arithmetic, no x87 and no AVX. The host's memcpy and memset may use more. So code that must leave vector
@@ -60,6 +64,10 @@ extern "C" {
 #define HANDOVER_MOST_RELATIONS 16                   /* relations in a proof file */
 #define HANDOVER_STACK_BYTES 65536                   /* stack that is enough for a call; tests/c/stack.c measures it */
 #define HANDOVER_COMPOSE_STACK_BYTES 98304           /* the same for handover_compose */
+#define HANDOVER_RECORD_NUMBERS 50                   /* numbers in the record of a frame */
+#define HANDOVER_PLACES 16                           /* guest places of a core, from 0 on, and the most slots of a frame */
+#define HANDOVER_MOST_FRAME 1000000                  /* ticks of the longest frame; the shortest has 1 */
+#define HANDOVER_MOST_TICKS 1000                     /* the most ticks per step of a guest; the least are 1 */
 
 /* Whether the place of a fault is a bit of a file or a node of the derivation. */
 enum handover_place_kind {
@@ -146,6 +154,16 @@ enum handover_compose_fault {
     HANDOVER_COMPOSE_P = 93,         /* a pair of either G leads out of the states that both P have */
     HANDOVER_COMPOSE_LIMIT = 94,     /* the result is over a limit of its files or of the step number */
     HANDOVER_COMPOSE_OUTPUT = 95     /* hout or pout has fewer bytes than its file */
+};
+
+/* The numbers of faults which handover_admit and handover_release alone give, each at bit 0. The numbers from 1 to 80 of handover_admit
+   are those of enum handover_fault. They are looked for in the order 100, 101, 102, 104, 1 to 80, 103. */
+enum handover_admit_fault {
+    HANDOVER_ADMIT_PLACE = 100,   /* there is no such place: it is over 15 */
+    HANDOVER_ADMIT_TAKEN = 101,   /* the place is taken; in handover_release, it is not taken */
+    HANDOVER_ADMIT_RECORD = 102,  /* the record is ill-formed, or record_len is not HANDOVER_RECORD_NUMBERS */
+    HANDOVER_ADMIT_ROOM = 103,    /* the needs of the guests present and of this one add up to more than the frame */
+    HANDOVER_ADMIT_TICKS = 104    /* the ticks per step are not 1 to HANDOVER_MOST_TICKS */
 };
 
 /* Checks a handler file against a proof file. The functions below take the answer apart.
@@ -250,7 +268,55 @@ uint64_t handover_compose(const uint8_t *HANDOVER_RESTRICT h1, size_t h1_len, co
                           uint64_t *HANDOVER_RESTRICT work, size_t work_len, uint8_t *HANDOVER_RESTRICT hout, size_t hout_len,
                           uint8_t *HANDOVER_RESTRICT pout, size_t pout_len);
 
-/* Taking an answer of handover_check apart. The last three are for an answer of handover_canonical too. */
+/* Admits a guest to the frame of a core, and gives it a slot of ticks (docs/ADMISSION.md). The host keeps the record of the frame from
+   call to call. Its HANDOVER_RECORD_NUMBERS numbers are the length of the frame in ticks, the count of slots, and for each slot, in
+   order of admission, its place, its first tick and its length. handover_bare makes the record of a frame without guests, and the
+   functions after it read the slots.
+
+   The guest is admitted to a free place, with its two files and with the ticks that each of its steps takes at most. It needs as many
+   ticks as handover_steps of what handover_check answers for the files, times `ticks`. Its slot begins where the last one ends and is
+   as long as it needs. If the step number is 0, the slot is empty, and the next one begins at the same tick.
+
+   What an admission promises. Over any calls of handover_admit and handover_release from a bare record:
+   - the slots lie end to end from tick 0, in order of admission, within the frame, and each is as long as its guest needs;
+   - no place is there twice;
+   - handover_check accepts the files of every guest that was admitted, so that what acceptance promises holds of its handler. Within
+     that promise the handler makes at most slot length / ticks steps, so that `ticks` ticks for each step fit its slot;
+   - a guest is refused for room only if the needs of the guests present and its own add up to more than the frame.
+
+   The answer is 0 if the guest was admitted. If not, it is the fault as in an answer of handover_check, (number * 2 + kind) * 2^32 +
+   place, and the first of these:
+
+       number      place     fault
+       100         bit 0     `place` is over 15
+       101         bit 0     `place` is taken: one of the slots has it
+       102         bit 0     record_len is not HANDOVER_RECORD_NUMBERS; the length of the frame is not 1 to HANDOVER_MOST_FRAME; the
+                             count of slots is over HANDOVER_PLACES; a slot has a place over 15, or the place of another slot; or the
+                             slots do not lie end to end from tick 0 within the frame
+       104         bit 0     `ticks` is not 1 to HANDOVER_MOST_TICKS
+       1 to 80     its own   that for which handover_check refuses the files with these work words
+       103         bit 0     the lengths of all slots and the need of this guest add up to more than the frame
+
+   101 comes before 102 for every record: it is asked of the slots that the record has in full, at most the first HANDOVER_PLACES of its
+   count. What is past the slots of the count may be anything.
+
+   After a fault all of the record is as it was. Otherwise the new slot is the last one, the slots before it are as they were, and every
+   number past it is 0. The work words are untouched after 100, 101, 102 and 104. After every other answer they are as handover_check
+   leaves them; so after 103 they hold the tables, as they do after 0. HANDOVER_STACK_BYTES of stack are enough. */
+uint64_t handover_admit(uint32_t *HANDOVER_RESTRICT record, size_t record_len, uint32_t place,
+                        const uint8_t *HANDOVER_RESTRICT handler, size_t handler_len,
+                        const uint8_t *HANDOVER_RESTRICT proof, size_t proof_len, uint32_t ticks,
+                        uint64_t *HANDOVER_RESTRICT work, size_t work_len);
+
+/* Releases the guest of a place: its slot is taken out, and the slots after it begin earlier by its length, so that all lie end to end
+   again, in the same order and as long as before. The answer is 0 if it was released. If not, it is the fault as in an answer of
+   handover_check, the first of 100; 101, if no slot has the place; and 102; as in handover_admit. After a fault all of the record is as
+   it was. Otherwise every number past the slots is 0. It needs no files and no work words, and HANDOVER_STACK_BYTES of stack are
+   enough. */
+uint64_t handover_release(uint32_t *record, size_t record_len, uint32_t place);
+
+/* Taking an answer of handover_check apart. The last three are for an answer of handover_canonical, handover_admit and
+   handover_release too. */
 
 /* Whether the pair was accepted. */
 static inline bool handover_accepted(uint64_t answer) { return answer <= HANDOVER_MOST_STEPS; }
@@ -258,7 +324,7 @@ static inline bool handover_accepted(uint64_t answer) { return answer <= HANDOVE
 /* The step number of an accepted pair: the handler never makes more steps than this, and often makes fewer. */
 static inline uint32_t handover_steps(uint64_t answer) { return (uint32_t)(answer & HANDOVER_MOST_STEPS); }
 
-/* The number of the fault, one of enum handover_fault; 0 for an accepted pair. */
+/* The number of the fault, one of enum handover_fault or handover_admit_fault; 0 for an accepted pair. */
 static inline uint32_t handover_number(uint64_t answer) { return (uint32_t)(answer >> 33); }
 
 /* Whether the place of the fault is a bit or a node. */
@@ -304,6 +370,32 @@ static inline uint64_t handover_composed_fault(uint64_t answer)
 {
     return handover_composed(answer) ? 0 : answer & ((UINT64_C(1) << 48) - 1);
 }
+
+/* The record of a frame: HANDOVER_RECORD_NUMBERS numbers. */
+
+/* Makes the record of a frame of so many ticks without guests. */
+static inline void handover_bare(uint32_t *record, uint32_t frame)
+{
+    for (size_t i = 0; i < HANDOVER_RECORD_NUMBERS; i++) {
+        record[i] = 0;
+    }
+    record[0] = frame;
+}
+
+/* Whether an answer of handover_admit or handover_release says that it was done. */
+static inline bool handover_admitted(uint64_t answer) { return answer == 0; }
+
+/* How many slots there are. */
+static inline uint32_t handover_slots(const uint32_t *record) { return record[1]; }
+
+/* The place of slot i, counted from 0 in order of admission, with i below the count of slots. */
+static inline uint32_t handover_slot_place(const uint32_t *record, uint32_t i) { return record[2 + 3 * (size_t)i]; }
+
+/* The first tick of slot i. */
+static inline uint32_t handover_slot_first(const uint32_t *record, uint32_t i) { return record[3 + 3 * (size_t)i]; }
+
+/* The length of slot i in ticks. */
+static inline uint32_t handover_slot_length(const uint32_t *record, uint32_t i) { return record[4 + 3 * (size_t)i]; }
 
 /* Taking an answer of handover_root apart, where it is not 0. */
 

@@ -1,6 +1,8 @@
 // The C interface for hosts (include/handover.h): the check of two files with the verdict as one number, the states that its refusal
-// names, the root of two files, where a refusal is shown, the one form of a proof file, and the composition of two pairs.
+// names, the root of two files, where a refusal is shown, the one form of a proof file, the composition of two pairs, and the admission of
+// guests to a core.
 ghost use mathlib.Core.Path.{_≡_};
+ghost use lib.Dec.{eqb};
 ghost use lib.ListN.{length};
 ghost use Rattle.checker.specs.Verdicts.{answer, workAfter, AcceptedIsSound};
 ghost use Rattle.report.specs.Code.{codeOf, withoutStates, decoded};
@@ -13,6 +15,10 @@ ghost use Rattle.composition.specs.Answers.{composed, MadeIsAccepted};
 ghost use Rattle.joint.specs.Composing as Composing;
 ghost use Rattle.composition.specs.Coding.{numberOf, ofNumber};
 ghost use Rattle.composition.specs.Coding as Coding;
+ghost use Rattle.frame.specs.Calls.{admit, released};
+ghost use Rattle.frame.specs.Calls as Calls;
+ghost use Rattle.frame.specs.Lent.{frameIn, numbersAfter};
+ghost use Rattle.frame.specs.Served.{ServedIf};
 
 // The check of two files over the host's work words. The result is the verdict as one number, `codeOf`: below 2 ^ 32 it is the step number
 // of an accepted pair, else the fault's number, the kind of its place and the place. `decoded` of it is the verdict but for the states,
@@ -97,4 +103,38 @@ pub extern "C" fn handover_compose(
     ensures accepted { λ r. ⌜ MadeIsAccepted (ofNumber r) (now (hout .exit)) (now (pout .exit)) ⌝ }
 {
     composition::compose_number(h1, p1, h2, p2, work, hout, pout)
+}
+
+// The admission of a guest to a core whose record the host lends as 50 numbers, over the host's work words. The result is 0 if it was done,
+// and else the fault as one number (`codeOf`); `decoded` of it is the answer but for the states of the check's own fault. If the result is
+// 0, the last slot of the record at exit serves the guest (`ServedIf`).
+#[no_mangle]
+pub extern "C" fn handover_admit(
+    numbers: &mut [u32],
+    place: u32,
+    handler: &[u8],
+    proof: &[u8],
+    ticks: u32,
+    work: &mut [u64],
+) -> u64
+    ensures number { λ r.
+        ⌜ r ≡ codeOf (Calls.asVerdict (admit (frameIn (now (numbers .entry))) place (now (handler .entry)) (now (proof .entry)) ticks (length (now (work .entry))) .answer)) ⌝ }
+    ensures answer { λ r.
+        ⌜ decoded r ≡ withoutStates (Calls.asVerdict (admit (frameIn (now (numbers .entry))) place (now (handler .entry)) (now (proof .entry)) ticks (length (now (work .entry))) .answer)) ⌝ }
+    ensures record { λ _.
+        ⌜ now (numbers .exit) ≡ numbersAfter (admit (frameIn (now (numbers .entry))) place (now (handler .entry)) (now (proof .entry)) ticks (length (now (work .entry)))) (now (numbers .entry)) ⌝ }
+    ensures words { λ _. ⌜ now (work .exit) ≡ Calls.workAfter (frameIn (now (numbers .entry))) place (now (handler .entry)) (now (proof .entry)) ticks (now (work .entry)) ⌝ }
+    ensures served { λ r. ⌜ ServedIf (eqb r 0) (now (handler .entry)) (now (proof .entry)) ticks (frameIn (now (numbers .exit))) ⌝ }
+{
+    admission::lent::admit_lent(numbers, place, handler, proof, ticks, work)
+}
+
+// The release of a guest, with the result as above.
+#[no_mangle]
+pub extern "C" fn handover_release(numbers: &mut [u32], place: u32) -> u64
+    ensures number { λ r. ⌜ r ≡ codeOf (Calls.asVerdict (released (frameIn (now (numbers .entry))) place .answer)) ⌝ }
+    ensures answer { λ r. ⌜ decoded r ≡ withoutStates (Calls.asVerdict (released (frameIn (now (numbers .entry))) place .answer)) ⌝ }
+    ensures record { λ _. ⌜ now (numbers .exit) ≡ numbersAfter (released (frameIn (now (numbers .entry))) place) (now (numbers .entry)) ⌝ }
+{
+    admission::lent::release_lent(numbers, place)
 }
