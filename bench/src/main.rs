@@ -7,8 +7,10 @@ mod rows;
 mod worst;
 
 use arguments::Arguments;
+use beside::admitted::Guest;
 use beside::composed::Lent;
-use beside::{checkers, judge, judge_composition, judge_form, line, Checker};
+use beside::{checkers, judge, judge_admit, judge_composition, judge_form, line, Checker};
+use reference::admission::{MOST_FRAME, RECORD_NUMBERS};
 use reference::{Composition, LONGEST_FILE, TABLE_WORDS};
 use rows::{Call, Row};
 use std::hint::black_box;
@@ -27,16 +29,20 @@ fn main() {
 /// Measures and prints the wanted rows; an error says that there are none.
 fn run(arguments: Arguments) -> Result<(), String> {
     let rounds = if arguments.smoke { 3 } else { 401 };
-    let rows = if arguments.growth { rows::growth() } else { rows::all() };
-    let wanted = |row: &&Row| row.name.starts_with(&arguments.row);
-    if !rows.iter().any(|row| wanted(&row)) {
-        let names: Vec<&str> = rows.iter().map(|row| row.name).collect();
+    let mut groups = if arguments.growth { rows::growth() } else { rows::all() };
+    let names: Vec<&str> = groups.iter().flatten().map(|row| row.name).collect();
+    if !names.iter().any(|name| name.starts_with(&arguments.row)) {
         return Err(arguments::no_such_row(&arguments.row, &names));
     }
     let checkers = checkers();
     print_head(&checkers);
-    for row in rows.iter().filter(wanted) {
-        print_row(row, &answer(row), &measure(row, &checkers, rounds));
+    for group in &mut groups {
+        group.retain(|row| row.name.starts_with(&arguments.row));
+        let answers: Vec<String> = group.iter().map(answer).collect();
+        let medians = measure(group, &checkers, rounds);
+        for ((row, answer), medians) in group.iter().zip(answers).zip(medians) {
+            print_row(row, &answer, &medians);
+        }
     }
     Ok(())
 }
@@ -61,7 +67,25 @@ fn answer(row: &Row) -> String {
             assert!(composition == expected, "{}: another composition", row.name);
             format!("composed {steps}")
         }
+        Call::Admit { ticks, length } => {
+            let mut record = BARE;
+            let admission = judge_admit(&mut record, guest(row, *ticks));
+            assert!(admission.is_ok() && record[4] == *length, "{}: {admission:?}", row.name);
+            format!("admitted {length}")
+        }
     }
+}
+
+/// The longest frame without guests.
+const BARE: [u32; RECORD_NUMBERS] = {
+    let mut record = [0; RECORD_NUMBERS];
+    record[0] = MOST_FRAME;
+    record
+};
+
+/// The pair of a row as a guest.
+fn guest(row: &Row, ticks: u32) -> Guest<'_> {
+    Guest { place: 0, files: (&row.handler, &row.proof), ticks }
 }
 
 /// What the calls write to.
@@ -71,22 +95,24 @@ struct Buffers {
     more_bytes: Vec<u8>,
 }
 
-/// The median of each checker in nanoseconds a call; they take turns in every round. None where
-/// the checker lacks the function.
-fn measure(row: &Row, checkers: &[Box<dyn Checker>], rounds: usize) -> Vec<Option<f64>> {
-    let mut times = vec![Vec::with_capacity(rounds); checkers.len()];
+/// For each row the median of each checker in nanoseconds a call; all take turns in every round.
+/// None where the checker lacks the function.
+fn measure(group: &[Row], checkers: &[Box<dyn Checker>], rounds: usize) -> Vec<Vec<Option<f64>>> {
+    let mut times = vec![vec![Vec::with_capacity(rounds); checkers.len()]; group.len()];
     let room = || vec![0; LONGEST_FILE];
     let mut buffers = Buffers { words: vec![0; TABLE_WORDS], bytes: room(), more_bytes: room() };
     for _ in 0..rounds {
-        for (checker, times) in checkers.iter().zip(&mut times) {
-            let start = Instant::now();
-            let done = (0..CALLS).all(|_| call(&**checker, row, &mut buffers));
-            if done {
-                times.push(start.elapsed().as_nanos() as f64 / f64::from(CALLS));
+        for (row, times) in group.iter().zip(&mut times) {
+            for (checker, times) in checkers.iter().zip(times) {
+                let start = Instant::now();
+                let done = (0..CALLS).all(|_| call(&**checker, row, &mut buffers));
+                if done {
+                    times.push(start.elapsed().as_nanos() as f64 / f64::from(CALLS));
+                }
             }
         }
     }
-    times.into_iter().map(median).collect()
+    times.into_iter().map(|of_row| of_row.into_iter().map(median).collect()).collect()
 }
 
 /// One call; false where the checker lacks the function.
@@ -104,6 +130,11 @@ fn call(checker: &dyn Checker, row: &Row, buffers: &mut Buffers) -> bool {
             let mut lent = Lent { work: words, handler: bytes, proof: more_bytes };
             let pairs = [(&handler[..], &proof[..]), (handler_2, proof_2)];
             black_box(checker.compose(pairs, &mut lent)).is_some()
+        }
+        Call::Admit { ticks, .. } => {
+            let mut record = black_box(BARE);
+            let admission = checker.admit(&mut record, black_box(guest(row, *ticks)), words);
+            black_box((admission, record)).0.is_some()
         }
     }
 }

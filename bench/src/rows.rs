@@ -27,7 +27,7 @@ impl Row {
     pub fn bytes(&self) -> usize {
         let of_second = match &self.call {
             Call::Compose { second: (handler, proof), .. } => handler.len() + proof.len(),
-            Call::Check(_) | Call::Form(_) => 0,
+            Call::Check(_) | Call::Form(_) | Call::Admit { .. } => 0,
         };
         self.handler.len() + self.proof.len() + of_second
     }
@@ -41,9 +41,23 @@ pub enum Call {
     Form(Vec<u8>),
     /// The composition with a second pair, its step number and the two files that it makes.
     Compose { second: Files, steps: u32, made: Files },
+    /// The admission to a bare frame with so many ticks per step, and the length of its slot.
+    Admit { ticks: u32, length: u32 },
 }
 
-pub fn all() -> Vec<Row> {
+/// Rows that are measured together: they take turns, so that they can be compared with each other.
+pub type Group = Vec<Row>;
+
+pub fn all() -> Vec<Group> {
+    alone(single()).chain([admission()]).collect()
+}
+
+/// Each row as a group of its own.
+fn alone(rows: Vec<Row>) -> impl Iterator<Item = Group> {
+    rows.into_iter().map(|row| vec![row])
+}
+
+fn single() -> Vec<Row> {
     let large = large();
     let (handler, proof) = (&large.handler_file.bytes, &large.proof_file.bytes);
     let cut = handler[..handler.len() - 1].to_vec();
@@ -68,6 +82,14 @@ pub fn all() -> Vec<Row> {
         form_of_longest(),
         halves::composed(),
     ]
+}
+
+/// The typical pair again, admitted and only checked: what an admission costs besides the check.
+fn admission() -> Group {
+    let check = accepted("admit: typical, the check alone", typical());
+    let (handler, proof) = (check.handler.clone(), check.proof.clone());
+    let call = Call::Admit { ticks: 1_000, length: 508_000 };
+    vec![Row { name: "admit: typical, to a bare frame", handler, proof, call }, check]
 }
 
 fn form_of_large(large: &Pair) -> Row {
@@ -127,7 +149,7 @@ fn typical() -> Pair {
 }
 
 /// The same statement over more and more states, then more and more statements over 64.
-pub fn growth() -> Vec<Row> {
+pub fn growth() -> Vec<Group> {
     let states: [(&str, &[usize]); 4] = [
         ("10 blocks, N = 8", &[2, 4]),
         ("10 blocks, N = 16", &[4, 4]),
@@ -137,7 +159,7 @@ pub fn growth() -> Vec<Row> {
     let blocks = [("1 block, N = 64", 1), ("2 blocks, N = 64", 2), ("5 blocks, N = 64", 5)];
     let by_states = states.map(|(name, sizes)| accepted(name, in_blocks(sizes, 10)));
     let by_nodes = blocks.map(|(name, count)| accepted(name, in_blocks(&[4, 4, 4], count)));
-    by_states.into_iter().chain(by_nodes).collect()
+    alone(by_states.into_iter().chain(by_nodes).collect()).collect()
 }
 
 /// So many parallels of two loops each, 6 statements a block, and a weaken over every node.

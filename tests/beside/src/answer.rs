@@ -1,5 +1,6 @@
 //! The one word in which the C interface answers.
 
+use crate::admitted::Admission;
 use crate::Written;
 use reference::{Composition, Fault, Place, Verdict};
 
@@ -19,6 +20,14 @@ pub fn written(answer: u64) -> Written {
     match verdict(answer) {
         Verdict::Accepted(length) => Ok(length as usize),
         refused => Err(refused),
+    }
+}
+
+/// 0 where an admission or a release was done, else a fault as in a verdict.
+pub fn admission(answer: u64) -> Admission {
+    match answer {
+        0 => Ok(()),
+        _ => Err(verdict(answer)),
     }
 }
 
@@ -59,6 +68,13 @@ mod tests {
         assert_eq!(written(5), Ok(5));
         assert_eq!(written(6 << 32), Err(at_bit(3, 0)));
         assert_eq!(written((50 << 32) + 48), Err(at_bit(25, 48)));
+    }
+
+    #[test]
+    fn admissions() {
+        assert_eq!(admission(0), Ok(()));
+        assert_eq!(admission(208 << 32), Err(at_bit(104, 0)));
+        assert_eq!(admission((87 << 32) + 5), Err(at_node(43, 5)));
     }
 
     #[test]

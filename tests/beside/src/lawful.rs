@@ -18,13 +18,16 @@ pub const FORM_NUMBERS: [u32; 17] =
 /// The numbers that a refusal to compose two pairs can have besides those of a check.
 pub const COMPOSE_NUMBERS: [u32; 6] = [90, 91, 92, 93, 94, 95];
 
+/// The numbers that a refusal to admit or to release a guest can have besides those of a check.
+pub const ADMIT_NUMBERS: [u32; 5] = [100, 101, 102, 103, 104];
+
 /// Numbers of refusals that no longer occur; they are not used again.
 pub const UNUSED: [u32; 1] = [40];
 
 /// The numbers of all refusals, in order: those that the C header lists.
 pub fn all_numbers() -> Vec<u32> {
     let numbers = NUMBERS.into_iter().chain(FORM_NUMBERS).chain(COMPOSE_NUMBERS);
-    let all: BTreeSet<u32> = numbers.collect();
+    let all: BTreeSet<u32> = numbers.chain(ADMIT_NUMBERS).collect();
     all.into_iter().collect()
 }
 

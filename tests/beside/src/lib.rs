@@ -1,5 +1,6 @@
 //! Runs checkers beside each other and against what holds of every call.
 
+pub mod admitted;
 pub mod answer;
 pub mod composed;
 pub mod form;
@@ -7,9 +8,11 @@ pub mod lawful;
 #[cfg(feature = "proved")]
 pub mod proved;
 
+pub use admitted::{judge_admit, judge_release};
 pub use composed::{judge_composition, judge_lent};
 pub use form::{judge_canonical, judge_form};
 
+use admitted::{Admission, Guest};
 use composed::{Files, Lent};
 use reference::view::{BIT, NODE};
 use reference::{Place, Verdict};
@@ -30,6 +33,10 @@ pub trait Checker {
     /// Composes two pairs, and gives the one word of the C interface; none where the checker
     /// cannot.
     fn compose(&self, pairs: [Files; 2], lent: &mut Lent) -> Option<u64>;
+    /// Admits a guest to the frame of a record; none where the checker cannot.
+    fn admit(&self, record: &mut [u32], guest: Guest, work: &mut [u64]) -> Option<Admission>;
+    /// Releases the guest of a place; none where the checker cannot.
+    fn release(&self, record: &mut [u32], place: u32) -> Option<Admission>;
 }
 
 /// The length of a file that was written, or why it was not.
@@ -63,6 +70,16 @@ impl Checker for Reference {
         let composition = composed::by_reference(pairs, lent.sizes());
         lent.carry_out(&composition);
         Some(answer::of_composition(&composition))
+    }
+
+    fn admit(&self, record: &mut [u32], guest: Guest, work: &mut [u64]) -> Option<Admission> {
+        let Guest { place, files: (handler, proof), ticks } = guest;
+        let admitted = reference::admit(record, place, handler, proof, ticks, work);
+        Some(admitted.map_err(Verdict::from))
+    }
+
+    fn release(&self, record: &mut [u32], place: u32) -> Option<Admission> {
+        Some(reference::release(record, place).map_err(Verdict::from))
     }
 }
 

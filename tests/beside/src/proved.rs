@@ -1,5 +1,6 @@
 //! The proved checker, over its C interface.
 
+use crate::admitted::{Admission, Guest};
 use crate::composed::{Files, Lent};
 use crate::{answer, Checker, Written};
 use reference::Verdict;
@@ -65,6 +66,21 @@ extern "C" {
         proof_out: *mut u8,
         proof_out_len: usize,
     ) -> u64;
+
+    fn handover_admit(
+        record: *mut u32,
+        record_len: usize,
+        place: u32,
+        handler: *const u8,
+        handler_len: usize,
+        proof: *const u8,
+        proof_len: usize,
+        ticks: u32,
+        work: *mut u64,
+        work_len: usize,
+    ) -> u64;
+
+    fn handover_release(record: *mut u32, record_len: usize, place: u32) -> u64;
 }
 
 #[cfg(feature = "former")]
@@ -82,6 +98,9 @@ extern "C" {
 /// A function of a library that takes two files and a buffer, of words or of bytes.
 type Call<T> = unsafe extern "C" fn(*const u8, usize, *const u8, usize, *mut T, usize) -> u64;
 
+/// A function that admits a guest.
+type Admit = fn(&mut [u32], Guest, &mut [u64]) -> u64;
+
 /// A library that is linked, by its functions; that of an earlier checkout may lack some.
 pub struct Proved {
     name: &'static str,
@@ -89,6 +108,8 @@ pub struct Proved {
     states: Option<Call<u64>>,
     canonical: Option<Call<u8>>,
     compose: Option<fn([Files; 2], &mut Lent) -> u64>,
+    admit: Option<Admit>,
+    release: Option<fn(&mut [u32], u32) -> u64>,
 }
 
 /// The library of this checkout.
@@ -98,12 +119,21 @@ pub const PROVED: Proved = Proved {
     states: Some(handover_states),
     canonical: Some(handover_canonical),
     compose: Some(compose),
+    admit: Some(admit),
+    release: Some(release),
 };
 
 /// The library of an earlier checkout, which `tools/former` puts beside this one's.
 #[cfg(feature = "former")]
-pub const FORMER: Proved =
-    Proved { name: "former", check: former_check, states: None, canonical: None, compose: None };
+pub const FORMER: Proved = Proved {
+    name: "former",
+    check: former_check,
+    states: None,
+    canonical: None,
+    compose: None,
+    admit: None,
+    release: None,
+};
 
 impl Checker for Proved {
     fn name(&self) -> &'static str {
@@ -124,6 +154,14 @@ impl Checker for Proved {
 
     fn compose(&self, pairs: [Files; 2], lent: &mut Lent) -> Option<u64> {
         self.compose.map(|function| function(pairs, lent))
+    }
+
+    fn admit(&self, record: &mut [u32], guest: Guest, work: &mut [u64]) -> Option<Admission> {
+        self.admit.map(|function| answer::admission(function(record, guest, work)))
+    }
+
+    fn release(&self, record: &mut [u32], place: u32) -> Option<Admission> {
+        self.release.map(|function| answer::admission(function(record, place)))
     }
 }
 
@@ -163,6 +201,32 @@ fn compose([(h1, p1), (h2, p2)]: [Files; 2], lent: &mut Lent) -> u64 {
             lent.proof.len(),
         )
     }
+}
+
+/// The admission of a guest, by the library of this checkout.
+fn admit(record: &mut [u32], guest: Guest, work: &mut [u64]) -> u64 {
+    let Guest { place, files: (handler, proof), ticks } = guest;
+    // SAFETY: as above; only the record and the words are written, and nothing else holds them.
+    unsafe {
+        handover_admit(
+            record.as_mut_ptr(),
+            record.len(),
+            place,
+            handler.as_ptr(),
+            handler.len(),
+            proof.as_ptr(),
+            proof.len(),
+            ticks,
+            work.as_mut_ptr(),
+            work.len(),
+        )
+    }
+}
+
+/// The release of the guest of a place, by the library of this checkout.
+fn release(record: &mut [u32], place: u32) -> u64 {
+    // SAFETY: as above; only the record is written.
+    unsafe { handover_release(record.as_mut_ptr(), record.len(), place) }
 }
 
 /// N and the numbers of the root's tables, by the library of this checkout.

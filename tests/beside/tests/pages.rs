@@ -1,9 +1,9 @@
-//! docs/FORMAT.md, docs/RULES.md and docs/COMPOSITION.md: the worked example is true, and every
-//! number has an entry, with its states as docs/FAULTS.md has them too.
+//! docs/FORMAT.md, docs/RULES.md, docs/COMPOSITION.md and docs/ADMISSION.md: the worked example is
+//! true, and every number has an entry, with its states as docs/FAULTS.md has them too.
 
 use std::collections::BTreeSet;
 
-use beside::lawful::{all_numbers, listed_numbers, states_named, COMPOSE_NUMBERS};
+use beside::lawful::{all_numbers, listed_numbers, states_named, ADMIT_NUMBERS, COMPOSE_NUMBERS};
 use beside::{judge, judge_view_of, line, page};
 use reference::TABLE_WORDS;
 
@@ -159,9 +159,13 @@ fn entries<'a>(tables: impl Iterator<Item = &'a Table>) -> Vec<usize> {
 
 #[test]
 fn every_number_has_an_entry() {
-    let composing = *COMPOSE_NUMBERS.first().expect("there are some");
-    let pages =
-        [("FORMAT.md", 1..30), ("RULES.md", 30..composing), ("COMPOSITION.md", composing..100)];
+    let ([composing, ..], [admitting, ..]) = (COMPOSE_NUMBERS, ADMIT_NUMBERS);
+    let pages = [
+        ("FORMAT.md", 1..30),
+        ("RULES.md", 30..composing),
+        ("COMPOSITION.md", composing..admitting),
+        ("ADMISSION.md", admitting..u32::MAX),
+    ];
     for (name, range) in pages {
         let numbers = all_numbers().into_iter().filter(|number| range.contains(number));
         let numbers: BTreeSet<usize> = numbers.map(|number| number as usize).collect();

@@ -3,6 +3,7 @@
 //! It builds ordinary trees from the two files and tries each condition as docs/RULES.md
 //! words it. It shares no code with the proved checker, so that agreement means something.
 
+pub mod admission;
 pub mod canonical;
 pub mod compose;
 pub mod conditions;
@@ -19,6 +20,7 @@ pub mod step_number;
 pub mod view;
 pub mod writer;
 
+pub use admission::{admit, release};
 pub use canonical::canonical;
 pub use compose::{compose, Composition};
 pub use fault::{Fault, Place, Verdict};
