@@ -37,7 +37,7 @@ pub(crate) fn no_slots(length: u32) -> Frame
     }
 }
 
-// How many slots a count stands for.
+// How many of the 16 slots a count names.
 fn shown(count: u32) -> u32
     ensures { λ r. ⌜ r ≡ min count places ⌝ }
 {

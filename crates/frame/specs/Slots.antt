@@ -49,9 +49,9 @@ unfoldable pub apart : ℕ → List Slot → Bool
 apart n [] = true
 apart n (s ∷ rest) = ltb (s .place) n && not (holds (s .place) rest) && apart n rest
 
--- Whether slots lie end to end from a tick on up to a last one at the latest, each at a place of its own.
+-- Whether slots lie end to end from a tick on and end by another one, each at a place of its own.
 unfoldable pub laidWithin : ℕ → ℕ → List Slot → Bool
-laidWithin last tick slots = endToEnd tick slots && leb (tick + total slots) last && apart places slots
+laidWithin end tick slots = endToEnd tick slots && leb (tick + total slots) end && apart places slots
 
 -- 102, unless: the frame has 1 to 1,000,000 ticks, there are at most 16 slots, and they lie end to end from tick 0 within the frame, each
 -- at a place of its own.
