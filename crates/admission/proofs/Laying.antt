@@ -1,5 +1,5 @@
 -- Laying slots again one by one: what the next slot adds.
-use Prim.Native.Nat.{ℕ, suc, _+_, _≤_, _<_}
+use Prim.Native.Nat.{ℕ, _+_, _≤_, _<_}
 use native.Mathlib.Numerals.{add-one}
 use native.Mathlib.Nat.{zero-add}
 use native.Mathlib.Omega.{arith}
@@ -13,6 +13,7 @@ use Rattle.frame.specs.declared.Slot.{Slot}
 use Rattle.frame.specs.declared.Frame.{Frame}
 use Rattle.frame.specs.Slots.{places, held, total, holds, others, without, laidFrom, noSlot, frameOf}
 use Rattle.frame.proofs.Laid.{total-append, length-laid, end-laid, laid-append}
+use Rattle.frame.proofs.Others.{length-less}
 use Rattle.frame.proofs.Places.{apart-more, total-less, without-free, few}
 use Rattle.frame.proofs.Frames.{frame-added, Well}
 use Rattle.admission.specs.Refinement.{addedTo}
@@ -28,15 +29,6 @@ without-last place (x ∷ xs) s = by (eqb (x .place) place) (without-last place 
         ≡ cond b (without place xs) (x ∷ without place xs) ++ cond (eqb (s .place) place) [] (s ∷ [])
     by true e = e
     by false e = ap (λ ys. x ∷ ys) e
-
-pub length-less : (place : ℕ) (xs : List Slot) → length (without place xs) ≤ length xs
-unfolding others
-length-less place [] = omega arith
-length-less place (x ∷ xs) = by (eqb (x .place) place) (length-less place xs)
-  where
-    by : (b : Bool) → length (without place xs) ≤ length xs → length (cond b (without place xs) (x ∷ without place xs)) ≤ suc (length xs)
-    by true h = omega arith
-    by false h = omega arith
 
 -- The first slots have no more ticks than more of them.
 total-front : (i k : ℕ) (slots : List Slot) → i ≤ k → total (take i slots) ≤ total (take k slots)
@@ -61,7 +53,7 @@ module _ (place : ℕ) (slots : List Slot) (i : ℕ) (there : i < length slots) 
   kept-next = ap (without place) take-next ∙ without-last place (take i slots) slot
 
   pub few-kept : length (laidFrom 0 kept) ≤ i
-  few-kept = omega (arith, length-laid 0 kept, length-less place (take i slots), length-take i slots)
+  few-kept = omega (arith, length-laid 0 kept, length-less (λ s. s .place) place (take i slots), length-take i slots)
 
   -- The tick after the slot, and that it is within all slots together.
   pub total-next : (tick : ℕ) → tick ≡ total kept → tick + cond (eqb (slot .place) place) 0 (slot .length) ≡ total (without place (take (i + 1) slots))

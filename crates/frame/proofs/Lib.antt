@@ -1,5 +1,6 @@
 pub mod AdmissionCases
 pub mod Laid
+pub mod Others
 pub mod Places
 pub mod Frames
 pub mod Calls

@@ -1,7 +1,7 @@
 -- Places of their own: as one guest more comes or one goes, and that n places have at most n guests.
 use Prim.Native.Nat.{ℕ, zero, suc, _+_, _≤_, _<_}
 use native.Mathlib.Omega.{arith}
-use mathlib.Core.Bool.{Bool, true, false, not, cond, _&&_, _||_, true≢false}
+use mathlib.Core.Bool.{Bool, true, false, not, _&&_, _||_, true≢false}
 use mathlib.Core.List.{List, [], _∷_, _++_}
 use mathlib.Core.Path.{_≡_, refl, sym, ap, subst}
 use borrow.Author.Tests.{eqb-true, eqb-false, ne-eqb, lt-ltb, ltb-true, not-true}
@@ -9,6 +9,7 @@ use lib.Dec.{ltb, eqb}
 use lib.ListN.{length}
 use Rattle.states.proofs.Search.{and-left, and-right, and-both, or-none}
 use Rattle.frame.specs.declared.Slot.{Slot}
+use Rattle.frame.proofs.Others.{others-cases}
 use Rattle.frame.specs.Slots.{total, holds, others, without, apart}
 
 -- What the three parts of `apart` say of the first slot and of the rest.
@@ -53,11 +54,9 @@ module _ (place : ℕ) where
   free-less : (gone : ℕ) (xs : List Slot) → holds place xs ≡ false → holds place (without gone xs) ≡ false
   unfolding others
   free-less gone [] h = h
-  free-less gone (x ∷ xs) h = by (eqb (x .place) gone) (free-less gone xs (free-both x xs h .1))
-    where
-      by : (b : Bool) → holds place (without gone xs) ≡ false → holds place (cond b (without gone xs) (x ∷ without gone xs)) ≡ false
-      by true more = more
-      by false more = free-cons x (without gone xs) (free-both x xs h .0) more
+  free-less gone (x ∷ xs) h =
+      let rest = free-less gone xs (free-both x xs h .1) in
+      others-cases (λ s. s .place) gone x xs (λ l. holds place l ≡ false) (λ e. rest) (λ e. free-cons x (without gone xs) (free-both x xs h .0) rest)
 
 -- One guest more, at a place that was free.
 pub apart-more : (n : ℕ) (xs : List Slot) (s : Slot) → apart n xs ≡ true → holds (s .place) xs ≡ false → s .place < n → apart n (xs ++ (s ∷ [])) ≡ true
@@ -71,20 +70,16 @@ apart-more n (x ∷ xs) s h free below =
 pub apart-less : (n gone : ℕ) (xs : List Slot) → apart n xs ≡ true → apart n (without gone xs) ≡ true
 unfolding others
 apart-less n gone [] h = h
-apart-less n gone (x ∷ xs) h = by (eqb (x .place) gone) (apart-less n gone xs (rest-apart n x xs h))
-  where
-    by : (b : Bool) → apart n (without gone xs) ≡ true → apart n (cond b (without gone xs) (x ∷ without gone xs)) ≡ true
-    by true more = more
-    by false more = apart-cons n x (without gone xs) (first-below n x xs h) (free-less (x .place) gone xs (first-alone n x xs h)) more
+apart-less n gone (x ∷ xs) h =
+    let rest = apart-less n gone xs (rest-apart n x xs h) in
+    others-cases (λ s. s .place) gone x xs (λ l. apart n l ≡ true) (λ e. rest)
+    (λ e. apart-cons n x (without gone xs) (first-below n x xs h) (free-less (x .place) gone xs (first-alone n x xs h)) rest)
 
 pub total-less : (gone : ℕ) (xs : List Slot) → total (without gone xs) ≤ total xs
 unfolding total others
 total-less gone [] = omega arith
-total-less gone (x ∷ xs) = by (eqb (x .place) gone) (total-less gone xs)
-  where
-    by : (b : Bool) → total (without gone xs) ≤ total xs → total (cond b (without gone xs) (x ∷ without gone xs)) ≤ x .length + total xs
-    by true more = omega arith
-    by false more = omega arith
+total-less gone (x ∷ xs) =
+    others-cases (λ s. s .place) gone x xs (λ l. total l ≤ x .length + total xs) (λ e. omega (arith, total-less gone xs)) (λ e. omega (arith, total-less gone xs))
 
 -- A place that is not held has nothing to leave out.
 pub without-free : (gone : ℕ) (xs : List Slot) → holds gone xs ≡ false → without gone xs ≡ xs
@@ -98,26 +93,23 @@ without-free gone (x ∷ xs) h =
 one-gone : (n gone : ℕ) (xs : List Slot) → apart n xs ≡ true → length xs ≤ suc (length (without gone xs))
 unfolding others
 one-gone n gone [] h = omega arith
-one-gone n gone (x ∷ xs) h = by (eqb (x .place) gone) refl (one-gone n gone xs (rest-apart n x xs h))
+one-gone n gone (x ∷ xs) h =
+    others-cases (λ s. s .place) gone x xs (λ l. suc (length xs) ≤ suc (length l)) left-out (λ e. omega (arith, one-gone n gone xs (rest-apart n x xs h)))
   where
-    by : (b : Bool) → eqb (x .place) gone ≡ b → length xs ≤ suc (length (without gone xs))
-        → suc (length xs) ≤ suc (length (cond b (without gone xs) (x ∷ without gone xs)))
-    by true e more =
+    left-out : eqb (x .place) gone ≡ true → suc (length xs) ≤ suc (length (without gone xs))
+    left-out e =
         let free : holds gone xs ≡ false = subst (λ p. holds p xs ≡ false) (eqb-true (x .place) gone e) (first-alone n x xs h) in
         rw (without-free gone xs free) (omega arith)
-    by false e more = omega arith
 
 -- Without the last place all are at the places before it.
 lower : (n : ℕ) (xs : List Slot) → apart (suc n) xs ≡ true → apart n (without n xs) ≡ true
 unfolding others apart
 lower n [] h = refl
-lower n (x ∷ xs) h = by (eqb (x .place) n) refl (lower n xs (rest-apart (suc n) x xs h))
-  where
-    by : (b : Bool) → eqb (x .place) n ≡ b → apart n (without n xs) ≡ true → apart n (cond b (without n xs) (x ∷ without n xs)) ≡ true
-    by true e more = more
-    by false e more =
-        apart-cons n x (without n xs) (omega (arith, first-below (suc n) x xs h, eqb-false (x .place) n e))
-        (free-less (x .place) n xs (first-alone (suc n) x xs h)) more
+lower n (x ∷ xs) h =
+    let rest = lower n xs (rest-apart (suc n) x xs h) in
+    others-cases (λ s. s .place) n x xs (λ l. apart n l ≡ true) (λ e. rest)
+    (λ e. apart-cons n x (without n xs) (omega (arith, first-below (suc n) x xs h, eqb-false (x .place) n e))
+    (free-less (x .place) n xs (first-alone (suc n) x xs h)) rest)
 
 -- n places have at most n guests.
 pub few : (n : ℕ) (xs : List Slot) → apart n xs ≡ true → length xs ≤ n

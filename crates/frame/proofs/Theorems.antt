@@ -22,6 +22,7 @@ use Rattle.frame.specs.Served.{Served}
 use Rattle.frame.specs.Lent.{frameIn, numbersOf}
 use Rattle.frame.specs.History.{Admission, Call, admission, release, stated, stepsOf, need, outcome, guestsAfter, Core, next, after, afterCalls, slotOf, layout, needs, Paired, empty, also, Kept}
 use Rattle.frame.proofs.Laid.{total-append, total-laid, length-laid, holds-laid, apart-laid, laid-without, laid-append}
+use Rattle.frame.proofs.Others.{others-cases}
 use Rattle.frame.proofs.Places.{apart-more, apart-less, total-less, few}
 use Rattle.frame.proofs.Frames.{held-of, whole-frame, well-of}
 use Rattle.frame.proofs.Calls.{serves}
@@ -66,11 +67,8 @@ all-last (more q rest) p = more q (all-last rest p)
 all-others : {P : Admission → Type 0} (place : ℕ) (gs : List Admission) → All P gs → All P (others (λ g. g .place) place gs)
 unfolding others
 all-others place [] all = none
-all-others {P = P} place (g ∷ gs) (more p rest) = by (eqb (g .place) place) (all-others place gs rest)
-  where
-    by : (b : Bool) → All P (others (λ g. g .place) place gs) → All P (cond b (others (λ g. g .place) place gs) (g ∷ others (λ g. g .place) place gs))
-    by true rest = rest
-    by false rest = more p rest
+all-others {P = P} place (g ∷ gs) (more p rest) =
+    let kept = all-others place gs rest in others-cases (λ g. g .place) place g gs (All P) (λ e. kept) (λ e. more p kept)
 
 -- Which answer is 103.
 abbrev forRoom : Answer → Bool
