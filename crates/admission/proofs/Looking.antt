@@ -58,7 +58,7 @@ room-left tick long last inside =
 refuted : {b : Bool} → (b ≡ true → ⊥) → b ≡ false
 refuted {b} h = bool-ext b false (λ e. absurd (h e)) (λ e. absurd (true≢false (sym e)))
 
--- No slots lie end to end within the frame.
+-- Where there are no slots left, they lie end to end.
 pub laid-none : (last tick : ℕ) → tick ≤ last → laidWithin last tick [] ≡ true
 unfolding laidWithin endToEnd total apart
 laid-none last tick inside = and-both _ _ (le-leb (tick + 0) last (omega arith)) refl
