@@ -8,9 +8,11 @@ use native.Mathlib.Omega.{arith}
 use borrow.Author.Needs.{needs}
 use borrow.Author.Tests.{lt-ltb, le-ltb}
 use lib.Dec.{ltb}
+use Rattle.checker.specs.declared.Verdict.{Verdict}
+use Rattle.frame.specs.declared.Outcome.{Outcome}
 use Rattle.frame.specs.Slots.{held, total, holds, wellFormed}
 use Rattle.frame.specs.Calls.{beforeCheck, onVerdict}
-use Rattle.frame.proofs.Calls.{no-such-place, taken, malformed, wrong-ticks, reached, turned, checked}
+use Rattle.frame.proofs.Calls.{no-such-place, taken, malformed, wrong-ticks, reached, Promised, turned, checked}
 use Rattle.admission.proofs.Looking.{found-malformed, found-end}
 use Rattle.admission.proofs.admit.Statement.{statement}
 use Rattle.admission.proofs.admit.Tie as tie
@@ -63,7 +65,7 @@ returns-4 c =
     let a = start l .args in
     turned _ _ _ _ _ _ _ _ refl (wrong-ticks (a .frame) (a .place) (a .ticks) (there l) (free l) (found k .0) (c .before .if3 .taken)) (c .turned-away4 .ensures)
 
--- When the check is reached nothing stands against the guest but its verdict.
+-- When the check is reached, its verdict alone decides.
 looked : (c : tie.After-check) → tie.After-known-told
 looked c = c .before .before .before
 
@@ -98,21 +100,22 @@ grant-requires c κs =
     let l = k .before .before .before in
     (found k .0, free l, omega (arith, l .before .before .before .if1 .left), found k .1)
 
-returns-5 : tie.Need-returns-5
+-- What follows from the verdict is the whole promise.
+decided : (q : tie.After-check) (v : Verdict) (o : Outcome) → let a = begun q .args in q .check .result ≡ v → o ≡ onVerdict (a .frame) (a .place) (a .ticks) v
+    → Promised (a .frame) (a .place) (a .handler .now) (a .proof .now) (a .ticks) (a .work .now) o (q .check .last .1 .1 .0)
 unfolding start looked begun
-returns-5 c =
-    let q = c .before .before .before .before .before .before in
+decided q v o is follows =
     let a = begun q .args in
     checked _ _ _ _ _ _ _ _ _ (none-there q) (q .check .ensures .0) (q .check .ensures .1 .0) (q .check .ensures .1 .1)
-    (c .turned-away5 .ensures ∙ ap (onVerdict (a .frame) (a .place) (a .ticks)) (sym (c .before .before .fault .given .1)))
+    (follows ∙ ap (onVerdict (a .frame) (a .place) (a .ticks)) (sym is))
+
+returns-5 : tie.Need-returns-5
+unfolding start looked begun
+returns-5 c = decided (c .before .before .before .before .before .before) _ _ (c .before .before .fault .given .1) (c .turned-away5 .ensures)
 
 returns-6 : tie.Need-returns-6
 unfolding start looked begun
-returns-6 c =
-    let q = c .before .before .before .before .before .before in
-    let a = begun q .args in
-    checked _ _ _ _ _ _ _ _ _ (none-there q) (q .check .ensures .0) (q .check .ensures .1 .0) (q .check .ensures .1 .1)
-    (c .grant .ensures ∙ ap (onVerdict (a .frame) (a .place) (a .ticks)) (sym (c .before .before .steps .given .1)))
+returns-6 c = decided (c .before .before .before .before .before .before) _ _ (c .before .before .steps .given .1) (c .grant .ensures)
 
 pub admit-spec : {M : Type 1} → statement M
 admit-spec =
