@@ -10,28 +10,33 @@ use Rattle.semantics.specs.Promise.{Promise}
 use Rattle.semantics.proofs.Soundness.{soundness}
 use Rattle.derivation.specs.Tables.{written}
 use Rattle.checker.specs.declared.Verdict.{Verdict}
-use Rattle.checker.specs.Verdicts.{CheckResult, tablesIn, rootSpec, answer, workAfter, AcceptedIsSound}
+use Rattle.pair.specs.declared.Mode.{Mode}
+use Rattle.pair.specs.Modes.{tablesIn, rootSpec}
+use Rattle.pair.proofs.Cases.{read-holds}
+use Rattle.checker.specs.Verdicts.{CheckResult, answer, workAfter, AcceptedIsSound}
 use Rattle.handler.proofs.Fitting.{stmt-fits}
 use Rattle.handler.proofs.Handlers.{known-handler}
 use Rattle.checker.proofs.Acceptance.{accepted-exactly}
 
-pub accepted-is-sound : (hb pb : List ℕ) (words : ℕ) → AcceptedIsSound hb pb (answer hb pb words .verdict)
-accepted-is-sound hb pb words = record {
+pub accepted-is-sound : (hb pb : List ℕ) (mode : Mode) (words : ℕ) → AcceptedIsSound hb pb mode (answer hb pb mode words .verdict)
+accepted-is-sound hb pb mode words = record {
   sound = λ k e.
-      let a = accepted-exactly hb pb words k .0 e in
-      let p = a .pair in
-      let kinds = stmt-fits (p .statement-bit) (p .statement) (known-handler hb (p .sizes) (p .statement-bit) (p .statement) (p .handler-read) .fits) in (
-        p,
-        subst (Promise (machineOf (p .sizes)) (p .statement) (rootSpec p)) (sym (a .number))
-            (soundness (tablesIn p) (p .derivation) (p .statement) 0 (a .unbroken) kinds),
+      let a = accepted-exactly hb pb mode words k .0 e in
+      let x = a .held in
+      let read = read-holds hb pb x (a .read) .handler-read in
+      let kinds = stmt-fits (x .statement-bit) (x .statement) (known-handler hb (x .sizes) (x .statement-bit) (x .statement) read .fits) in (
+        x,
+        (a .read,
+        subst (Promise (machineOf (x .sizes)) (x .statement) (rootSpec pb mode x)) (sym (a .number))
+            (soundness (tablesIn pb mode x) (x .derivation) (x .statement) 0 (a .unbroken) kinds)),
       );
 }
 
 -- If the verdict and the work words are those of the answer, the whole contract holds.
-pub promised : (hb pb work after : List ℕ) (v : Verdict) (a : CheckResult) → answer hb pb (length work) ≡ a → v ≡ a .verdict
+pub promised : (hb pb : List ℕ) (mode : Mode) (work after : List ℕ) (v : Verdict) (a : CheckResult) → answer hb pb mode (length work) ≡ a → v ≡ a .verdict
     → after ≡ cond (a .writes) (written (a .words) work) work
-    → (v ≡ answer hb pb (length work) .verdict) × ((after ≡ workAfter hb pb work) × AcceptedIsSound hb pb v)
+    → (v ≡ answer hb pb mode (length work) .verdict) × ((after ≡ workAfter hb pb mode work) × AcceptedIsSound hb pb mode v)
 unfolding workAfter
-promised hb pb work after v a is verdict words =
-    let v-is : v ≡ answer hb pb (length work) .verdict = verdict ∙ sym (ap (λ x. x .verdict) is) in
-    (v-is, (rw is words, subst (AcceptedIsSound hb pb) (sym v-is) (accepted-is-sound hb pb (length work))))
+promised hb pb mode work after v a is verdict words =
+    let v-is : v ≡ answer hb pb mode (length work) .verdict = verdict ∙ sym (ap (λ x. x .verdict) is) in
+    (v-is, (rw is words, subst (AcceptedIsSound hb pb mode) (sym v-is) (accepted-is-sound hb pb mode (length work))))

@@ -3,22 +3,20 @@ use Prim.Native.Nat.{ℕ, _≤_}
 use mathlib.Core.Path.{_≡_}
 use mathlib.Core.List.{List}
 use mathlib.Core.Option.{none}
-use lib.ListN.{length}
-use Rattle.semantics.specs.States.{product}
-use Rattle.semantics.specs.StepNumber.{steps}
 use Rattle.semantics.specs.Checking.{firstFault}
 use Rattle.derivation.specs.Tables.{workWords}
-use Rattle.checker.specs.Verdicts.{PairRead, tablesIn}
+use Rattle.pair.specs.declared.Mode.{Mode}
+use Rattle.pair.specs.Reading.{Pair, stepsOf, pair, readPair}
+use Rattle.pair.specs.Modes.{tablesIn}
 
-pub record Acceptable (hb pb : List ℕ) (words k : ℕ) : Type 0 where
+pub record Acceptable (hb pb : List ℕ) (mode : Mode) (words k : ℕ) : Type 0 where
   -- the work words suffice
   pub enough : workWords ≤ words
   -- both files are within their length, and read
-  pub handler-length : length hb ≤ 16384
-  pub proof-length : length pb ≤ 16384
-  pub pair : PairRead hb pb
+  pub held : Pair
+  pub read : readPair hb pb ≡ pair held
   -- no node breaks a condition
-  pub unbroken : firstFault (tablesIn pair) (pair .derivation) (pair .statement) 0 ≡ none
+  pub unbroken : firstFault (tablesIn pb mode held) (held .derivation) (held .statement) 0 ≡ none
   -- k is the step number, and within its limit
-  pub number : k ≡ steps (product (pair .sizes)) (pair .statement)
+  pub number : k ≡ stepsOf held
   pub limit : k ≤ 4294967295

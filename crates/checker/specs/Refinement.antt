@@ -1,16 +1,19 @@
 -- What the private functions of the check require and ensure. No public contract uses this.
-use Prim.Native.Nat.{ℕ, _-_, _^_, min}
+use Prim.Native.Nat.{ℕ, _-_, _^_, _≤_}
 use mathlib.Core.Path.{_≡_}
 use mathlib.Core.Bool.{cond}
 use mathlib.Core.List.{List}
 use lib.Dec.{ltb}
-use Rattle.semantics.specs.Language.{Stmt}
-use Rattle.semantics.specs.States.{product}
-use Rattle.semantics.specs.StepNumber as StepNumber
+use lib.ListN.{length}
 use Rattle.handler.specs.declared.head.Head.{Head}
 use Rattle.handler.specs.Header.{headOf}
-use Rattle.handler.specs.Reading.{handler, readHandler}
 use Rattle.handler.specs.StatementTable.{statementTable}
+use Rattle.derivation.specs.NodeTable.{nodeTable}
+use Rattle.derivation.specs.Tables.{workWords, written}
+use Rattle.pair.specs.declared.Mode.{Mode}
+use Rattle.pair.specs.declared.PairSummary.{PairSummary}
+use Rattle.pair.specs.Reading.{Pair, handlerSummary, proofHead, pair, readPair}
+use Rattle.pair.specs.Modes.{tableWords}
 use Rattle.checker.specs.declared.Place.the-variants.{Node}
 use Rattle.checker.specs.declared.Verdict.{Verdict}
 use Rattle.checker.specs.declared.Verdict.the-variants.{Accepted}
@@ -18,15 +21,19 @@ use Rattle.checker.specs.declared.nodes.FirstFault.{FirstFault}
 use Rattle.checker.specs.declared.nodes.FirstFault.the-variants as first
 use Rattle.checker.specs.Verdicts.{refusedNaming, refusedAt}
 
--- A handler file that was read: its head, its table of statements, and its step number, capped at 2 ^ 32.
-pub record Handled (hb : List ℕ) (head : Head) (statements : List ℕ) (steps : ℕ) : Type 0 where
-  pub sizes : List ℕ
-  pub place : ℕ
-  pub S : Stmt
-  pub reads : readHandler hb ≡ handler sizes place S
-  pub head-is : head ≡ headOf sizes
-  pub table-is : statements ≡ statementTable place S
-  pub counted : steps ≡ min (StepNumber.steps (product sizes) S) (2 ^ 32)
+-- A pair that was read: its head, the tables of its statements and nodes, its summary, and its tables in the work words.
+pub record Loaded (hb : List ℕ) (head : Head) (statements nodes : List ℕ) (w : PairSummary) (work : List ℕ) : Type 0 where
+  pub proof : List ℕ
+  pub mode : Mode
+  pub held : Pair
+  pub read : readPair hb proof ≡ pair held
+  pub head-is : head ≡ headOf (held .sizes)
+  pub statements-are : statements ≡ statementTable (held .statement-bit) (held .statement)
+  pub nodes-are : nodes ≡ nodeTable (held .root-bit) (held .derivation)
+  pub summary : w ≡ record { handler = handlerSummary held; proof = proofHead held }
+  pub before : List ℕ
+  pub enough : workWords ≤ length before
+  pub words : work ≡ written (tableWords proof mode held) before
 
 -- The verdict from what the loop found and the step number; 80 last, at node 0.
 abbrev pub decided : FirstFault → ℕ → Verdict

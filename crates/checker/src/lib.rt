@@ -1,28 +1,27 @@
 // The check of two files: both are read once, and then the loop over the nodes checks the conditions of each.
-use derivation::ProofFound;
-use derivation::reading::load;
+use derivation::MOST_NODES;
 use derivation::words::clear;
-use handler::HandlerFound;
+use handler::MOST_STATEMENTS;
 use handler::head::Head;
-use handler::reading::read_handler;
 use nodes::FirstFault;
 use nodes::first_fault;
+use pair::Mode;
+use pair::PairFound;
+use pair::PairSummary;
+use pair::load_pair;
 use search::Named;
 ghost use mathlib.Core.Path.{_≡_};
-ghost use Prim.Native.Nat.{_≤_};
 ghost use lib.ListN.{length};
-ghost use Rattle.handler.specs.Reading.{readHandler};
-ghost use Rattle.derivation.specs.Tables.{workWords, written};
+ghost use Rattle.derivation.specs.Tables.{written};
+ghost use Rattle.pair.specs.Reading.{pair};
 ghost use Rattle.checker.specs.declared.Place.the-variants.{Bit, Node};
-ghost use Rattle.checker.specs.Verdicts.{refusedNaming, refusedAt, onHandler, answer, workAfter, AcceptedIsSound};
-ghost use Rattle.checker.specs.Refinement.{Handled, decided};
+ghost use Rattle.checker.specs.Verdicts.{refusedNaming, refusedAt, onPair, answer, workAfter, AcceptedIsSound};
+ghost use Rattle.checker.specs.Refinement.{Loaded, decided};
 
 pub mod nodes;
 
-// The least number of work words that the host lends, and the largest number of bytes of a file.
+// The least number of work words that the host lends.
 pub const WORK_WORDS: usize = derivation::WORK_WORDS;
-
-pub const MOST_BYTES: usize = 16384;
 
 // The largest step number that is stated.
 const MOST_STEPS: u64 = 4294967295;
@@ -90,66 +89,53 @@ fn decide(found: FirstFault, steps: u64) -> Verdict
     }
 }
 
-// Checks the proof file over a handler file that was read. Its tables stay in the work words only if the pair is accepted.
-fn check_proof(
+// The verdict on a pair that was read and whose tables are in the work words. They stay there only if the pair is accepted.
+fn check_read(
     handler: &[u8],
-    proof: &[u8],
-    work: &mut [u64],
     head: Head,
-    statements: &[u64],
-    steps: u64,
+    statements: &[u64; MOST_STATEMENTS],
+    nodes: &[u64; MOST_NODES],
+    read: PairSummary,
+    work: &mut [u64],
 ) -> Verdict
-    requires { ⌜ Handled (now handler) head (now statements) steps ⌝ }
-    requires { ⌜ workWords ≤ length (now work) ⌝ }
-    ensures verdict { λ r. ⌜ r ≡ onHandler (now (proof .entry)) (readHandler (now (handler .entry))) .verdict ⌝ }
-    ensures words { λ _.
-        ⌜ now (work .exit) ≡ written (onHandler (now (proof .entry)) (readHandler (now (handler .entry))) .words) (now (work .entry)) ⌝ }
+    requires { ⌜ Loaded (now handler) head (now statements) (now nodes) read (now work) ⌝ }
+    ensures verdict { λ r. ⌜ ((l : Loaded (now (handler .entry)) head (now (statements .entry)) (now (nodes .entry)) read (now (work .entry)))
+        → r ≡ onPair (l .proof) (l .mode) (pair (l .held)) .verdict) ⌝ }
+    ensures words { λ _. ⌜ ((l : Loaded (now (handler .entry)) head (now (statements .entry)) (now (nodes .entry)) read (now (work .entry)))
+        → now (work .exit) ≡ written (onPair (l .proof) (l .mode) (pair (l .held)) .words) (l .before)) ⌝ }
 {
-    let file = load(proof, head.states, work);
-    let found = file.found;
-    match found {
-        ProofFound::Fault(number, place) => at_bit(number, place),
-        ProofFound::Proof(read) => {
-            let table = file.nodes;
-            let fault = first_fault(handler, head, &work[..], &table, statements, read.nodes);
-            match decide(fault, steps) {
-                Verdict::Accepted(k) => Verdict::Accepted(k),
-                Verdict::Refused(fault) => {
-                    clear(work);
-                    Verdict::Refused(fault)
-                }
-            }
+    let summary = read.handler;
+    let tables = read.proof;
+    let fault = first_fault(handler, head, &work[..], nodes, statements, tables.nodes);
+    match decide(fault, summary.steps) {
+        Verdict::Accepted(k) => Verdict::Accepted(k),
+        Verdict::Refused(fault) => {
+            clear(work);
+            Verdict::Refused(fault)
         }
     }
 }
 
 // The check of two files, for every pair of files and every work buffer. On acceptance the tables are in the first 1,040 work words, and
 // `AcceptedIsSound` is what the pair promises for every list of events.
-pub fn check(handler: &[u8], proof: &[u8], work: &mut [u64]) -> Verdict
-    ensures verdict { λ r. ⌜ r ≡ answer (now (handler .entry)) (now (proof .entry)) (length (now (work .entry))) .verdict ⌝ }
-    ensures words { λ _. ⌜ now (work .exit) ≡ workAfter (now (handler .entry)) (now (proof .entry)) (now (work .entry)) ⌝ }
-    ensures promise { λ r. ⌜ AcceptedIsSound (now (handler .entry)) (now (proof .entry)) r ⌝ }
+pub fn check(handler: &[u8], proof: &[u8], mode: Mode, work: &mut [u64]) -> Verdict
+    ensures verdict { λ r. ⌜ r ≡ answer (now (handler .entry)) (now (proof .entry)) mode (length (now (work .entry))) .verdict ⌝ }
+    ensures words { λ _. ⌜ now (work .exit) ≡ workAfter (now (handler .entry)) (now (proof .entry)) mode (now (work .entry)) ⌝ }
+    ensures promise { λ r. ⌜ AcceptedIsSound (now (handler .entry)) (now (proof .entry)) mode r ⌝ }
 {
     if work.len() < WORK_WORDS {
         return at_bit(FEW_WORDS, 0);
     }
-    if handler.len() > MOST_BYTES {
-        return at_bit(LONG_FILE, 0);
-    }
-    if proof.len() > MOST_BYTES {
-        return at_bit(LONG_FILE, 0);
-    }
-    let file = read_handler(handler);
+    let file = load_pair(handler, proof, mode, work);
     let found = file.found;
     match found {
-        HandlerFound::Fault(number, place) => {
-            clear(work);
-            at_bit(number, place)
-        }
-        HandlerFound::Handler(read) => {
+        PairFound::TooLong => at_bit(LONG_FILE, 0),
+        PairFound::Fault(number, place) => at_bit(number, place),
+        PairFound::Pair(read) => {
             let head = file.head;
             let statements = file.statements;
-            check_proof(handler, proof, work, head, &statements, read.steps)
+            let nodes = file.nodes;
+            check_read(handler, head, &statements, &nodes, read, work)
         }
     }
 }

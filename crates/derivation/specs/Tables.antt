@@ -79,6 +79,13 @@ entryWord bytes n sets relations i k =
 unfoldable pub tableWord : List ℕ → ℕ → ℕ → ℕ → ℕ → ℕ
 tableWord bytes n sets relations j = entryWord bytes n sets relations (j / setWords) (j % setWords)
 
+-- The same for any numbers of states and tables; 0 where there cannot be so many.
+unfoldable pub areTables : ℕ → ℕ → ℕ → Bool
+areTables n sets relations = leb n capacity && leb sets mostTables && leb relations mostTables
+
+unfoldable pub limitedWord : List ℕ → ℕ → ℕ → ℕ → ℕ → ℕ
+limitedWord bytes n sets relations j = cond (areTables n sets relations) (tableWord bytes n sets relations j) 0
+
 abbrev pub workWords : ℕ
 workWords = setWords * (mostTables + mostTables * capacity)
 

@@ -12,7 +12,7 @@ ghost use Prim.Native.Nat.{ℕ, _+_, _-_, _*_, _/_, _%_, _^_, _≤_, _<_, min};
 ghost use lib.Bits.{bitAnd, bitOr};
 ghost use Rattle.bits.specs.Fields.{bitsAt};
 ghost use Rattle.states.specs.Sets.{setWords, capacity};
-ghost use Rattle.derivation.specs.Tables.{mostTables, wordAt, setWordAt, tableWord, workWords, written};
+ghost use Rattle.derivation.specs.Tables.{mostTables, wordAt, setWordAt, tableWord, workWords, areTables, limitedWord, written};
 
 // How many rows a relation has, and the word at which the rows begin, after the sets.
 const ROWS: usize = CAPACITY as usize;
@@ -148,5 +148,23 @@ pub(crate) fn fill(src: &[u8], n: usize, sets: usize, relations: usize, work: &m
         let word = table_word(src, n, sets, relations, j);
         work[j] = word;
         j = next_word(n, j);
+    }
+}
+
+// Whether there can be so many states, sets and relations.
+fn are_tables(n: u32, sets: u32, relations: u32) -> bool
+    ensures { λ r. ⌜ r ≡ areTables n sets relations ⌝ }
+{
+    (n <= CAPACITY) & (sets as usize <= MOST_TABLES) & (relations as usize <= MOST_TABLES)
+}
+
+// Writes the tables of a file over n states with so many sets and relations; 0 in all work words where there cannot be so many.
+pub fn write_tables(src: &[u8], n: u32, sets: u32, relations: u32, work: &mut [u64])
+    ensures { λ _. ⌜ now (work .exit) ≡ written (limitedWord (now (src .entry)) n sets relations) (now (work .entry)) ⌝ }
+{
+    if are_tables(n, sets, relations) {
+        fill(src, n as usize, sets as usize, relations as usize, work);
+    } else {
+        clear(work);
     }
 }
