@@ -19,6 +19,7 @@ use Rattle.handler.specs.Reading.{handler, readHandler}
 use Rattle.handler.proofs.Moved.{Same}
 use Rattle.handler.proofs.StmtMoved.{parallel-read}
 use Rattle.form.proofs.Verdicts.{same-members}
+use Rattle.pair.specs.Limits.{mostHandlerBytes}
 use Rattle.joint.specs.Joining.{handlerParts}
 
 module _ (h : List ℕ) (at : ℕ) (S : Stmt) (h′ : List ℕ) (at′ : ℕ) (T : Stmt) where
@@ -44,7 +45,7 @@ module _ (h : List ℕ) (at : ℕ) (S : Stmt) (h′ : List ℕ) (at′ : ℕ) (T
   file-ends : fillAt file (at + 3 + stmtWidth S + stmtWidth T) ≡ Ends
   file-ends = rw width-is at (packed-ends parts)
 
-  module _ (short : length (packed (handlerParts h at (stmtWidth S) h′ at′ (stmtWidth T))) ≤ 16384) where
+  module _ (short : length (packed (handlerParts h at (stmtWidth S) h′ at′ (stmtWidth T))) ≤ mostHandlerBytes) where
     moved : (a : List ℕ) (x y w : ℕ) → y + w ≤ at + 3 + stmtWidth S + stmtWidth T → bitsAt file y w ≡ bitsAt a x w → Same a x file y w
     unfolding bytesFor
     moved a x y w within same =

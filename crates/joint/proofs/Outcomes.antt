@@ -1,19 +1,18 @@
 -- Which answers the composition of two pairs of files gives: files are made if every test holds; otherwise the answer is that of the first
 -- test that fails.
-use Prim.Native.Nat.{ℕ}
+use Prim.Native.Nat.{ℕ, _+_}
 use mathlib.Core.Bool.{Bool, true, false, cond}
 use mathlib.Core.List.{List}
 use mathlib.Core.Path.{_≡_, refl, _∙_}
 use lib.Dec.{ltb}
-use Rattle.semantics.specs.Language.{par}
-use Rattle.semantics.specs.States.{product}
-use Rattle.semantics.specs.StepNumber.{steps}
 use Rattle.derivation.specs.Tables.{workWords}
+use Rattle.pair.specs.Limits.{tooLong}
+use Rattle.pair.specs.Modes.{rows}
 use Rattle.checker.specs.declared.Fault.{Fault}
 use Rattle.checker.specs.declared.Verdict.{Verdict}
 use Rattle.checker.specs.declared.Verdict.the-variants.{Accepted, Refused}
 use Rattle.checker.specs.Verdicts.{answer}
-use Rattle.joint.specs.Composing.{Side, sideOf, Composition, made, refused, plain, sameSizes, handlerFile, proofFile, inLimits, secondAllowed, firstAllowed, metPKept, composition, ofPair, tooLong, compose}
+use Rattle.joint.specs.Composing.{Side, sideOf, Composition, made, refused, plain, sameSizes, handlerFile, proofFile, inLimits, secondAllowed, firstAllowed, metPKept, composition, ofPair, compose}
 
 -- What holds of both answers, each where the test gives it, holds of the one that is chosen.
 tested : {A : Type 0} (P : A → Type 0) (t : Bool) (x y : A) → (t ≡ true → P x) → (t ≡ false → P y) → P (cond t x y)
@@ -26,9 +25,6 @@ module _ (h p h′ p′ : List ℕ) where
 
   abbrev b : Side
   b = sideOf h′ p′
-
-  abbrev n : ℕ
-  n = product (a .sizes)
 
   -- 90 to 94, on what is taken from both pairs.
   abbrev pub sameVariables : Bool
@@ -43,13 +39,10 @@ module _ (h p h′ p′ : List ℕ) where
   abbrev pub bothStay : Bool
   bothStay = metPKept h h′ a b
 
-  abbrev pub withinLimits : Bool
-  withinLimits = inLimits h h′ a b
+  abbrev pub withinLimits : ℕ → Bool
+  withinLimits k = inLimits h h′ a b k
 
   -- What is made.
-  abbrev pub stepsOut : ℕ
-  stepsOut = steps n (par (a .statement) (b .statement))
-
   abbrev pub handlerOut : List ℕ
   handlerOut = handlerFile h h′ a b
 
@@ -66,9 +59,13 @@ module _ (h p h′ p′ : List ℕ) where
     pub record BothAccepted : Type 0 where
       pub readable : Readable
       pub first-steps : ℕ
-      pub first : answer h p words .verdict ≡ Accepted first-steps
+      pub first : answer h p rows words .verdict ≡ Accepted first-steps
       pub second-steps : ℕ
-      pub second : answer h′ p′ words .verdict ≡ Accepted second-steps
+      pub second : answer h′ p′ rows words .verdict ≡ Accepted second-steps
+
+    -- Both step numbers plus 1.
+    abbrev pub stepsOut : BothAccepted → ℕ
+    stepsOut both = both .first-steps + both .second-steps + 1
 
     pub record Compatible : Type 0 where
       pub both-accepted : BothAccepted
@@ -80,8 +77,8 @@ module _ (h p h′ p′ : List ℕ) where
     -- What is known where files are made.
     pub record Success (k : ℕ) (hout pout : List ℕ) : Type 0 where
       pub compatible : Compatible
-      pub within-limits : withinLimits ≡ true
-      pub steps-are : k ≡ stepsOut
+      pub steps-are : k ≡ stepsOut (compatible .both-accepted)
+      pub within-limits : withinLimits k ≡ true
       pub handler-is : hout ≡ handlerOut
       pub proof-is : pout ≡ proofOut
 
@@ -90,24 +87,24 @@ module _ (h p h′ p′ : List ℕ) where
       few-words : ltb words workWords ≡ true → Refusal 0 (plain 1)
       first-long : ltb words workWords ≡ false → tooLong h p ≡ true → Refusal 1 (plain 2)
       second-long : ltb words workWords ≡ false → tooLong h p ≡ false → tooLong h′ p′ ≡ true → Refusal 2 (plain 2)
-      first-refused : Readable → (f : Fault) → answer h p words .verdict ≡ Refused f → Refusal 1 f
-      second-refused : Readable → (k : ℕ) → answer h p words .verdict ≡ Accepted k
-          → (f : Fault) → answer h′ p′ words .verdict ≡ Refused f → Refusal 2 f
+      first-refused : Readable → (f : Fault) → answer h p rows words .verdict ≡ Refused f → Refusal 1 f
+      second-refused : Readable → (k : ℕ) → answer h p rows words .verdict ≡ Accepted k
+          → (f : Fault) → answer h′ p′ rows words .verdict ≡ Refused f → Refusal 2 f
       other-variables : BothAccepted → sameVariables ≡ false → Refusal 0 (plain 90)
       second-outside : BothAccepted → sameVariables ≡ true → secondInFirst ≡ false → Refusal 0 (plain 91)
       first-outside : BothAccepted → sameVariables ≡ true → secondInFirst ≡ true → firstInSecond ≡ false → Refusal 0 (plain 92)
       leads-out : BothAccepted → sameVariables ≡ true → secondInFirst ≡ true → firstInSecond ≡ true → bothStay ≡ false
           → Refusal 0 (plain 93)
-      past-limits : Compatible → withinLimits ≡ false → Refusal 0 (plain 94)
+      past-limits : (c : Compatible) → withinLimits (stepsOut (c .both-accepted)) ≡ false → Refusal 0 (plain 94)
 
     abbrev Explained : Composition → Type 0
     Explained (made k hout pout) = Success k hout pout
     Explained (refused pair f) = Refusal pair f
 
-    abbrev together : Composition
-    together = composition h h′ (sideOf h p) (sideOf h′ p′)
+    abbrev together : ℕ → ℕ → Composition
+    together k k′ = composition h h′ (sideOf h p) (sideOf h′ p′) (k + k′ + 1)
 
-    by-both : BothAccepted → Explained together
+    by-both : (both : BothAccepted) → Explained (together (both .first-steps) (both .second-steps))
     unfolding composition
     by-both both =
         tested Explained sameVariables _ _ (λ e90. tested Explained secondInFirst _ _ (λ e91. tested Explained firstInSecond _ _ (λ e92.
@@ -115,18 +112,18 @@ module _ (h p h′ p′ : List ℕ) where
         let c : Compatible =
         record { both-accepted = both; same-variables = e90; second-in-first = e91; first-in-second = e92; both-stay = e93 }
         in
-        tested Explained withinLimits _ _ (λ e94.
-        record { compatible = c; within-limits = e94; steps-are = refl; handler-is = refl; proof-is = refl })
+        tested Explained (withinLimits (stepsOut both)) _ _ (λ e94.
+        record { compatible = c; steps-are = refl; within-limits = e94; handler-is = refl; proof-is = refl })
         (past-limits c)) (leads-out both e90 e91 e92)) (first-outside both e90 e91)) (second-outside both e90)) (other-variables both)
 
-    by-second : Readable → (k : ℕ) → answer h p words .verdict ≡ Accepted k
-        → (v : Verdict) → answer h′ p′ words .verdict ≡ v → Explained (ofPair 2 v together)
+    by-second : Readable → (k : ℕ) → answer h p rows words .verdict ≡ Accepted k
+        → (v : Verdict) → answer h′ p′ rows words .verdict ≡ v → Explained (ofPair 2 v (together k))
     by-second r k e (Accepted j) e′ = by-both (record { readable = r; first-steps = k; first = e; second-steps = j; second = e′ })
     by-second r k e (Refused f) e′ = second-refused r k e f e′
 
-    by-first : Readable → (v : Verdict) → answer h p words .verdict ≡ v
-        → Explained (ofPair 1 v (ofPair 2 (answer h′ p′ words .verdict) together))
-    by-first r (Accepted k) e = by-second r k e (answer h′ p′ words .verdict) refl
+    by-first : Readable → (v : Verdict) → answer h p rows words .verdict ≡ v
+        → Explained (ofPair 1 v (λ k. ofPair 2 (answer h′ p′ rows words .verdict) (together k)))
+    by-first r (Accepted k) e = by-second r k e (answer h′ p′ rows words .verdict) refl
     by-first r (Refused f) e = first-refused r f e
 
     explained : Explained (compose h p h′ p′ words)
@@ -134,7 +131,7 @@ module _ (h p h′ p′ : List ℕ) where
     explained =
         tested Explained (ltb words workWords) _ _ few-words (λ e. tested Explained (tooLong h p) _ _ (first-long e) (λ f.
         tested Explained (tooLong h′ p′) _ _ (second-long e f) (λ g.
-        by-first (record { enough = e; first-short = f; second-short = g }) (answer h p words .verdict) refl)))
+        by-first (record { enough = e; first-short = f; second-short = g }) (answer h p rows words .verdict) refl)))
 
     pub succeeded : (k : ℕ) (hout pout : List ℕ) → compose h p h′ p′ words ≡ made k hout pout → Success k hout pout
     succeeded k hout pout e = rw e at explained
@@ -144,11 +141,11 @@ module _ (h p h′ p′ : List ℕ) where
 
     -- And conversely.
     past-files : Readable
-        → compose h p h′ p′ words ≡ ofPair 1 (answer h p words .verdict) (ofPair 2 (answer h′ p′ words .verdict) together)
+        → compose h p h′ p′ words ≡ ofPair 1 (answer h p rows words .verdict) (λ k. ofPair 2 (answer h′ p′ rows words .verdict) (together k))
     unfolding compose
     past-files r = rw (r .enough, r .first-short, r .second-short)
 
-    past-checks : BothAccepted → compose h p h′ p′ words ≡ together
+    past-checks : (both : BothAccepted) → compose h p h′ p′ words ≡ together (both .first-steps) (both .second-steps)
     past-checks both = past-files (both .readable) ∙ rw (both .first, both .second)
 
     pub refused-back : {pair : ℕ} {f : Fault} → Refusal pair f → compose h p h′ p′ words ≡ refused pair f
@@ -169,5 +166,6 @@ module _ (h p h′ p′ : List ℕ) where
     unfolding composition
     succeeded-back k hout pout s =
         let c = s .compatible in
+        let within : withinLimits (stepsOut (c .both-accepted)) ≡ true = rw (← s .steps-are) (s .within-limits) in
         rw (s .steps-are, s .handler-is, s .proof-is)
-        (past-checks (c .both-accepted) ∙ rw (c .same-variables, c .second-in-first, c .first-in-second, c .both-stay, s .within-limits))
+        (past-checks (c .both-accepted) ∙ rw (c .same-variables, c .second-in-first, c .first-in-second, c .both-stay, within))

@@ -9,35 +9,25 @@ use Rattle.semantics.specs.StepNumber.{steps}
 use Rattle.semantics.specs.Derivations.{namesOf, nodes, levels, specOf}
 use Rattle.semantics.specs.Checking.{firstFault}
 use Rattle.handler.specs.Reading.{handler, readHandler}
+use Rattle.pair.specs.Reading.{Pair, statesOf, pair, readPair}
+use Rattle.pair.specs.Modes.{rows}
+use Rattle.pair.proofs.Cases.{read-holds}
 use Rattle.checker.specs.declared.Verdict.the-variants.{Accepted}
-use Rattle.checker.specs.Verdicts.{PairRead, rootSpec, answer}
+use Rattle.checker.specs.Verdicts.{answer}
 use Rattle.checker.proofs.Acceptance.{accepted-exactly}
 use Rattle.form.specs.Members.{byMembers}
 use Rattle.form.proofs.Renaming.{nodes-rename, levels-rename}
 use Rattle.form.proofs.Verdicts.{memberTables, members-fault, members-spec}
 use Rattle.form.proofs.Forms.{Writable, writable}
-use Rattle.joint.specs.Composing.{Side, sideOf}
-
--- What is taken from two files that are read.
-abbrev pub sideIn : {hb pb : List ℕ} → PairRead hb pb → Side
-sideIn {hb} {pb} pair = record {
-  sizes = pair .sizes;
-  at = pair .statement-bit;
-  statement = pair .statement;
-  tables = rootSpec pair;
-  derivation = byMembers pb (product (pair .sizes)) (pair .sets) (pair .derivation);
-}
-
-side-of : (hb pb : List ℕ) (pair : PairRead hb pb) → sideOf hb pb ≡ sideIn pair
-unfolding sideOf
-side-of hb pb pair = rw (pair .handler-read, pair .proof-read)
+use Rattle.joint.specs.Composing.{Side, sideIn, sideOf}
 
 -- What is known of the side of a pair that is accepted with k steps, over variables of these sizes.
 pub record AcceptedSide (hb pb : List ℕ) (k : ℕ) (sizes : List ℕ) (side : Side) : Type 0 where
-  pub pair : PairRead hb pb
-  pub is-side : side ≡ sideIn pair
-  pub nodes-are : nodes (side .derivation) ≡ nodes (pair .derivation)
-  pub levels-are : levels (side .derivation) ≡ levels (pair .derivation)
+  pub held : Pair
+  pub read : readPair hb pb ≡ pair held
+  pub is-side : side ≡ sideIn pb (pair held)
+  pub nodes-are : nodes (side .derivation) ≡ nodes (held .derivation)
+  pub levels-are : levels (side .derivation) ≡ levels (held .derivation)
   pub handler-read : readHandler hb ≡ handler sizes (side .at) (side .statement)
   pub tables-are : side .tables ≡ specOf (memberTables (machineOf sizes)) (namesOf (side .derivation))
   pub unbroken : firstFault (memberTables (machineOf sizes)) (side .derivation) (side .statement) 0 ≡ none
@@ -45,23 +35,24 @@ pub record AcceptedSide (hb pb : List ℕ) (k : ℕ) (sizes : List ℕ) (side : 
   pub number : k ≡ steps (product sizes) (side .statement)
   pub limit : k ≤ 4294967295
 
-pub accepted-side : (hb pb : List ℕ) (words k : ℕ) → answer hb pb words .verdict ≡ Accepted k
+pub accepted-side : (hb pb : List ℕ) (words k : ℕ) → answer hb pb rows words .verdict ≡ Accepted k
     → AcceptedSide hb pb k (sideOf hb pb .sizes) (sideOf hb pb)
-unfolding byMembers
+unfolding sideOf byMembers
 accepted-side hb pb words k e =
-    let a = accepted-exactly hb pb words k .0 e in
-    let p = a .pair in
-    let n = product (p .sizes) in
-    let m = machineOf (p .sizes) in
-    subst (λ s. AcceptedSide hb pb k (s .sizes) s) (sym (side-of hb pb p)) (record {
-      pair = p;
+    let a = accepted-exactly hb pb rows words k .0 e in
+    let x = a .held in
+    let files = read-holds hb pb x (a .read) in
+    let m = machineOf (x .sizes) in
+    subst (λ r. AcceptedSide hb pb k (sideIn pb r .sizes) (sideIn pb r)) (sym (a .read)) (record {
+      held = x;
+      read = a .read;
       is-side = refl;
-      nodes-are = nodes-rename _ _ (p .derivation);
-      levels-are = levels-rename _ _ (p .derivation);
-      handler-read = p .handler-read;
-      tables-are = members-spec m pb (p .sets) (p .derivation);
-      unbroken = sym (members-fault m pb (p .sets) (p .derivation) (p .statement) 0) ∙ a .unbroken;
-      room = writable pb n (p .sets) (p .relations) (p .root-bit) (p .derivation) (p .proof-read);
+      nodes-are = nodes-rename _ _ (x .derivation);
+      levels-are = levels-rename _ _ (x .derivation);
+      handler-read = files .handler-read;
+      tables-are = members-spec m pb (x .sets) (x .derivation);
+      unbroken = sym (members-fault m pb (x .sets) (x .derivation) (x .statement) 0) ∙ a .unbroken;
+      room = writable pb (statesOf x) (x .sets) (x .relations) (x .root-bit) (x .derivation) (files .proof-read);
       number = a .number;
       limit = a .limit;
     })

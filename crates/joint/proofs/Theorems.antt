@@ -23,6 +23,9 @@ use Rattle.handler.specs.Reading.{handler, readHandler}
 use Rattle.handler.proofs.Fitting.{stmt-fits}
 use Rattle.handler.proofs.Handlers.{known-handler}
 use Rattle.derivation.specs.Tables.{workWords}
+use Rattle.pair.specs.Limits.{mostHandlerBytes, mostProofBytes}
+use Rattle.pair.specs.Modes.{rows}
+use Rattle.pair.proofs.Cases.{holds-read}
 use Rattle.checker.specs.declared.Verdict.the-variants.{Accepted}
 use Rattle.checker.specs.Verdicts.{answer, AcceptedIsSound}
 use Rattle.checker.specs.Acceptance.{Acceptable}
@@ -41,23 +44,23 @@ use Rattle.joint.proofs.Rules.{root-within}
 use Rattle.joint.proofs.Joined.{named-spec, joined-fault}
 use Rattle.joint.proofs.Sides.{AcceptedSide, accepted-side}
 use Rattle.joint.proofs.HandlerFile.{joined-read}
-use Rattle.joint.proofs.Outcomes.{stepsOut, handlerOut, proofOut, BothAccepted, Compatible, Success, succeeded}
+use Rattle.joint.proofs.Outcomes.{handlerOut, proofOut, BothAccepted, Compatible, Success, succeeded}
 
 -- 94: the result is within each limit.
-pub record Limits (h h′ : List ℕ) (a b : Side) : Type 0 where
+pub record Limits (h h′ : List ℕ) (a b : Side) (k : ℕ) : Type 0 where
   pub statements-most : statements (statement h h′ a b) ≤ 63
   pub statement-levels : stmtLevels (statement h h′ a b) ≤ 16
   pub nodes-most : nodes (derivation h h′ a b) ≤ 127
   pub levels-most : levels (derivation h h′ a b) ≤ 24
   pub sets-most : length (setsIn (derivation h h′ a b)) ≤ 16
   pub relations-most : length (relationsIn (derivation h h′ a b)) ≤ 16
-  pub handler-length : length (handlerFile h h′ a b) ≤ 16384
-  pub proof-length : length (proofFile h h′ a b) ≤ 16384
-  pub steps-most : steps (product (a .sizes)) (statement h h′ a b) ≤ 2 ^ 32 - 1
+  pub handler-length : length (handlerFile h h′ a b) ≤ mostHandlerBytes
+  pub proof-length : length (proofFile h h′ a b) ≤ mostProofBytes
+  pub steps-most : k ≤ 2 ^ 32 - 1
 
-pub limits : (h h′ : List ℕ) (a b : Side) → inLimits h h′ a b ≡ true → Limits h h′ a b
+pub limits : (h h′ : List ℕ) (a b : Side) (k : ℕ) → inLimits h h′ a b k ≡ true → Limits h h′ a b k
 unfolding inLimits
-limits h h′ a b e =
+limits h h′ a b k e =
     let tests = simp and-eq-true-iff at e in
     record {
       statements-most = omega (arith, leb-true);
@@ -116,8 +119,8 @@ module _ (h p h′ p′ : List ℕ) (words k : ℕ) (hout pout : List ℕ) (s : 
       subst (λ sizes. AcceptedSide h′ p′ (both .second-steps) sizes b) (sym (sizes-same (a .sizes) (b .sizes) (c .same-variables)))
       (accepted-side h′ p′ words _ (both .second))
 
-  within : Limits h h′ a b
-  within = limits h h′ a b (s .within-limits)
+  within : Limits h h′ a b k
+  within = limits h h′ a b k (s .within-limits)
 
   tables-fit : TablesFit n d
   tables-fit =
@@ -152,33 +155,34 @@ module _ (h p h′ p′ : List ℕ) (words k : ℕ) (hout pout : List ℕ) (s : 
       joined-read h (a .at) (a .statement) h′ (b .at) (b .statement) (within .handler-length) (a .sizes) (left .handler-read)
       (right .handler-read) (within .statements-most) (within .statement-levels)
 
-  acceptable : (words′ : ℕ) → workWords ≤ words′ → Acceptable (handlerOut h p h′ p′) (proofOut h p h′ p′) words′ (stepsOut h p h′ p′)
+  -- k is the step number of the parallel.
+  number : k ≡ steps n S
+  number = omega (arith, s .steps-are, left .number, right .number)
+
+  acceptable : (words′ : ℕ) → workWords ≤ words′ → Acceptable (handlerOut h p h′ p′) (proofOut h p h′ p′) rows words′ k
   acceptable words′ enough = record {
     enough = enough;
-    handler-length = within .handler-length;
-    proof-length = within .proof-length;
-    pair = record {
+    held = record {
       sizes = a .sizes;
       statement-bit = a .at;
       statement = S;
-      handler-read = handler-read;
       sets = length (setsIn d);
       relations = _;
       root-bit = _;
       derivation = numbered d;
-      proof-read = any-read n d room;
     };
+    read = holds-read (handlerOut h p h′ p′) (proofOut h p h′ p′) _ (record {
+      short = record { handler-length = within .handler-length; proof-length = within .proof-length };
+      handler-read = handler-read;
+      proof-read = any-read n d room;
+    });
     unbroken = any-fault m d room S 0 ∙ unbroken;
-    number = refl;
+    number = number;
     limit = within .steps-most;
   }
 
-  accepted : (words′ : ℕ) → workWords ≤ words′ → answer hout pout words′ .verdict ≡ Accepted k
-  accepted words′ enough =
-      rw (s .handler-is, s .proof-is, s .steps-are) (accepted-exactly _ _ words′ _ .1 (acceptable words′ enough))
-
-  both-steps : k ≡ both .first-steps + both .second-steps + 1
-  both-steps = omega (arith, s .steps-are, left .number, right .number)
+  accepted : (words′ : ℕ) → workWords ≤ words′ → answer hout pout rows words′ .verdict ≡ Accepted k
+  accepted words′ enough = rw (s .handler-is, s .proof-is) (accepted-exactly _ _ rows words′ _ .1 (acceptable words′ enough))
 
   sound : Promise m S (rootSpec n (a .tables) (b .tables)) k
   unfolding joined
@@ -188,25 +192,25 @@ module _ (h p h′ p′ : List ℕ) (words k : ℕ) (hout pout : List ℕ) (s : 
       let within-a : TablesWithin n (a .tables) = rw (left .tables-are) (tables-within t (namesOf (a .derivation))) in
       let within-b : TablesWithin n (b .tables) = rw (right .tables-are) (tables-within t (namesOf (b .derivation))) in
       let named = named-spec m (rootSpec n (a .tables) (b .tables)) (root-within m (a .tables) (b .tables) within-a within-b) in
-      rw (s .steps-are) (subst (λ spec. Promise m S spec (stepsOut h p h′ p′)) named (soundness t d S 0 unbroken kinds))
+      rw number (subst (λ spec. Promise m S spec (steps n S)) named (soundness t d S 0 unbroken kinds))
 
 module _ (h p h′ p′ : List ℕ) (words k : ℕ) (hout pout : List ℕ) (e : compose h p h′ p′ words ≡ made k hout pout) where
   success : Success h p h′ p′ words k hout pout
   success = succeeded h p h′ p′ words k hout pout e
 
   -- The check accepts the two files, with any number of work words that suffices; so what acceptance promises holds of the two files.
-  pub made-accepted : (words′ : ℕ) → workWords ≤ words′ → answer hout pout words′ .verdict ≡ Accepted k
+  pub made-accepted : (words′ : ℕ) → workWords ≤ words′ → answer hout pout rows words′ .verdict ≡ Accepted k
   made-accepted = accepted h p h′ p′ words k hout pout success
 
-  pub made-sound : AcceptedIsSound hout pout (Accepted k)
-  made-sound = subst (AcceptedIsSound hout pout) (made-accepted workWords (omega arith)) (accepted-is-sound hout pout workWords)
+  pub made-sound : AcceptedIsSound hout pout rows (Accepted k)
+  made-sound = subst (AcceptedIsSound hout pout rows) (made-accepted workWords (omega arith)) (accepted-is-sound hout pout rows workWords)
 
   -- Both pairs are accepted, and the number is both step numbers plus 1.
-  pub made-steps : (k₁ : ℕ) × (k₂ : ℕ) × (answer h p words .verdict ≡ Accepted k₁) × (answer h′ p′ words .verdict ≡ Accepted k₂)
+  pub made-steps : (k₁ : ℕ) × (k₂ : ℕ) × (answer h p rows words .verdict ≡ Accepted k₁) × (answer h′ p′ rows words .verdict ≡ Accepted k₂)
       × (k ≡ k₁ + k₂ + 1)
   made-steps =
       let both = success .compatible .both-accepted in
-      (both .first-steps, both .second-steps, both .first, both .second, both-steps h p h′ p′ words k hout pout success)
+      (both .first-steps, both .second-steps, both .first, both .second, success .steps-are)
 
   -- In terms of both pairs: the parallel of both statements keeps the promise of the joined tables with that number.
   pub made-promise : Promise (machineOf (sideOf h p .sizes)) (par (sideOf h p .statement) (sideOf h′ p′ .statement))

@@ -10,7 +10,8 @@ use lib.ListN.{length, getD, drop}
 use lib.Seq.{drop-at}
 use Rattle.derivation.specs.Tables.{workWords, tabulate, written}
 use Rattle.derivation.proofs.Buffers.{length-tabulate, written-at}
-use Rattle.joint.specs.Composing.{tooLong, workAfter}
+use Rattle.pair.specs.Limits.{tooLong}
+use Rattle.joint.specs.Composing.{workAfter}
 
 module _ (h p h′ p′ work : List ℕ) (enough : workWords ≤ length work) (short : tooLong h p ≡ false) (short′ : tooLong h′ p′ ≡ false) where
   pub tables-cleared : workAfter h p h′ p′ work ≡ written (λ j. 0) work

@@ -1,6 +1,6 @@
 -- docs/COMPOSITION.md, "What is turned away": 1, 2 of the first pair, 2 of the second, the first pair's own number, the second's, then 90
 -- to 95; and what is left in the buffers.
-use Prim.Native.Nat.{ℕ, _-_, _^_}
+use Prim.Native.Nat.{ℕ, _+_, _-_, _^_}
 use mathlib.Core.Bool.{Bool, false, cond, _&&_, _||_}
 use mathlib.Core.List.{List, [], _++_}
 use lib.Dec.{leb, ltb, eqb}
@@ -9,20 +9,21 @@ use Rattle.writer.specs.Packing.{packed}
 use Rattle.states.specs.Search.{all, must, holds}
 use Rattle.semantics.specs.Language.{Stmt, nil, par}
 use Rattle.semantics.specs.States.{product}
-use Rattle.semantics.specs.StepNumber.{steps}
-use Rattle.semantics.specs.Derivations.{Derivation, skip, namesOf, nodes, levels, Spec, specOf}
+use Rattle.semantics.specs.Derivations.{Derivation, skip, nodes, levels, Spec}
 use Rattle.semantics.specs.Conditions.{inSet, relationLiesIn}
 use Rattle.handler.specs.Kinds.{stmtWidth}
-use Rattle.handler.specs.Reading as Handlers
 use Rattle.handler.specs.StatementTable.{statements, stmtLevels}
 use Rattle.derivation.specs.Tables.{workWords, written}
-use Rattle.derivation.specs.Reading as Proofs
+use Rattle.pair.specs.Limits.{mostHandlerBytes, mostProofBytes, tooLong}
+use Rattle.pair.specs.Reading.{statesOf, PairRead, pair, faulty, long, readPair}
+use Rattle.pair.specs.Modes as Modes
+use Rattle.pair.specs.Modes.{rows}
 use Rattle.search.specs.declared.Named.the-variants.{Nothing}
 use Rattle.checker.specs.declared.Place.the-variants.{Bit}
 use Rattle.checker.specs.declared.Fault.{Fault}
 use Rattle.checker.specs.declared.Verdict.{Verdict}
 use Rattle.checker.specs.declared.Verdict.the-variants.{Accepted, Refused}
-use Rattle.checker.specs.Verdicts.{tablesOf, answer}
+use Rattle.checker.specs.Verdicts.{answer}
 use Rattle.form.specs.Members.{byMembers}
 use Rattle.form.specs.Form.{setsIn, relationsIn, formOf}
 use Rattle.joint.specs.Joining.{rootSpec, joined, handlerParts}
@@ -36,7 +37,7 @@ pub record Side : Type 0 where
   pub tables : Spec
   pub derivation : Derivation
 
--- Of files that are not read nothing is taken.
+-- The empty side, for files that are not read.
 abbrev pub noSide : Side
 noSide = record {
   sizes = [];
@@ -46,23 +47,19 @@ noSide = record {
   derivation = skip (record { p = 0; r = 0; g = 0; q = 0 });
 }
 
-module _ (pb : List ℕ) where
-  abbrev pub onProof : List ℕ → ℕ → Stmt → Proofs.ProofRead → Side
-  onProof sizes at S (Proofs.refused k place) = noSide
-  onProof sizes at S (Proofs.proof sets relations root d) = record {
-    sizes = sizes;
-    at = at;
-    statement = S;
-    tables = specOf (tablesOf pb sizes sets) (namesOf d);
-    derivation = byMembers pb (product sizes) sets d;
-  }
-
-  abbrev pub onHandler : Handlers.HandlerRead → Side
-  onHandler (Handlers.refused k place) = noSide
-  onHandler (Handlers.handler sizes at S) = onProof sizes at S (Proofs.readProof pb (product sizes))
+abbrev pub sideIn : List ℕ → PairRead → Side
+sideIn pb long = noSide
+sideIn pb (faulty k place) = noSide
+sideIn pb (pair x) = record {
+  sizes = x .sizes;
+  at = x .statement-bit;
+  statement = x .statement;
+  tables = Modes.rootSpec pb rows x;
+  derivation = byMembers pb (statesOf x) (x .sets) (x .derivation);
+}
 
 unfoldable pub sideOf : List ℕ → List ℕ → Side
-sideOf hb pb = onHandler pb (Handlers.readHandler hb)
+sideOf hb pb = sideIn pb (readPair hb pb)
 
 -- The result: the step number, the handler file and the proof file; or the pair whose fault it is, 1 or 2, or 0 for neither, and the fault.
 pub data Composition : Type 0 where
@@ -118,42 +115,39 @@ module _ (h h′ : List ℕ) (a b : Side) where
   abbrev pub metPKept : Bool
   metPKept = staysIn N metP (a .tables .G) && staysIn N metP (b .tables .G)
 
-  -- 94: the result is within every limit.
-  unfoldable pub inLimits : Bool
-  inLimits =
+  -- 94: the result, with this step number, is within every limit.
+  unfoldable pub inLimits : ℕ → Bool
+  inLimits steps =
       leb (statements statement) 63 && leb (stmtLevels statement) 16
       && leb (nodes derivation) 127 && leb (levels derivation) 24
       && leb (length (setsIn derivation)) 16 && leb (length (relationsIn derivation)) 16
-      && leb (length handlerFile) 16384 && leb (length proofFile) 16384
-      && leb (steps N statement) (2 ^ 32 - 1)
+      && leb (length handlerFile) mostHandlerBytes && leb (length proofFile) mostProofBytes
+      && leb steps (2 ^ 32 - 1)
 
-  abbrev pub limited : Composition
-  limited = asked 94 inLimits (made (steps N statement) handlerFile proofFile)
+  abbrev pub limited : ℕ → Composition
+  limited steps = asked 94 (inLimits steps) (made steps handlerFile proofFile)
 
-  -- 90 to 94, in this order.
-  unfoldable pub composition : Composition
-  composition =
+  -- 90 to 94, in this order, for this step number.
+  unfoldable pub composition : ℕ → Composition
+  composition steps =
       asked 90 (sameSizes (a .sizes) (b .sizes))
-      (asked 91 secondAllowed (asked 92 firstAllowed (asked 93 metPKept limited)))
+      (asked 91 secondAllowed (asked 92 firstAllowed (asked 93 metPKept (limited steps))))
 
--- A pair's own refusal, or what follows if it is accepted.
-abbrev pub ofPair : ℕ → Verdict → Composition → Composition
-ofPair pair (Refused f) next = refused pair f
-ofPair pair (Accepted k) next = next
-
-unfoldable pub tooLong : List ℕ → List ℕ → Bool
-tooLong hb pb = ltb 16384 (length hb) || ltb 16384 (length pb)
+-- A pair's own refusal, or what follows the step number with which it is accepted.
+abbrev pub ofPair : ℕ → Verdict → (ℕ → Composition) → Composition
+ofPair which (Refused f) next = refused which f
+ofPair which (Accepted k) next = next k
 
 -- Two pairs of files, h with p and h′ with p′.
 module _ (h p h′ p′ : List ℕ) where
-  -- The composition, with so many work words.
+  -- The composition, with so many work words. Its step number is both step numbers plus 1.
   unfoldable pub compose : ℕ → Composition
   compose words =
       cond (ltb words workWords) (refused 0 (plain 1))
       (cond (tooLong h p) (refused 1 (plain 2))
       (cond (tooLong h′ p′) (refused 2 (plain 2))
-      (ofPair 1 (answer h p words .verdict)
-      (ofPair 2 (answer h′ p′ words .verdict) (composition h h′ (sideOf h p) (sideOf h′ p′))))))
+      (ofPair 1 (answer h p rows words .verdict) (λ k.
+      ofPair 2 (answer h′ p′ rows words .verdict) (λ k′. composition h h′ (sideOf h p) (sideOf h′ p′) (k + k′ + 1))))))
 
   -- The work words at exit: 1 and 2 write nothing, and otherwise the table words end as 0.
   unfoldable pub workAfter : List ℕ → List ℕ
@@ -162,7 +156,7 @@ module _ (h p h′ p′ : List ℕ) where
 
 -- 95: either output buffer is too short.
 unfoldable pub withRoom : Composition → ℕ → ℕ → Composition
-withRoom (refused pair f) room room′ = refused pair f
+withRoom (refused which f) room room′ = refused which f
 withRoom (made k handler proof) room room′ = asked 95 (leb (length handler) room && leb (length proof) room′) (made k handler proof)
 
 -- The outcome over the buffers that are lent: the work words and both output buffers.
@@ -175,9 +169,9 @@ atFront file out = file ++ drop (length file) out
 
 -- Both output buffers at exit: a refusal leaves them untouched.
 abbrev pub handlerAfter : Composition → List ℕ → List ℕ
-handlerAfter (refused pair f) out = out
+handlerAfter (refused which f) out = out
 handlerAfter (made k handler proof) out = atFront handler out
 
 abbrev pub proofAfter : Composition → List ℕ → List ℕ
-proofAfter (refused pair f) out = out
+proofAfter (refused which f) out = out
 proofAfter (made k handler proof) out = atFront proof out
