@@ -9,6 +9,7 @@ use borrow.Author.Tests.{lt-ltb, le-ltb}
 use lib.Dec.{ltb}
 use lib.ListN.{length}
 use Rattle.semantics.specs.Runs.{stepsMade}
+use Rattle.pair.specs.Modes.{rows}
 use Rattle.checker.specs.declared.Verdict.{Verdict}
 use Rattle.checker.specs.declared.Verdict.the-variants as Verdict
 use Rattle.checker.specs.Verdicts.{AcceptedIsSound, answer}
@@ -88,16 +89,17 @@ module _ (f : Frame) (place : ℕ) where
   gap-closed free = rw free refl
 
 -- A slot of k times the ticks serves a guest whose pair is accepted with k.
-pub serves : (hb pb : List ℕ) (ticks k : ℕ) (slot : Slot) → AcceptedIsSound hb pb (Verdict.Accepted k) → slot .length ≡ k * ticks → Served hb pb ticks slot
+pub serves : (hb pb : List ℕ) (ticks k : ℕ) (slot : Slot) → AcceptedIsSound hb pb rows (Verdict.Accepted k) → slot .length ≡ k * ticks → Served hb pb ticks slot
 serves hb pb ticks k slot sound filled =
     let s = sound .sound k refl in
     record {
-      pair = s .0;
+      held = s .0;
+      read = s .1 .0;
       steps = k;
       filled = filled;
-      promise = s .1;
+      promise = s .1 .1;
       in-time = λ events start now in-p runs keeps.
-          subst (λ n. stepsMade events * ticks ≤ n) (sym filled) (mul-le-mul-right ticks (s .1 .kept events start now in-p runs keeps .few));
+          subst (λ n. stepsMade events * ticks ≤ n) (sym filled) (mul-le-mul-right ticks (s .1 .1 .kept events start now in-p runs keeps .few));
     }
 
 -- What an admission promises: the answer and the record, the work words, and that the guest is served.
@@ -110,15 +112,15 @@ module _ (f : Frame) (place : ℕ) (hb pb : List ℕ) (ticks : ℕ) (work : List
       → Promised f place hb pb ticks work o work
   unfolding admit admitted workAfter
   turned a o not-done why is = (
-    is ∙ ap (λ x. unless f x (onVerdict f place ticks (answer hb pb (length work) .verdict))) (sym why),
+    is ∙ ap (λ x. unless f x (onVerdict f place ticks (answer hb pb rows (length work) .verdict))) (sym why),
     (
-      ap (λ x. ifReached x (Verdicts.workAfter hb pb work) work) (sym why),
+      ap (λ x. ifReached x (Verdicts.workAfter hb pb rows work) work) (sym why),
       record { served = λ d. absurd (true≢false (sym d ∙ ap (λ x. isDone (x .answer)) is ∙ not-done)) },
     ),
   )
 
   -- A need that fits has its slot at the end.
-  need-served : (k : ℕ) → AcceptedIsSound hb pb (Verdict.Accepted k)
+  need-served : (k : ℕ) → AcceptedIsSound hb pb rows (Verdict.Accepted k)
       → ServedIf (isDone (onNeed f place (k * ticks) .answer)) hb pb ticks (onNeed f place (k * ticks) .frame)
   unfolding onNeed
   need-served k sound = by (ltb (f .length) (total (held f) + k * ticks))
@@ -132,17 +134,17 @@ module _ (f : Frame) (place : ℕ) (hb pb : List ℕ) (ticks : ℕ) (work : List
       by true = record { served = λ d. absurd (true≢false (sym d)) }
       by false = record { served = λ d. subst (Served hb pb ticks) (sym (last-of (f .length) (held f) slot)) (serves hb pb ticks k slot sound refl) }
 
-  pub checked : (v : Verdict) (o : Outcome) (after : List ℕ) → beforeCheck f place ticks ≡ none → v ≡ answer hb pb (length work) .verdict
-      → after ≡ Verdicts.workAfter hb pb work → AcceptedIsSound hb pb v → o ≡ onVerdict f place ticks v → Promised f place hb pb ticks work o after
+  pub checked : (v : Verdict) (o : Outcome) (after : List ℕ) → beforeCheck f place ticks ≡ none → v ≡ answer hb pb rows (length work) .verdict
+      → after ≡ Verdicts.workAfter hb pb rows work → AcceptedIsSound hb pb rows v → o ≡ onVerdict f place ticks v → Promised f place hb pb ticks work o after
   unfolding admit admitted workAfter
   checked v o after free verdict words sound is = (
-    is ∙ ap (onVerdict f place ticks) verdict ∙ ap (λ x. unless f x (onVerdict f place ticks (answer hb pb (length work) .verdict))) (sym free),
+    is ∙ ap (onVerdict f place ticks) verdict ∙ ap (λ x. unless f x (onVerdict f place ticks (answer hb pb rows (length work) .verdict))) (sym free),
     (
-      words ∙ ap (λ x. ifReached x (Verdicts.workAfter hb pb work) work) (sym free),
+      words ∙ ap (λ x. ifReached x (Verdicts.workAfter hb pb rows work) work) (sym free),
       subst (λ x. ServedIf (isDone (x .answer)) hb pb ticks (x .frame)) (sym is) (by v sound),
     ),
   )
     where
-      by : (v : Verdict) → AcceptedIsSound hb pb v → ServedIf (isDone (onVerdict f place ticks v .answer)) hb pb ticks (onVerdict f place ticks v .frame)
+      by : (v : Verdict) → AcceptedIsSound hb pb rows v → ServedIf (isDone (onVerdict f place ticks v .answer)) hb pb ticks (onVerdict f place ticks v .frame)
       by (Verdict.Accepted k) s = need-served k s
       by (Verdict.Refused fault) s = record { served = λ d. absurd (true≢false (sym d)) }

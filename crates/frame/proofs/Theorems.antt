@@ -7,6 +7,7 @@ use mathlib.Core.List.{List, [], _∷_, _++_, map}
 use mathlib.Core.Path.{_≡_, refl, sym, ap, ap₂, _∙_, subst}
 use lib.Dec.{eqb}
 use lib.ListN.{length}
+use Rattle.pair.specs.Modes.{rows}
 use Rattle.checker.specs.declared.Verdict.{Verdict}
 use Rattle.checker.specs.declared.Verdict.the-variants as Verdict
 use Rattle.checker.specs.Verdicts.{AcceptedIsSound}
@@ -31,7 +32,7 @@ use Rattle.frame.proofs.Lent.{read-back}
 
 -- A guest's pair was accepted with the step number by which its need is counted.
 abbrev Accepted : Admission → Type 0
-Accepted g = Verdicts.answer (g .handler) (g .proof) (g .words) .verdict ≡ Verdict.Accepted (stepsOf g)
+Accepted g = Verdicts.answer (g .handler) (g .proof) rows (g .words) .verdict ≡ Verdict.Accepted (stepsOf g)
 
 data All {A : Type 0} (P : A → Type 0) : List A → Type 0 where
   none : All P []
@@ -101,7 +102,7 @@ module _ (n : ℕ) (c : Core) (k : Inv n c) where
   abbrev InvBy : Call → Outcome → Type 0
   InvBy call o = Inv n (record { frame = o .frame; guests = guestsAfter (o .answer) call (c .guests) })
 
-  admits : (a : Admission) (v : Verdict) → Verdicts.answer (a .handler) (a .proof) (a .words) .verdict ≡ v
+  admits : (a : Admission) (v : Verdict) → Verdicts.answer (a .handler) (a .proof) rows (a .words) .verdict ≡ v
       → InvBy (admission a) (admitted (c .frame) (a .place) (a .ticks) v)
   unfolding layout laidFrom total
   admits a v is =
@@ -172,7 +173,7 @@ all-served : (tick : ℕ) (gs : List Admission) → All Accepted gs → Paired (
 unfolding laidFrom
 all-served tick [] none = empty
 all-served tick (g ∷ gs) (more p rest) =
-    also (serves (g .handler) (g .proof) (g .ticks) (stepsOf g) _ (subst (AcceptedIsSound (g .handler) (g .proof)) p (accepted-is-sound (g .handler) (g .proof) (g .words))) refl)
+    also (serves (g .handler) (g .proof) (g .ticks) (stepsOf g) _ (subst (AcceptedIsSound (g .handler) (g .proof) rows) p (accepted-is-sound (g .handler) (g .proof) rows (g .words))) refl)
     (all-served (tick + need g) gs rest)
 
 pub after-any-calls : (n : ℕ) → 1 ≤ n → n ≤ 1000000 → (calls : List Call) → Kept n (afterCalls n calls)

@@ -4,6 +4,7 @@ use mathlib.Core.Bool.{Bool, true, false, not, cond, _||_}
 use mathlib.Core.List.{List, [], _∷_, _++_}
 use mathlib.Core.Option.{Option, none, some}
 use lib.Dec.{ltb}
+use Rattle.pair.specs.Modes.{rows}
 use Rattle.checker.specs.declared.Place.the-variants.{Bit}
 use Rattle.checker.specs.declared.Verdict.{Verdict}
 use Rattle.checker.specs.declared.Verdict.the-variants as Verdict
@@ -104,7 +105,7 @@ module _ (f : Frame) (place : ℕ) where
 
 -- An admission of two files with so many work words.
 unfoldable pub admit : Frame → ℕ → List ℕ → List ℕ → ℕ → ℕ → Outcome
-admit f place hb pb ticks words = admitted f place ticks (Verdicts.answer hb pb words .verdict)
+admit f place hb pb ticks words = admitted f place ticks (Verdicts.answer hb pb rows words .verdict)
 
 -- The work words at exit: as the check leaves them, and untouched if it is not reached.
 abbrev pub ifReached : Option Answer → List ℕ → List ℕ → List ℕ
@@ -112,4 +113,4 @@ ifReached none after before = after
 ifReached (some a) after before = before
 
 unfoldable pub workAfter : Frame → ℕ → List ℕ → List ℕ → ℕ → List ℕ → List ℕ
-workAfter f place hb pb ticks work = ifReached (beforeCheck f place ticks) (Verdicts.workAfter hb pb work) work
+workAfter f place hb pb ticks work = ifReached (beforeCheck f place ticks) (Verdicts.workAfter hb pb rows work) work

@@ -3,6 +3,7 @@ use Prim.Native.Nat.{ℕ, _+_, _*_, _≤_, _<_}
 use mathlib.Core.Bool.{true, cond}
 use mathlib.Core.List.{List, [], _∷_, _++_, map}
 use mathlib.Core.Path.{_≡_}
+use Rattle.pair.specs.Modes.{rows}
 use Rattle.checker.specs.declared.Verdict.{Verdict}
 use Rattle.checker.specs.declared.Verdict.the-variants as Verdict
 use Rattle.checker.specs.Verdicts as Verdicts
@@ -33,7 +34,7 @@ stated (Verdict.Accepted k) = k
 stated (Verdict.Refused fault) = 0
 
 abbrev pub stepsOf : Admission → ℕ
-stepsOf a = stated (Verdicts.answer (a .handler) (a .proof) (a .words) .verdict)
+stepsOf a = stated (Verdicts.answer (a .handler) (a .proof) rows (a .words) .verdict)
 
 -- What a guest needs: its step number times its ticks per step.
 abbrev pub need : Admission → ℕ
