@@ -13,6 +13,8 @@ use lib.Seq.{getD-set-same, getD-set-other}
 use Rattle.bits.specs.Fields.{bitsAt}
 use Rattle.bits.proofs.Laws.{bits-join, same-test}
 use Rattle.bits.proofs.Bytes.{bits-first, bits-last}
+use Rattle.states.specs.Sets.{capacity}
+use Rattle.derivation.specs.Tables.{mostTables}
 use Rattle.canonical.specs.declared.Run.{Run}
 use Rattle.canonical.specs.Refinement.{membersIn, Within, mixWith, mixWords, mixAt, Mixes}
 
@@ -83,5 +85,5 @@ unfolding mixWords
 mix-more s at k = rw add-one
 
 -- A table of a run begins within the file's cursors.
-pub table-room : (run : Run) (i : ℕ) → Within run → i < 16 → run .width * i ≤ 65536
-table-room run i within under = mul-le-mul {m₂ = 16} (within .1) (omega arith)
+pub table-room : (run : Run) (i : ℕ) → Within run → i < mostTables → run .width * i ≤ capacity * capacity * mostTables
+table-room run i within under = mul-le-mul {m₂ = mostTables} (within .1) (omega arith)

@@ -5,9 +5,11 @@ use mathlib.Core.List.{List, _∷_, _++_, map}
 use lib.Bits.{bitOr, bitXor}
 use lib.ListN.{length, take, getD}
 use Rattle.bits.specs.Fields.{bitsAt}
+use Rattle.states.specs.Sets.{capacity}
 use Rattle.semantics.specs.Derivations.{Derivation}
 use Rattle.semantics.specs.Derivations as Derivations
 use Rattle.derivation.specs.declared.ProofHead.{ProofHead}
+use Rattle.derivation.specs.Tables.{mostTables}
 use Rattle.derivation.specs.NodeTable.{nodeTable}
 use Rattle.derivation.specs.Reading.{proof, readProof}
 use Rattle.form.specs.Members.{nodeBy, rename, byMembers}
@@ -33,7 +35,7 @@ membersIn bytes run i = bitsAt bytes (run .from + run .width * i) (run .width)
 
 -- A run whose cursors have room.
 abbrev pub Within : Run → Type 0
-Within run = (run .from ≤ 2 ^ 20) × (run .width ≤ 4096)
+Within run = (run .from ≤ 2 ^ 20) × (run .width ≤ capacity * capacity)
 
 -- A mix of 64 bits with one more word: it is rotated by 5 first.
 unfoldable pub mixWith : ℕ → ℕ → ℕ
@@ -56,9 +58,9 @@ mixIn bytes run i = mixAt bytes (run .from + run .width * i) (run .width)
 abbrev pub Mixes : List ℕ → Run → ℕ → List ℕ → Type 0
 Mixes bytes run count mixes = (i : ℕ) → i < count → getD mixes i 0 ≡ mixIn bytes run i
 
--- The members of the tables that a list names, each number modulo 16.
+-- The members of the tables that a list names, each number modulo `mostTables`.
 unfoldable pub membersOf : List ℕ → Run → List ℕ → List ℕ
-membersOf bytes run order = map (λ i. membersIn bytes run (i % 16)) order
+membersOf bytes run order = map (λ i. membersIn bytes run (i % mostTables)) order
 
 -- r is the least with the value of i.
 pub record Least (f : ℕ → ℕ) (i r : ℕ) : Type 0 where
@@ -70,16 +72,16 @@ pub record Least (f : ℕ → ℕ) (i r : ℕ) : Type 0 where
 abbrev pub Leasts : (ℕ → ℕ) → ℕ → List ℕ → Type 0
 Leasts f count reps = (i : ℕ) → i < count → Least f i (getD reps i 0)
 
--- A buffer of which the first `count` entries are mentioned: it has room for 16 different ones.
+-- A buffer of which the first `count` entries are mentioned: it has room for `mostTables` different ones.
 pub record Listing (order : List ℕ) (count : ℕ) : Type 0 where
-  pub length-enough : 16 ≤ length order
-  pub count-most : count ≤ 16
-  pub few : Few 16 (take count order)
+  pub length-enough : mostTables ≤ length order
+  pub count-most : count ≤ mostTables
+  pub few : Few mostTables (take count order)
 
 -- A buffer with `count` entries and after the mentions of xs, with r entries.
 pub record After (entry : List ℕ) (count : ℕ) (xs exit : List ℕ) (r : ℕ) : Type 0 where
   pub listed : take r exit ≡ allMentioned (take count entry) xs
-  pub most : r ≤ 16
+  pub most : r ≤ mostTables
 
 -- A proof file over n states that was read, and the table of its nodes.
 pub record Read (bytes : List ℕ) (n : ℕ) (head : ProofHead) (nodes : List ℕ) : Type 0 where
@@ -90,7 +92,7 @@ pub record Read (bytes : List ℕ) (n : ℕ) (head : ProofHead) (nodes : List �
 
 -- The tables of one kind, over a run of the file, whose members are `wanted` in their order.
 pub record Names (bytes : List ℕ) (run : Run) (wanted : List ℕ) (m : Naming) : Type 0 where
-  pub most : m .count ≤ 16
+  pub most : m .count ≤ mostTables
   pub counted : m .count ≡ length wanted
   pub are : membersOf bytes run (take (m .count) (m .order)) ≡ wanted
 
@@ -106,7 +108,7 @@ Room out at bits = (at + bits ≤ 8 * length out) × (at + bits < 2 ^ 64)
 
 -- So few states and tables that no product of them is large.
 abbrev pub Small : ℕ → ℕ → Numbering → Type 0
-Small n sets m = (1 ≤ n) × (n ≤ 64) × (sets ≤ 16) × (m .sets .count ≤ 16) × (m .relations .count ≤ 16)
+Small n sets m = (1 ≤ n) × (n ≤ capacity) × (sets ≤ mostTables) × (m .sets .count ≤ mostTables) × (m .relations .count ≤ mostTables)
 
 -- The fields that are written of a file over n states with so many sets, and of the words of its nodes.
 unfoldable pub partsIn : List ℕ → ℕ → ℕ → Numbering → List ℕ → List Part

@@ -15,6 +15,8 @@ ghost use mathlib.Core.Path.{_≡_};
 ghost use mathlib.Core.List.{[], _∷_, map};
 ghost use Prim.Native.Nat.{ℕ, _≤_, _<_};
 ghost use lib.ListN.{length, take, getD};
+ghost use Rattle.states.specs.Sets.{capacity};
+ghost use Rattle.derivation.specs.Tables.{mostTables};
 ghost use Rattle.form.specs.Mentions.{setsOf, relationsOf, placeIn};
 ghost use Rattle.canonical.specs.Nodes.{nameIn, heldIn};
 ghost use Rattle.canonical.specs.Refinement.{setRun, relationRun, membersIn, Leasts, Listing, After, Read, Numbers};
@@ -43,7 +45,7 @@ fn place_in(order: &[u64], count: usize, x: u64) -> usize
 
 // A mention of x: it is added after the first `count` entries, unless it is among them. The result is how many there are now.
 fn mention(order: &mut [u64], count: usize, x: u64) -> usize
-    requires { ⌜ Listing (now order) count × (x < 16) ⌝ }
+    requires { ⌜ Listing (now order) count × (x < mostTables) ⌝ }
     ensures { λ r. ⌜ After (now (order .entry)) count (x ∷ []) (now (order .exit)) r ⌝ }
 {
     let place = place_in(&order[..], count, x);
@@ -109,7 +111,7 @@ fn mention_nodes(
     sets: &mut [u64],
     relations: &mut [u64],
 ) -> Counts
-    requires { ⌜ (count ≤ length (now nodes)) × (16 ≤ length (now sets)) × (16 ≤ length (now relations)) ⌝ }
+    requires { ⌜ (count ≤ length (now nodes)) × (mostTables ≤ length (now sets)) × (mostTables ≤ length (now relations)) ⌝ }
     ensures sets { λ r. ⌜ After (now (sets .entry)) 0 (map (nameIn (reps .sets)) (heldIn setsOf (take count (now (nodes .entry)))))
         (now (sets .exit)) (r .sets) ⌝ }
     ensures relations { λ r. ⌜ After (now (relations .entry)) 0 (map (nameIn (reps .relations)) (heldIn relationsOf (take count (now (nodes .entry)))))
@@ -133,7 +135,7 @@ fn mention_nodes(
 // The number in the form of each table: the place of its representative among those that are mentioned.
 fn names_of(order: &[u64], count: usize, reps: &[u64; MOST_TABLES]) -> [u64; MOST_TABLES]
     requires { ⌜ count ≤ length (now order) ⌝ }
-    ensures { λ r. ⌜ ((i : ℕ) → i < 16 → getD r i 0 ≡ placeIn (take count (now (order .entry))) (nameIn (now (reps .entry)) i)) ⌝ }
+    ensures { λ r. ⌜ ((i : ℕ) → i < mostTables → getD r i 0 ≡ placeIn (take count (now (order .entry))) (nameIn (now (reps .entry)) i)) ⌝ }
 {
     let mut names = [0u64; MOST_TABLES];
     for i in 0..MOST_TABLES {
@@ -144,7 +146,7 @@ fn names_of(order: &[u64], count: usize, reps: &[u64; MOST_TABLES]) -> [u64; MOS
 
 // The representatives of a file's sets and of its relations.
 fn representatives_of(src: &[u8], n: usize, head: ProofHead) -> Representatives
-    requires { ⌜ (n ≤ 64) × (head .sets ≤ 16) × (head .relations ≤ 16) ⌝ }
+    requires { ⌜ (n ≤ capacity) × (head .sets ≤ mostTables) × (head .relations ≤ mostTables) ⌝ }
     ensures sets { λ r. ⌜ Leasts (membersIn (now (src .entry)) (setRun n)) (head .sets) (r .sets) ⌝ }
     ensures relations { λ r. ⌜ Leasts (membersIn (now (src .entry)) (relationRun n (head .sets))) (head .relations) (r .relations) ⌝ }
 {

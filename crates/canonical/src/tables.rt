@@ -6,6 +6,8 @@ ghost use mathlib.Core.Path.{_≡_};
 ghost use Prim.Native.Nat.{_+_, _*_, _≤_, _<_, _^_};
 ghost use lib.Dec.{eqb};
 ghost use Rattle.bits.specs.Fields.{bitsAt};
+ghost use Rattle.states.specs.Sets.{capacity};
+ghost use Rattle.derivation.specs.Tables.{mostTables};
 ghost use Rattle.canonical.specs.Refinement.{setRun, relationRun, membersIn, Within, Least, Leasts, mixWith, mixAt, Mixes};
 
 // How many bits are compared or mixed at once.
@@ -26,7 +28,7 @@ pub(crate) fn set_run(n: usize) -> Run
 
 // The relations of a proof file over n states with so many sets.
 pub(crate) fn relation_run(n: usize, sets: usize) -> Run
-    requires { ⌜ (n ≤ 64) × (sets ≤ 16) ⌝ }
+    requires { ⌜ (n ≤ capacity) × (sets ≤ mostTables) ⌝ }
     ensures { λ r. ⌜ r ≡ relationRun n sets ⌝ }
 {
     Run {
@@ -37,7 +39,7 @@ pub(crate) fn relation_run(n: usize, sets: usize) -> Run
 
 // Whether the `width` bits from two cursors on are the same.
 fn same_bits(src: &[u8], a: usize, b: usize, width: usize) -> bool
-    requires { ⌜ (a ≤ 2 ^ 21) × (b ≤ 2 ^ 21) × (width ≤ 4096) ⌝ }
+    requires { ⌜ (a ≤ 2 ^ 21) × (b ≤ 2 ^ 21) × (width ≤ capacity * capacity) ⌝ }
     ensures { λ r. ⌜ r ≡ eqb (bitsAt (now (src .entry)) a width) (bitsAt (now (src .entry)) b width) ⌝ }
 {
     let mut done = 0;
@@ -53,7 +55,7 @@ fn same_bits(src: &[u8], a: usize, b: usize, width: usize) -> bool
 
 // The first bit of table i of a run.
 pub(crate) fn table_cursor(run: Run, i: usize) -> usize
-    requires { ⌜ Within run × (i < 16) ⌝ }
+    requires { ⌜ Within run × (i < mostTables) ⌝ }
     ensures { λ r. ⌜ (r ≡ run .from + run .width * i) × (r ≤ 2 ^ 21) ⌝ }
 {
     run.from + run.width * i
@@ -68,7 +70,7 @@ fn mixed(mix: u64, word: u64) -> u64
 
 // The mix of the `width` bits from a cursor on: whole words first, then the bits that are left.
 fn mix_of(src: &[u8], at: usize, width: usize) -> u64
-    requires { ⌜ (at ≤ 2 ^ 21) × (width ≤ 4096) ⌝ }
+    requires { ⌜ (at ≤ 2 ^ 21) × (width ≤ capacity * capacity) ⌝ }
     ensures { λ r. ⌜ r ≡ mixAt (now (src .entry)) at width ⌝ }
 {
     let words = width / WORD;
@@ -81,7 +83,7 @@ fn mix_of(src: &[u8], at: usize, width: usize) -> u64
 
 // The least table of a run with the members of table i. Tables with different mixes have different members.
 fn least_equal(src: &[u8], run: Run, mixes: &[u64; MOST_TABLES], i: usize) -> usize
-    requires { ⌜ Within run × (i < 16) × Mixes (now src) run (i + 1) (now mixes) ⌝ }
+    requires { ⌜ Within run × (i < mostTables) × Mixes (now src) run (i + 1) (now mixes) ⌝ }
     ensures { λ r. ⌜ Least (membersIn (now (src .entry)) run) i r ⌝ }
 {
     let at = table_cursor(run, i);
@@ -98,7 +100,7 @@ fn least_equal(src: &[u8], run: Run, mixes: &[u64; MOST_TABLES], i: usize) -> us
 
 // The least table with equal members for each of the first `count` tables of a run.
 pub(crate) fn representatives(src: &[u8], run: Run, count: usize) -> [u64; MOST_TABLES]
-    requires { ⌜ Within run × (count ≤ 16) ⌝ }
+    requires { ⌜ Within run × (count ≤ mostTables) ⌝ }
     ensures { λ r. ⌜ Leasts (membersIn (now (src .entry)) run) count r ⌝ }
 {
     let mut least = [0u64; MOST_TABLES];

@@ -15,6 +15,8 @@ ghost use mathlib.Core.Path.{_≡_};
 ghost use mathlib.Core.List.{map};
 ghost use Prim.Native.Nat.{_+_, _*_, _≤_, _^_, min};
 ghost use lib.ListN.{length, take};
+ghost use Rattle.states.specs.Sets.{capacity};
+ghost use Rattle.derivation.specs.Tables.{mostTables};
 ghost use Rattle.writer.specs.Packing.{part, widthOf, putParts};
 ghost use Rattle.form.specs.Form.{partsOf};
 ghost use Rattle.canonical.specs.Nodes.{heldIn};
@@ -22,7 +24,7 @@ ghost use Rattle.canonical.specs.Refinement.{Within, membersOf, Room, Sm
 
 // Writes the tables of a run that the first `count` entries of a list name, in its order.
 fn write_tables(src: &[u8], run: Run, order: &[u64], count: usize, out: &mut [u8], at: usize)
-    requires { ⌜ Within run × (count ≤ length (now order)) × (count ≤ 16) × Room (now out) at (run .width * count) ⌝ }
+    requires { ⌜ Within run × (count ≤ length (now order)) × (count ≤ mostTables) × Room (now out) at (run .width * count) ⌝ }
     ensures { λ _. ⌜ now (out .exit) ≡ putParts (now (out .entry)) at
         (map (part (run .width)) (membersOf (now (src .entry)) run (take count (now (order .entry))))) ⌝ }
 {
@@ -40,7 +42,7 @@ fn write_tables(src: &[u8], run: Run, order: &[u64], count: usize, out: &mut [u8
 
 // Writes the tables of one kind, in their order in the form.
 fn write_named(src: &[u8], run: Run, named: Naming, out: &mut [u8], at: usize)
-    requires { ⌜ Within run × (named .count ≤ 16) × Room (now out) at (run .width * named .count) ⌝ }
+    requires { ⌜ Within run × (named .count ≤ mostTables) × Room (now out) at (run .width * named .count) ⌝ }
     ensures { λ _. ⌜ now (out .exit) ≡ putParts (now (out .entry)) at
         (map (part (run .width)) (membersOf (now (src .entry)) run (take (named .count) (named .order)))) ⌝ }
 {
@@ -50,7 +52,7 @@ fn write_named(src: &[u8], run: Run, named: Naming, out: &mut [u8], at: usize)
 
 // How many bits the form has.
 pub(crate) fn form_bits(n: usize, m: Numbering, nodes: &[u64], count: usize) -> usize
-    requires { ⌜ (n ≤ 64) × (m .sets .count ≤ 16) × (m .relations .count ≤ 16) ⌝ }
+    requires { ⌜ (n ≤ capacity) × (m .sets .count ≤ mostTables) × (m .relations .count ≤ mostTables) ⌝ }
     ensures { λ r. ⌜ (r ≡ 10 + n * m .sets .count + n * n * m .relations .count + widthOf (heldIn partsOf (take (min count 127) (now (nodes .entry)))))
         × (r ≤ 2 ^ 21) ⌝ }
 {

@@ -6,10 +6,10 @@ use native.Mathlib.Nat.{mul-comm, mod-lt, div-lt-iff-lt-mul}
 use lib.Arith.{digits-div, digits-mod}
 use Rattle.states.specs.Search.{all}
 use Rattle.states.proofs.Search.{all-at, all-intro, beq-true, beq-refl}
+use Rattle.states.proofs.Where.{where-same, where-alike}
 use Rattle.semantics.specs.Conditions.{sameSet}
 use Rattle.form.specs.Members.{setWhere, relationWhere}
 use Rattle.form.proofs.Verdicts.{pair-below, some-row}
-use Rattle.form.proofs.Where.{where-same, where-alike}
 
 module _ (n : ℕ) (p q : ℕ → Bool) where
   pub set-same : sameSet n p q ≡ true → setWhere n p ≡ setWhere n q

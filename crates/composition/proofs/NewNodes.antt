@@ -8,7 +8,9 @@ use Rattle.writer.specs.Writing.{cleared}
 use Rattle.writer.specs.Packing.{Part, part, widthOf, putParts, putAll, bytesFor, packed}
 use Rattle.writer.proofs.Packed.{width-append, parts-append, length-parts, all-fits, length-packed, packed-front}
 use Rattle.writer.proofs.Copied.{cleared-within}
+use Rattle.states.specs.Sets.{capacity}
 use Rattle.derivation.specs.declared.Node.{Node}
+use Rattle.derivation.specs.Tables.{mostTables}
 use Rattle.form.specs.Members.{nodeBy}
 use Rattle.form.specs.Form.{partsOf}
 use Rattle.canonical.specs.Nodes.{nameIn, heldIn}
@@ -22,7 +24,7 @@ use Rattle.composition.specs.declared.forms.Form.{Form}
 use Rattle.composition.specs.declared.numbering.SetNumbers.{SetNumbers}
 use Rattle.composition.specs.declared.numbering.RelationNumbers.{RelationNumbers}
 use Rattle.joint.specs.Composing.{atFront}
-use Rattle.composition.specs.Refinement.{newNode, sideParts, formBits, nodeParts, proofParts, proofBits}
+use Rattle.composition.specs.Refinement.{newNode, sideParts, formBits, nodeParts, proofParts, proofBits, mostProofBits}
 
 -- Fields written one after the other, where there is room for both.
 pub two-written : (out o₁ o₂ : List ℕ) (at next : ℕ) (ps qs : List Part) → Room out at (widthOf ps + widthOf qs) → next ≡ at + widthOf ps
@@ -92,7 +94,8 @@ nodes-width k m a b =
       side-width (k .right .node) (m .second) (k .right .names) (b .nodes) (b .head .nodes),
     )
 
-pub proof-small : (n : ℕ) (m : SetNumbers) (k : RelationNumbers) (a b : Form) → n ≤ 64 → m .count ≤ 16 → k .right .count ≤ 16 → proofBits n m k a b ≤ 80000
+pub proof-small : (n : ℕ) (m : SetNumbers) (k : RelationNumbers) (a b : Form) → n ≤ capacity → m .count ≤ mostTables → k .right .count ≤ mostTables
+    → proofBits n m k a b ≤ mostProofBits
 unfolding proofBits
 proof-small n m k a b few sets relations = omega (arith, few-bits n (m .count) (k .right .count) few sets relations, form-few a, form-few b)
 

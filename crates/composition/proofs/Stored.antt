@@ -18,7 +18,7 @@ use Rattle.states.proofs.EntryLaws.{stored-same, stored-other, length-stored, e
 use Rattle.derivation.specs.Tables.{mostTables}
 use Rattle.rules.specs.Words.{wordSet, wordRelation}
 use Rattle.form.specs.Members.{setWhere, relationWhere}
-use Rattle.form.proofs.Where.{where-same}
+use Rattle.states.proofs.Where.{where-same}
 use Rattle.search.proofs.Breaches.{absorbed}
 use Rattle.composition.specs.Refinement.{setsHeld, relationsHeld, RelationStored}
 use Rattle.composition.proofs.Comparing.{relation-alike-at}

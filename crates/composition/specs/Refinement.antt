@@ -6,7 +6,7 @@ use mathlib.Core.Path.{_≡_}
 use lib.Dec.{leb, eqb}
 use lib.ListN.{length, take, getD}
 use Rattle.writer.specs.Packing.{Part, part, widthOf, bytesFor, packed}
-use Rattle.states.specs.Sets.{has}
+use Rattle.states.specs.Sets.{capacity, has}
 use Rattle.states.specs.Relations.{rel}
 use Rattle.semantics.specs.Derivations.{Derivation, Spec, namesOf, nodes, levels}
 use Rattle.semantics.specs.Conditions.{relationLiesIn}
@@ -174,6 +174,14 @@ proofParts n S T nodes = part 5 (length S) ∷ part 5 (length T) ∷ (map (part 
 -- How many bits the proof file has.
 unfoldable pub proofBits : ℕ → SetNumbers → RelationNumbers → Form → Form → ℕ
 proofBits n m k a b = 10 + n * m .count + n * n * k .right .count + (57 + formBits a + formBits b)
+
+-- The largest first bit of the nodes: after the counts, 16 sets and 16 relations; and the largest number of bits with the three new nodes and
+-- 127 nodes of each form.
+abbrev pub mostRootBit : ℕ
+mostRootBit = 10 + capacity * mostTables + capacity * capacity * mostTables
+
+abbrev pub mostProofBits : ℕ
+mostProofBits = mostRootBit + (57 + 27 * 127 + 27 * 127)
 
 -- The form that is loaded from a proof file with so many sets and relations, its root at a bit.
 abbrev pub formRead : ℕ → ℕ → ℕ → Derivation → Form

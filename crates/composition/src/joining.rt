@@ -16,6 +16,7 @@ use checker::MOST_BYTES;
 use derivation::MOST_TABLES;
 use derivation::ProofHead;
 use handler::HandlerSummary;
+use states::SET_WORDS;
 ghost use mathlib.Core.Path.{_≡_};
 ghost use Prim.Native.Nat.{_≤_, max};
 ghost use lib.ListN.{length};
@@ -185,7 +186,7 @@ pub(crate) fn join(
         (length (now (pout .entry)))) (now (pout .entry))) ⌝ }
 {
     let roots = roots_of(n, words, f.names, others, g.names);
-    let mut sets = [0u64; MOST_TABLES];
+    let mut sets = [0u64; SET_WORDS * MOST_TABLES];
     let fh = f.head;
     let gh = g.head;
     let m = number_sets(

@@ -13,9 +13,9 @@ use semantics::Names;
 use states::RELATION_WORDS;
 use states::StateSet;
 ghost use mathlib.Core.List.{List, []};
-ghost use Prim.Native.Nat.{ℕ, _≤_};
+ghost use Prim.Native.Nat.{ℕ, _*_, _≤_};
 ghost use lib.ListN.{length};
-ghost use Rattle.states.specs.Sets.{capacity, has};
+ghost use Rattle.states.specs.Sets.{setWords, capacity, has};
 ghost use Rattle.states.specs.Relations.{rel};
 ghost use Rattle.derivation.specs.Tables.{mostTables, workWords};
 ghost use Rattle.rules.specs.Words.{wordRelation};
@@ -53,7 +53,7 @@ pub(crate) fn number_sets(
     b: usize,
     pool: &mut [u64],
 ) -> SetNumbers
-    requires { ⌜ (mostTables ≤ length (now pool)) × (a ≤ mostTables) × (b ≤ mostTables) ⌝ }
+    requires { ⌜ (setWords * mostTables ≤ length (now pool)) × (a ≤ mostTables) × (b ≤ mostTables) ⌝ }
     ensures { λ r.
         ⌜ SetsNumbered (setWhere n (has p)) (setsHeld n (now (first .entry)) a) (setsHeld n (now (second .entry)) b)
         (setsHeld n (now (pool .exit)) (r .count)) r ⌝ }

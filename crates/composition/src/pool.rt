@@ -13,7 +13,7 @@ ghost use mathlib.Core.List.{List};
 ghost use mathlib.Core.Path.{_≡_};
 ghost use Prim.Native.Nat.{ℕ, _+_, _*_, _≤_, _<_};
 ghost use lib.ListN.{length};
-ghost use Rattle.states.specs.Sets.{capacity, has};
+ghost use Rattle.states.specs.Sets.{setWords, capacity, has};
 ghost use Rattle.states.specs.Relations.{rel};
 ghost use Rattle.derivation.specs.Tables.{mostTables, workWords};
 ghost use Rattle.form.specs.Members.{setWhere, relationWhere};
@@ -49,7 +49,7 @@ fn place_of_set(n: u32, pool: &[u64], count: usize, set: StateSet) -> usize
 
 // A mention of a set.
 pub(crate) fn mention_set(n: u32, pool: &mut [u64], count: usize, set: StateSet) -> Mention
-    requires { ⌜ (count ≤ mostTables) × (mostTables ≤ length (now pool)) ⌝ }
+    requires { ⌜ (count ≤ mostTables) × (setWords * mostTables ≤ length (now pool)) ⌝ }
     ensures { λ r.
         ⌜ Mentioned (setsHeld n (now (pool .entry)) count) (setsHeld n (now (pool .exit)) (r .count)) (setWhere n (has set)) r ⌝ }
 {
@@ -77,7 +77,7 @@ pub(crate) fn mention_sets(
     tables: usize,
     names: &mut [u64],
 ) -> usize
-    requires { ⌜ (mostTables ≤ length (now pool)) × (tables ≤ length (now names)) × (tables ≤ mostTables) ⌝ }
+    requires { ⌜ (setWords * mostTables ≤ length (now pool)) × (tables ≤ length (now names)) × (tables ≤ mostTables) ⌝ }
     ensures { λ r.
         ⌜ ((seen : List ℕ) → Kept (setsHeld n (now (pool .entry)) count) count seen
         → Merged seen (setsHeld n (now (words .entry)) tables) (setsHeld n (now (pool .exit)) r) r (now (names .exit))) ⌝ }

@@ -21,7 +21,7 @@ ghost use Rattle.states.specs.Sets.{capacity};
 ghost use Rattle.derivation.specs.Tables.{mostTables};
 ghost use Rattle.canonical.specs.Refinement.{Room};
 ghost use Rattle.joint.specs.Composing.{atFront};
-ghost use Rattle.composition.specs.Refinement.{setsHeld, relationsHeld, newNode, sideParts, SmallNames, AllSmall, formBits, nodeParts, proofParts, proofBits};
+ghost use Rattle.composition.specs.Refinement.{setsHeld, relationsHeld, newNode, sideParts, SmallNames, AllSmall, formBits, nodeParts, proofParts, proofBits, mostRootBit, mostProofBits};
 
 // The counts at the head of the file take so many bits, and a node that is no while so many.
 const HEAD_BITS: usize = 10;
@@ -103,7 +103,7 @@ fn write_all_nodes(k: RelationNumbers, m: SetNumbers, a: Form, b: Form, out: &mu
 // Where the nodes begin: after the counts and the tables.
 fn root_at(n: u32, sets: usize, relations: usize) -> usize
     requires { ⌜ (n ≤ capacity) × (sets ≤ mostTables) × (relations ≤ mostTables) ⌝ }
-    ensures { λ r. ⌜ (r ≡ 10 + n * sets + n * n * relations) × (r ≤ 70000) ⌝ }
+    ensures { λ r. ⌜ (r ≡ 10 + n * sets + n * n * relations) × (r ≤ mostRootBit) ⌝ }
 {
     let states = n as usize;
     HEAD_BITS + states * sets + states * states * relations
@@ -112,7 +112,7 @@ fn root_at(n: u32, sets: usize, relations: usize) -> usize
 // How many bits the proof file has.
 pub(crate) fn proof_bits(n: u32, m: SetNumbers, k: RelationNumbers, a: Form, b: Form) -> usize
     requires { ⌜ (n ≤ capacity) × (m .count ≤ mostTables) × (k .right .count ≤ mostTables) ⌝ }
-    ensures { λ r. ⌜ (r ≡ proofBits n m k a b) × (r ≤ 80000) ⌝ }
+    ensures { λ r. ⌜ (r ≡ proofBits n m k a b) × (r ≤ mostProofBits) ⌝ }
 {
     let right = k.right;
     let nodes = NODE_BITS * 3 + form_bits(a) + form_bits(b);

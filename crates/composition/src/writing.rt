@@ -3,20 +3,20 @@
 use handler::PARALLEL;
 use rules::tables::row_at;
 use rules::tables::set_at;
-use states::StateSet;
 use writer::clear;
 use writer::copy;
 use writer::put;
+use writer::sets::put_set;
 ghost use mathlib.Core.Path.{_≡_};
 ghost use mathlib.Core.List.{_∷_, _++_, map};
 ghost use Prim.Native.Nat.{_+_, _-_, _*_, _^_, _≤_};
 ghost use lib.ListN.{length};
-ghost use Rattle.states.specs.Sets.{capacity, has};
+ghost use Rattle.states.specs.Sets.{capacity};
 ghost use Rattle.rules.specs.Words.{wordRelation};
 ghost use Rattle.derivation.specs.Tables.{mostTables};
 ghost use Rattle.writer.specs.Writing.{putBits};
 ghost use Rattle.writer.specs.Packing.{part, putParts, bytesFor, packed};
-ghost use Rattle.form.specs.Members.{setWhere, relationWhere};
+ghost use Rattle.form.specs.Members.{relationWhere};
 ghost use Rattle.canonical.specs.Refinement.{Room};
 ghost use Rattle.joint.specs.Joining.{handlerParts};
 ghost use Rattle.joint.specs.Composing.{atFront};
@@ -28,18 +28,6 @@ const HEAD_BITS: usize = 10;
 // The bits that say which statement it is.
 const CODE_BITS: usize = 3;
 
-// The members of a set over n states: a bit for each state, state 0 first.
-fn set_bits(n: u32, set: StateSet) -> u64
-    requires { ⌜ n ≤ capacity ⌝ }
-    ensures { λ r. ⌜ r ≡ setWhere n (has set) ⌝ }
-{
-    let mut bits = 0;
-    for s in 0..n {
-        bits = bits * 2 + set.holds_state(s) as u64;
-    }
-    bits
-}
-
 // Writes the first `count` sets of words.
 fn write_sets(n: u32, words: &[u64], count: usize, out: &mut [u8], at: usize)
     requires { ⌜ (1 ≤ n) × (n ≤ capacity) × (count ≤ mostTables) × Room (now out) at (n * count) ⌝ }
@@ -48,7 +36,7 @@ fn write_sets(n: u32, words: &[u64], count: usize, out: &mut [u8], at: usize)
     let width = n as usize;
     for i in 0..count {
         let set = set_at(n, words, i as u32);
-        put(out, at + width * i, width, set_bits(n, set));
+        put_set(out, at + width * i, n, set);
     }
 }
 
@@ -60,7 +48,7 @@ fn write_relation(n: u32, words: &[u64], r: u32, out: &mut [u8], at: usize)
     let width = n as usize;
     for s in 0..n {
         let row = row_at(n, words, r, s);
-        put(out, at + width * s as usize, width, set_bits(n, row));
+        put_set(out, at + width * s as usize, n, row);
     }
 }
 

@@ -12,11 +12,13 @@ use lib.Dec.{ltb, eqb}
 use lib.ListN.{length, getD, drop}
 use lib.Pow.{pow-mono, low}
 use lib.Seq.{getD-take, getD-drop}
-use Rattle.bits.specs.Fields.{bitAt}
-use Rattle.bits.proofs.Laws.{bit-below}
-use Rattle.states.specs.Sets.{setWords, capacity, mem, entryAt}
+use Rattle.bits.specs.Fields.{bitAt, bitsAt}
+use Rattle.bits.proofs.Laws.{bit-below, bits-more}
+use Rattle.bits.proofs.Bytes.{bits-first}
+use Rattle.states.specs.Sets.{setWords, capacity, mem, entryAt, bitsWhere}
 use Rattle.states.proofs.Search.{not-true-false}
-use Rattle.states.proofs.Bits.{bit}
+use Rattle.states.proofs.Bits.{bit, bits-ext}
+use Rattle.states.proofs.Where.{where-below, where-bit}
 use Rattle.states.proofs.EntryLaws.{entry-below}
 use Rattle.semantics.specs.Derivations.{Derivation}
 use Rattle.derivation.specs.Tables.{mostTables, setAt, rowAt, inSetOf, inRelationOf, wordAt, setWordAt, entryWord, tableWord, workWords, written}
@@ -52,6 +54,17 @@ module _ (bytes : List ℕ) where
       let half : (wordAt bytes (suc at) n * 2 + bitAt bytes at) / 2 ≡ wordAt bytes (suc at) n = omega (arith, bit-below bytes at) in
       let next : at + suc s ≡ suc at + s = omega arith in
       rw (pow-succ' 2 s, ← div-div-eq-div-mul, half, next) (word-bit (suc at) n s (omega arith))
+
+  -- The word of 64 bits is their number with its bits in the other order.
+  pub word-reversed : (at : ℕ) → bitsWhere 64 (bit (bitsAt bytes at 64)) ≡ wordAt bytes at 64
+  word-reversed at =
+      bits-ext 64 _ _ (where-below 64 _) (word-below at 64) (λ s under.
+      where-bit 64 _ s under ∙ ap (λ d. eqb d 1) (field-bit s under ∙ sym (word-bit at 64 s under)))
+    where
+      field-bit : (s : ℕ) → s < 64 → bitsAt bytes at 64 / 2 ^ (64 - 1 - s) % 2 ≡ bitAt bytes (at + s)
+      field-bit s under =
+          let place : 64 - 1 - s ≡ 64 - (s + 1) = omega arith in
+          rw (place, bits-first bytes at (s + 1) 64 (omega arith), bits-more) (omega (arith, bit-below bytes (at + s)))
 
   -- No bit past the n that the word was read for is set.
   word-past : (at n s : ℕ) → n ≤ s → wordAt bytes at n / 2 ^ s ≡ 0

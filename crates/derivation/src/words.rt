@@ -6,11 +6,11 @@ use super::header::row_cursor;
 use states::CAPACITY;
 use states::RELATION_WORDS;
 use states::SET_WORDS;
+use states::bits_in_word;
+use states::reversal::reversed;
 ghost use mathlib.Core.List.{List};
 ghost use mathlib.Core.Path.{_≡_};
 ghost use Prim.Native.Nat.{ℕ, _+_, _-_, _*_, _/_, _%_, _^_, _≤_, _<_, min};
-ghost use lib.Bits.{bitAnd, bitOr};
-ghost use Rattle.bits.specs.Fields.{bitsAt};
 ghost use Rattle.states.specs.Sets.{setWords, capacity};
 ghost use Rattle.derivation.specs.Tables.{mostTables, wordAt, setWordAt, tableWord, workWords, areTables, limitedWord, written};
 
@@ -19,27 +19,6 @@ const ROWS: usize = CAPACITY as usize;
 
 const ROWS_FROM: usize = SET_WORDS * MOST_TABLES;
 
-// Swaps the bits selected by `mask` with those `by` places higher.
-fn swapped(word: u64, by: u32, mask: u64) -> u64
-    requires { ⌜ by < 64 ⌝ }
-    ensures { λ r. ⌜ r ≡ bitOr (bitAnd (word / 2 ^ by) mask) (bitAnd word mask * 2 ^ by % 2 ^ 64) ⌝ }
-{
-    ((word >> by) & mask) | ((word & mask) << by)
-}
-
-// The 64 bits of a word in the other order: single bits change places with their neighbours, then pairs, then fours, to
-// halves.
-fn reversed(word: u64) -> u64
-    ensures { λ r. ⌜ ((s : List ℕ) (at : ℕ) → word ≡ bitsAt s at 64 → r ≡ wordAt s at 64) ⌝ }
-{
-    let word = swapped(word, 1, 0x5555555555555555);
-    let word = swapped(word, 2, 0x3333333333333333);
-    let word = swapped(word, 4, 0x0f0f0f0f0f0f0f0f);
-    let word = swapped(word, 8, 0x00ff00ff00ff00ff);
-    let word = swapped(word, 16, 0x0000ffff0000ffff);
-    swapped(word, 32, 0x00000000ffffffff)
-}
-
 // The word that holds n bits of the file from a cursor on, the first of them the lowest.
 fn word_at(src: &[u8], at: usize, n: usize) -> u64
     requires { ⌜ n ≤ 64 ⌝ }
@@ -47,19 +26,6 @@ fn word_at(src: &[u8], at: usize, n: usize) -> u64
 {
     let word = reversed(bits::number_at(src, at, 64));
     if n < 64 { word % (1 << n) } else { word }
-}
-
-// How many bits word `part` of a set has over n states.
-fn bits_in_word(n: usize, part: usize) -> usize
-    requires { ⌜ part < setWords ⌝ }
-    ensures { λ r. ⌜ r ≡ min 64 (n - 64 * part) ⌝ }
-{
-    let before = 64 * part;
-    if n < before {
-        return 0;
-    }
-    let left = n - before;
-    if left < 64 { left } else { 64 }
 }
 
 // Word `part` of the set that n bits of the file from a cursor on hold.

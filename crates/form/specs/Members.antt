@@ -1,9 +1,10 @@
 -- docs/FORMAT.md, "One form": a derivation with its tables by their members. The members of a table are the number that its bits write:
 -- two tables over the same N have equal members exactly if these numbers are equal.
-use Prim.Native.Nat.{ℕ, zero, suc, _+_, _*_, _/_, _%_}
-use mathlib.Core.Bool.{Bool, cond}
+use Prim.Native.Nat.{ℕ, _*_, _/_, _%_}
+use mathlib.Core.Bool.{Bool}
 use mathlib.Core.List.{List}
 use Rattle.bits.specs.Fields.{bitsAt}
+use Rattle.states.specs.Sets.{bitsWhere}
 use Rattle.semantics.specs.declared.Names.{Names}
 use Rattle.semantics.specs.Derivations.{Derivation, skip, assignment, sequence, parallel, conditional, iteration, weaken}
 use Rattle.derivation.specs.declared.Node.{Node}
@@ -35,11 +36,6 @@ relationMembers bytes n sets r = bitsAt bytes (rowAt n sets r 0) (n * n)
 -- A derivation of a proof file, each table by its members.
 unfoldable pub byMembers : List ℕ → ℕ → ℕ → Derivation → Derivation
 byMembers bytes n sets d = rename (setMembers bytes n) (relationMembers bytes n sets) d
-
--- The number whose `width` bits are 1 where a test of their places holds, most significant bit first.
-unfoldable pub bitsWhere : ℕ → (ℕ → Bool) → ℕ
-bitsWhere zero p = 0
-bitsWhere (suc width) p = bitsWhere width p * 2 + cond (p width) 1 0
 
 -- The members of the set of the states below n, and of the relation of the pairs between them, at which a test holds.
 unfoldable pub setWhere : ℕ → (ℕ → Bool) → ℕ

@@ -10,6 +10,7 @@ use native.Mathlib.Omega.{arith}
 use borrow.Author.Tests.{leb-true}
 use lib.ListN.{length}
 use Rattle.states.proofs.Search.{and-left, and-right, holds-none}
+use Rattle.states.proofs.Where.{where-below}
 use Rattle.semantics.specs.Language.{Stmt, par}
 use Rattle.semantics.specs.States.{Machine, product, machineOf}
 use Rattle.semantics.specs.StepNumber.{steps}
@@ -35,7 +36,6 @@ use Rattle.form.specs.Members.{setWhere, relationWhere}
 use Rattle.form.specs.Form.{setsIn, relationsIn, numbered}
 use Rattle.form.proofs.EveryName.{OwnNames, EveryName, every-name, every-set, every-relation}
 use Rattle.form.proofs.Verdicts.{memberTables}
-use Rattle.form.proofs.Where.{where-below}
 use Rattle.form.proofs.Forms.{Writable, any-read, any-fault}
 use Rattle.joint.specs.Joining.{rootSpec, leftSpec, rightSpec, membersOf, joined}
 use Rattle.joint.specs.Composing.{Side, sideOf, made, metP, statement, derivation, handlerFile, proofFile, staysIn, inLimits, compose}

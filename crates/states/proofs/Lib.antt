@@ -2,6 +2,8 @@
 pub mod Search
 pub mod Least
 pub mod Bits
+pub mod Where
+pub mod Swaps
 pub mod Words
 pub mod Cells
 pub mod Reach

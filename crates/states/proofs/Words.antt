@@ -1,6 +1,6 @@
 -- Sets as lists of any number of words: an operation on each word is one on each state, by one law for all words. The first word has the
 -- first 64 states, and the others have the rest.
-use Prim.Native.Nat.{ℕ, zero, suc, _+_, _-_, _*_, _/_, _%_, _^_, _<_}
+use Prim.Native.Nat.{ℕ, zero, suc, _+_, _-_, _*_, _/_, _%_, _^_, _≤_, _<_}
 use native.Mathlib.Decide.{decLt}
 use native.Mathlib.Omega.{arith}
 use mathlib.Core.Path.{_≡_, refl, sym, ap, ap₂, _∙_}
@@ -12,9 +12,10 @@ use lib.Bits.{bitAnd}
 use lib.Count.{trailingZeros, trailing-of-zero}
 use borrow.Author.Tests.{eqb-true, lt-ltb, le-ltb}
 use Rattle.states.specs.Search.{all, any, leastWhere}
-use Rattle.states.specs.Sets.{mem}
+use Rattle.states.specs.Sets.{mem, bitsWhere}
 use Rattle.states.proofs.Search.{turned, not-true-false, all-cong, all-split, all-not, any-cong, any-split}
 use Rattle.states.proofs.Least.{least-cong, least-split}
+use Rattle.states.proofs.Where.{where-same, where-first}
 use Rattle.states.proofs.Bits.{bit, Bitwise, bit-nought, word-empty, trailing-least, and-bits, bit-lower}
 
 -- Every word of the list is a word of 64 bits.
@@ -39,6 +40,18 @@ mem-later x xs s =
     let q : (64 + s) / 64 ≡ suc (s / 64) = omega arith in
     let r : (64 + s) % 64 ≡ s % 64 = omega arith in
     rw (q, r)
+
+-- The states of one word.
+pub mem-part : (xs : List ℕ) (i k : ℕ) → k < 64 → mem xs (64 * i + k) ≡ bit (getD xs i 0) k
+unfolding mem
+mem-part xs i k l =
+    let q : (64 * i + k) / 64 ≡ i = omega arith in
+    let r : (64 * i + k) % 64 ≡ k = omega arith in
+    rw (q, r)
+
+-- The first of them as a file has them.
+pub part-bits : (xs : List ℕ) (i count : ℕ) → count ≤ 64 → bitsWhere 64 (bit (getD xs i 0)) / 2 ^ (64 - count) ≡ bitsWhere count (λ k. mem xs (64 * i + k))
+part-bits xs i count most = where-first _ count 64 most ∙ where-same count _ _ (λ k l. sym (mem-part xs i k (omega arith)))
 
 -- Words that are all 0 have no member, and no state past the words is a member.
 pub mem-zeros : (xs : List ℕ) → ((i : ℕ) → getD xs i 0 ≡ 0) → (s : ℕ) → mem xs s ≡ false

@@ -1,6 +1,6 @@
 -- Sets of states, as words of 64 bits: state s is at bit s mod 64 of word s div 64, the lowest bit first.
-use Prim.Native.Nat.{ℕ, _*_, _/_, _%_, _^_}
-use mathlib.Core.Bool.{Bool}
+use Prim.Native.Nat.{ℕ, zero, suc, _+_, _*_, _/_, _%_, _^_}
+use mathlib.Core.Bool.{Bool, cond}
 use mathlib.Core.List.{List, [], _∷_}
 use lib.ListN.{getD, take, drop}
 use lib.Seq.{sets}
@@ -32,3 +32,9 @@ entryAt words i = take setWords (drop (setWords * i) words)
 -- The words with a set stored as entry i; past the end nothing is stored.
 unfoldable pub withEntry : List ℕ → ℕ → StateSet → List ℕ
 withEntry words i set = sets words (setWords * i) (wordsIn set)
+
+-- The number whose `width` bits are 1 where a test of their places holds, most significant bit first. The files hold a set over n states so:
+-- n bits, state 0 first.
+unfoldable pub bitsWhere : ℕ → (ℕ → Bool) → ℕ
+bitsWhere zero p = 0
+bitsWhere (suc width) p = bitsWhere width p * 2 + cond (p width) 1 0

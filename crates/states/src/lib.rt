@@ -1,14 +1,17 @@
 // Sets of states by value. No function has a precondition, and each contract describes a set by its members.
 // No other crate knows how many words a set has.
+use crate::reversal::reversed;
 ghost use mathlib.Core.Path.{_≡_};
 ghost use mathlib.Core.Bool.{false, not, _&&_, _||_, Bool·beq};
-ghost use Prim.Native.Nat.{ℕ};
+ghost use Prim.Native.Nat.{ℕ, _+_, _-_, _*_, min};
 ghost use lib.Dec.{ltb, eqb};
+ghost use lib.ListN.{getD};
 ghost use Rattle.states.specs.Search.{implies, all, any, leastWhere};
-ghost use Rattle.states.specs.Sets.{capacity, has};
+ghost use Rattle.states.specs.Sets.{capacity, wordsIn, has, bitsWhere};
 
 pub mod entries;
 pub mod relations;
+pub mod reversal;
 
 // How many words a set has, and how many states it can hold: 64 to a word.
 pub const SET_WORDS: usize = 1;
@@ -17,6 +20,17 @@ pub const CAPACITY: u32 = 64;
 
 // The number of words of a relation with a row for each of these states.
 pub const RELATION_WORDS: usize = SET_WORDS * CAPACITY as usize;
+
+// How many bits word `part` of a set has over n states.
+pub fn bits_in_word(n: usize, part: usize) -> usize
+    ensures { λ r. ⌜ r ≡ min 64 (n - 64 * part) ⌝ }
+{
+    if part > n / 64 {
+        return 0;
+    }
+    let left = n - 64 * part;
+    if left < 64 { left } else { 64 }
+}
 
 // A set of states: state s is at bit s, the lowest bit first.
 pub struct StateSet {
@@ -125,5 +139,22 @@ impl StateSet {
         ensures { λ r. ⌜ r ≡ not (any capacity (λ s. has self s)) ⌝ }
     {
         self.bits == 0
+    }
+    // Word `part` of the set; 0 past the last.
+    fn word(self, part: usize) -> u64
+        ensures { λ r. ⌜ r ≡ getD (wordsIn self) part 0 ⌝ }
+    {
+        if part == 0 { self.bits } else { 0 }
+    }
+
+    // The bits of the states of word `part` that are below n, as a file has them: the first state at the most significant bit.
+    pub fn bits_of(self, n: u32, part: usize) -> u64
+        ensures { λ r. ⌜ r ≡ bitsWhere (min 64 (n - 64 * part)) (λ k. has self (64 * part + k)) ⌝ }
+    {
+        let count = bits_in_word(n as usize, part);
+        if count == 0 {
+            return 0;
+        }
+        reversed(self.word(part)) >> (64 - count)
     }
 }

@@ -1,11 +1,14 @@
 -- Worked examples: fields within a byte and across a border, fields that do not fit, files of fields, copied bits and cleared bytes.
-use Prim.Native.Nat.{_-_, _^_}
+use Prim.Native.Nat.{_-_, _%_, _^_}
 use mathlib.Core.List.{[], _∷_}
 use mathlib.Core.Path.{_≡_, refl}
+use lib.Dec.{eqb}
 use Rattle.bits.specs.Fields.{bitAt, bitsAt, isThere, fieldAt}
 use Rattle.bits.specs.declared.Field.the-variants.{Value}
+use Rattle.states.specs.Sets.{bitsWhere}
 use Rattle.writer.specs.Writing.{withBit, putBit, putBits, putField, hasRoom, copied, cleared}
 use Rattle.writer.specs.Packing.{part, widthOf, putParts, putAll, bytesFor, packed}
+use Rattle.writer.specs.Sets.{putSet}
 
 -- Bits 2 to 4 of a byte, and three bits across the border of two bytes; the neighbours stay.
 pub bits-put :
@@ -59,3 +62,10 @@ pub all-or-none :
     × (putAll (0x00 ∷ 0x00 ∷ []) 9 (part 3 9 ∷ part 5 2 ∷ []) ≡ 0x00 ∷ 0x00 ∷ [])
 unfolding putAll hasRoom putParts widthOf putBits putBit withBit
 all-or-none = (refl, refl)
+
+-- States 0 and 2 of three, and a set that is one bit too long.
+pub set-or-nothing :
+    (putSet (0x00 ∷ []) 2 3 (λ s. eqb (s % 2) 0) ≡ 0x28 ∷ []) × (putSet (0x00 ∷ []) 5 3 (λ s. eqb (s % 2) 0) ≡ 0x05 ∷ [])
+    × (putSet (0x00 ∷ []) 6 3 (λ s. eqb (s % 2) 0) ≡ 0x00 ∷ [])
+unfolding putSet hasRoom bitsWhere putBits putBit withBit
+set-or-nothing = (refl, refl, refl)

@@ -9,6 +9,8 @@ ghost use lib.ListN.{length};
 ghost use Rattle.bits.specs.Fields.{bitsAt};
 ghost use Rattle.writer.specs.Writing.{putBits, putField, hasRoom, copied, cleared};
 
+pub mod sets;
+
 // The largest cursor.
 const LAST: usize = 18446744073709551615;
 

@@ -4,7 +4,9 @@ use mathlib.Core.Path.{_≡_, sym, _∙_}
 use native.Mathlib.Omega.{arith}
 use borrow.Author.Needs.{needs}
 use lib.ListN.{length}
+use Rattle.states.specs.Sets.{capacity}
 use Rattle.semantics.specs.Derivations.{Derivation, nodes}
+use Rattle.derivation.specs.Tables.{mostTables}
 use Rattle.derivation.specs.Reading.{proof}
 use Rattle.derivation.proofs.Files.{read-known}
 use Rattle.form.proofs.FileRead.{states-most}
@@ -15,7 +17,7 @@ use Rattle.canonical.proofs.mentions.number.Tie as tie
 proof-same : (sets relations root : ℕ) (x y : Derivation) → proof sets relations root x ≡ proof sets relations root y → x ≡ y
 proof-same sets relations root x y e = cc
 
-few : (c : tie.Start) → (c .args .n ≤ 64) × (c .args .head .sets ≤ 16) × (c .args .head .relations ≤ 16)
+few : (c : tie.Start) → (c .args .n ≤ capacity) × (c .args .head .sets ≤ mostTables) × (c .args .head .relations ≤ mostTables)
 few c =
     let s = read-known _ _ _ _ _ _ (c .pre .read) in
     (states-most _ _ _ _ _ _ (c .pre .read), s .sets-most, s .relations-most)

@@ -1,12 +1,11 @@
 -- With so few states and sets no product is large.
-use Prim.Native.Nat.{_*_, _≤_}
 use mathlib.Core.Path.{refl}
 use native.Mathlib.Omega.{arith}
-use Rattle.canonical.proofs.Bounds.{few-bits}
+use Rattle.canonical.proofs.Bounds.{FewBits, few-bits}
 use Rattle.canonical.proofs.tables.relation_run.Statement.{statement}
 use Rattle.canonical.proofs.tables.relation_run.Tie as tie
 
-small : (c : tie.Start) → (c .args .n * c .args .sets ≤ 1024) × (c .args .n * c .args .n ≤ 4096) × (c .args .n * c .args .n * 0 ≤ 65536)
+small : (c : tie.Start) → FewBits (c .args .n) (c .args .sets) 0
 small c = few-bits (c .args .n) (c .args .sets) 0 (c .pre .0) (c .pre .1) (omega arith)
 
 pub relation-run-spec : {M : Type 1} → statement M

@@ -1,15 +1,14 @@
 -- With so few states, tables and nodes no product and no sum is large.
-use Prim.Native.Nat.{_*_, _≤_, min}
+use Prim.Native.Nat.{_≤_, min}
 use native.Mathlib.Omega.{arith}
 use borrow.Author.Needs.{needs}
 use lib.ListN.{take, length-take}
-use Rattle.canonical.proofs.Bounds.{few-bits}
+use Rattle.canonical.proofs.Bounds.{FewBits, few-bits}
 use Rattle.canonical.proofs.Copying.{nodes-most}
 use Rattle.canonical.proofs.writing.form_bits.Statement.{statement}
 use Rattle.canonical.proofs.writing.form_bits.Tie as tie
 
-small : (c : tie.Start) → let a = c .args in
-    (a .n * a .m .sets .count ≤ 1024) × (a .n * a .n ≤ 4096) × (a .n * a .n * a .m .relations .count ≤ 65536)
+small : (c : tie.Start) → FewBits (c .args .n) (c .args .m .sets .count) (c .args .m .relations .count)
 small c = few-bits (c .args .n) (c .args .m .sets .count) (c .args .m .relations .count) (search needs) (search needs) (search needs)
 
 few : (c : tie.After-nodes-width) → c .nodes-width .result ≤ 3429

@@ -5,23 +5,23 @@ use mathlib.Core.Path.{_≡_, _∙_}
 use native.Mathlib.Omega.{arith}
 use borrow.Author.Needs.{needs}
 use lib.ListN.{length, take}
+use Rattle.derivation.specs.Tables.{mostTables}
 use Rattle.writer.specs.Packing.{Part, widthOf, putParts, putAll}
 use Rattle.writer.proofs.Packed.{all-fits}
 use Rattle.form.specs.Form.{partsOf}
 use Rattle.canonical.specs.Nodes.{heldIn}
 use Rattle.canonical.specs.Refinement.{setRun, relationRun, Within, Room, partsIn}
 use Rattle.canonical.specs.declared.Run.{Run}
-use Rattle.canonical.proofs.Bounds.{few-bits}
+use Rattle.canonical.proofs.Bounds.{FewBits, few-bits}
 use Rattle.canonical.proofs.NodeFields.{renamedParts, held-width}
 use Rattle.canonical.proofs.Copying.{width-fields, fields-written}
 use Rattle.canonical.proofs.writing.write_fields.Statement.{statement}
 use Rattle.canonical.proofs.writing.write_fields.Tie as tie
 
-full : (c : tie.Start) → (length (c .args .m .sets .order) ≡ 16) × (length (c .args .m .relations .order) ≡ 16)
+full : (c : tie.Start) → (length (c .args .m .sets .order) ≡ mostTables) × (length (c .args .m .relations .order) ≡ mostTables)
 full c = (search needs, search needs)
 
-small : (c : tie.Start) → let a = c .args in
-    (a .n * a .m .sets .count ≤ 1024) × (a .n * a .n ≤ 4096) × (a .n * a .n * a .m .relations .count ≤ 65536)
+small : (c : tie.Start) → FewBits (c .args .n) (c .args .m .sets .count) (c .args .m .relations .count)
 small c = few-bits (c .args .n) (c .args .m .sets .count) (c .args .m .relations .count) (search needs) (search needs) (search needs)
 
 width : (c : tie.Start) → let a = c .args in
@@ -32,14 +32,14 @@ width c = width-fields _ _ _ _ _ (omega (arith, full c)) (omega (arith, full c))
 -- Each step has room in bytes of the same length.
 module _ (c : tie.Start) (out : List ℕ) (same : length out ≡ length (c .args .out .now)) where
   set-room : (run : Run) → run ≡ setRun (c .args .n)
-      → Within run × (c .args .m .sets .count ≤ 16) × Room out 10 (run .width * c .args .m .sets .count)
+      → Within run × (c .args .m .sets .count ≤ mostTables) × Room out 10 (run .width * c .args .m .sets .count)
   set-room run is = rw is ((omega arith, omega arith), search needs, (omega (arith, width c), omega (arith, width c)))
 
-  few-tables : c .args .n * c .args .tables ≤ 1024
-  few-tables = few-bits (c .args .n) (c .args .tables) 0 (search needs) (search needs) (omega arith) .0
+  few-tables : FewBits (c .args .n) (c .args .tables) 0
+  few-tables = few-bits (c .args .n) (c .args .tables) 0 (search needs) (search needs) (omega arith)
 
   relation-room : (run : Run) → run ≡ relationRun (c .args .n) (c .args .tables)
-      → Within run × (c .args .m .relations .count ≤ 16)
+      → Within run × (c .args .m .relations .count ≤ mostTables)
       × Room out (10 + c .args .n * c .args .m .sets .count) (run .width * c .args .m .relations .count)
   relation-room run is =
       rw is ((omega (arith, few-tables), omega (arith, small c)), search needs, (omega (arith, width c), omega (arith, width c)))

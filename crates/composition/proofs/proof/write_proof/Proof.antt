@@ -6,7 +6,7 @@ use borrow.Author.Needs.{needs}
 use lib.ListN.{length}
 use Rattle.writer.specs.Packing.{bytesFor}
 use Rattle.derivation.proofs.Buffers.{length-tabulate}
-use Rattle.composition.specs.Refinement.{setsHeld, relationsHeld, proofBits}
+use Rattle.composition.specs.Refinement.{setsHeld, relationsHeld, proofBits, mostProofBits}
 use Rattle.composition.proofs.NewNodes.{nodes-width, proof-small, proof-written-by}
 use Rattle.composition.proofs.proof.write_proof.Statement.{statement}
 use Rattle.composition.proofs.proof.write_proof.Tie as tie
@@ -15,7 +15,7 @@ use Rattle.composition.proofs.proof.write_proof.Tie as tie
 abbrev bits : tie.Start → ℕ
 bits c = let a = c .args in proofBits (a .n) (a .m) (a .k) (a .a) (a .b)
 
-room : (c : tie.Start) → (bits c ≤ 8 * length (c .args .out .now)) × (bits c ≤ 80000)
+room : (c : tie.Start) → (bits c ≤ 8 * length (c .args .out .now)) × (bits c ≤ mostProofBits)
 unfolding bytesFor
 room c =
     let a = c .args in

@@ -8,7 +8,8 @@ use lib.ListN.{length}
 use Rattle.writer.specs.Writing.{putBits}
 use Rattle.writer.proofs.Laws.{length-put}
 use Rattle.rules.specs.Words.{wordRelation}
-use Rattle.form.specs.Members.{bitsWhere, relationWhere}
+use Rattle.states.specs.Sets.{bitsWhere}
+use Rattle.form.specs.Members.{relationWhere}
 use Rattle.canonical.proofs.Copying.{table-within}
 use Rattle.composition.proofs.TableBits.{pairs, row-more}
 use Rattle.composition.proofs.writing.write_relation.Statement.{statement}
@@ -32,7 +33,7 @@ kept c =
     ap length (c .loop .inv .1) ∙ length-put (a .out .now) (a .at) (a .n * c .loop .s) _
 
 -- A row ends within the room.
-room : (c : tie.After-put-arg Inv-loop μ-loop) →
+room : (c : tie.After-put-set-arg Inv-loop μ-loop) →
     let l = c .before .before .before in
     let a = l .before .before .before .args in
     a .n * l .loop .s + a .n ≤ a .n * a .n
@@ -41,14 +42,14 @@ room c = table-within _ _ _ (omega arith)
 loop-again : tie.Need-loop-again Inv-loop μ-loop
 loop-again c =
     let put = c .before .before in
-    let arg = put .before .before in
+    let arg = put .before in
     let l = arg .before .before .before in
     let a = l .before .before .before .args in
     let members = fun-ext (arg .before .row-at .ensures) in (
       omega arith,
-      put .put .ensures
-          ∙ rw (put .before .set-bits .ensures, members, l .loop .inv .1)
-          (row-more (a .n) (wordRelation (a .n) (a .words .now) (a .r)) (a .out .now) (a .at) (l .loop .s) (search needs) (search needs) (omega (arith, room arg)) (omega (arith, room arg))),
+      put .put-set .ensures
+          ∙ rw (members, l .loop .inv .1)
+          (row-more (a .n) (wordRelation (a .n) (a .words .now) (a .r)) (a .out .now) (a .at) (l .loop .s) (omega (arith, room arg)) (omega (arith, room arg))),
     )
 
 returns : tie.Need-returns Inv-loop μ-loop
@@ -66,7 +67,7 @@ write-relation-spec =
     loop-holds
     (λ c κs. search needs) (λ c. search needs)
     (λ c. omega (arith, room c)) (λ c. omega (arith, room c))
-    (λ c κs. search needs) (λ c κs. search needs)
+    (λ c κs. search needs)
     (λ c. search needs) (λ c. search needs)
     loop-again
     (λ c. kept (c .before))

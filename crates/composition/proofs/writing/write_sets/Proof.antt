@@ -1,4 +1,4 @@
--- After i rounds the first i sets are written; `field-more` adds one.
+-- After i rounds the first i sets are written; `set-more` adds one.
 use Prim.Native.Nat.{_+_, _-_, _*_, _≤_}
 use mathlib.Core.List.{map}
 use mathlib.Core.Path.{_≡_, refl, _∙_, ap, fun-ext}
@@ -8,9 +8,10 @@ use lib.ListN.{length}
 use Rattle.writer.specs.Packing.{part, putParts}
 use Rattle.writer.proofs.Packed.{length-parts}
 use Rattle.derivation.specs.Tables.{tabulate}
+use Rattle.rules.specs.Words.{wordSet}
 use Rattle.canonical.proofs.Copying.{table-within}
 use Rattle.composition.specs.Refinement.{setsHeld}
-use Rattle.composition.proofs.TableFields.{field-more}
+use Rattle.composition.proofs.TableFields.{set-more}
 use Rattle.composition.proofs.writing.write_sets.Statement.{statement}
 use Rattle.composition.proofs.writing.write_sets.Tie as tie
 
@@ -31,7 +32,7 @@ kept c =
     ap length (c .loop .inv .1) ∙ length-parts (a .out .now) (a .at) _
 
 -- A set ends within the room.
-room : (c : tie.After-put-arg Inv-loop μ-loop) →
+room : (c : tie.After-put-set-arg Inv-loop μ-loop) →
     let l = c .before .before .before in
     let a = l .before .before .before .args in
     a .n * l .loop .i + a .n ≤ a .n * a .count
@@ -41,14 +42,14 @@ loop-again : tie.Need-loop-again Inv-loop μ-loop
 unfolding setsHeld
 loop-again c =
     let put = c .before .before in
-    let arg = put .before .before in
+    let arg = put .before in
     let l = arg .before .before .before in
     let a = l .before .before .before .args in
     let members = fun-ext (arg .before .set-at .ensures) in (
       omega arith,
-      put .put .ensures
-          ∙ rw (put .before .set-bits .ensures, members, l .loop .inv .1)
-          (field-more (a .n) _ (a .out .now) (a .at) (l .loop .i) (search needs) (search needs) (omega (arith, room arg)) (omega (arith, room arg))),
+      put .put-set .ensures
+          ∙ rw (members, l .loop .inv .1)
+          (set-more (a .n) (wordSet (a .n) (a .words .now)) (a .out .now) (a .at) (l .loop .i) (omega (arith, room arg)) (omega (arith, room arg))),
     )
 
 returns : tie.Need-returns Inv-loop μ-loop
@@ -65,7 +66,7 @@ write-sets-spec =
     loop-holds
     (λ c. search needs) (λ c κs. search needs)
     (λ c. omega (arith, room c)) (λ c. omega (arith, room c))
-    (λ c κs. search needs) (λ c κs. search needs)
+    (λ c κs. search needs)
     (λ c. search needs) (λ c. search needs)
     loop-again
     (λ c. kept (c .before))

@@ -6,14 +6,14 @@ use lib.Pow.{pow-pos}
 use Rattle.bits.proofs.Laws.{number-bits}
 use Rattle.states.proofs.Bits.{shifted}
 use Rattle.derivation.specs.Tables.{wordAt}
-use Rattle.derivation.proofs.Membership.{word-first}
+use Rattle.derivation.proofs.Membership.{word-first, word-reversed}
 use Rattle.derivation.proofs.words.word_at.Statement.{statement}
 use Rattle.derivation.proofs.words.word_at.Tie as tie
 
 whole : (c : tie.After-reversed) →
     let a = c .before .before .before .args in
     c .reversed .result ≡ wordAt (a .src .now) (a .at) 64
-whole c = c .reversed .ensures _ _ (c .before .number-at .ensures ∙ number-bits _ _ 64 (omega arith))
+whole c = c .reversed .ensures ∙ rw (c .before .number-at .ensures ∙ number-bits _ _ 64 (omega arith)) (word-reversed _ _)
 
 rem-result : tie.Need-rem-result
 rem-result c =

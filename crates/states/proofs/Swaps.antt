@@ -10,14 +10,11 @@ use borrow.Author.Tests.{leb-true, leb-false, ltb-true, eqb-true}
 use lib.Bits.{bitAnd, bitOr, and-le-l, or-lt, shifted-even}
 use lib.Dec.{leb, ltb, eqb}
 use lib.Pow.{pow-pos, pow-add, shr-shr, shr-le, shl-shr, field, mod-mod-pow}
-use Rattle.bits.specs.Fields.{bitAt, bitsAt}
-use Rattle.bits.proofs.Laws.{bit-below, bits-more, bits-below}
-use Rattle.bits.proofs.Bytes.{bits-first}
 use Rattle.states.specs.Search.{all}
+use Rattle.states.specs.Sets.{bitsWhere}
 use Rattle.states.proofs.Search.{and-left, and-right, all-at}
 use Rattle.states.proofs.Bits.{bit, and-bits, or-bits, bits-ext}
-use Rattle.derivation.specs.Tables.{wordAt}
-use Rattle.derivation.proofs.Membership.{word-below, word-bit}
+use Rattle.states.proofs.Where.{where-below, where-bit}
 
 -- A word of 64 bits keeps them.
 low-bits : (x s : ℕ) → s < 64 → x % 2 ^ 64 / 2 ^ s % 2 ≡ x / 2 ^ s % 2
@@ -117,16 +114,11 @@ swaps-fits : (steps : List (ℕ × ℕ)) (word : ℕ) → word < 2 ^ 64 → swap
 swaps-fits [] word small = small
 swaps-fits (step ∷ rest) word small = swaps-fits rest _ (swap-fits (step .0) (step .1) word small)
 
--- Steps that move every bit to the other end turn the bits of a field into a word whose lowest is the first.
+-- Steps that move every bit to the other end reverse the word.
 pub reversal : (steps : List (ℕ × ℕ)) → sound steps ≡ true → all 64 (λ s. eqb (origins steps s) (63 - s)) ≡ true
-    → (bytes : List ℕ) (at : ℕ) → swaps steps (bitsAt bytes at 64) ≡ wordAt bytes at 64
-reversal steps fits ends bytes at =
-    bits-ext 64 _ _ (swaps-fits steps _ (bits-below bytes at 64)) (word-below bytes at 64) (λ s under.
-    swaps-bit steps fits (bitsAt bytes at 64) s under .0
-    ∙ ap (bit (bitsAt bytes at 64)) (eqb-true _ _ (all-at 64 _ ends s under))
-    ∙ ap (λ d. eqb d 1) (field-bit s under ∙ sym (word-bit bytes at 64 s under)))
-  where
-    field-bit : (s : ℕ) → s < 64 → bitsAt bytes at 64 / 2 ^ (63 - s) % 2 ≡ bitAt bytes (at + s)
-    field-bit s under =
-        let place : 63 - s ≡ 64 - (s + 1) = omega arith in
-        rw (place, bits-first bytes at (s + 1) 64 (omega arith), bits-more) (omega (arith, bit-below bytes (at + s)))
+    → (word : ℕ) → word < 2 ^ 64 → swaps steps word ≡ bitsWhere 64 (bit word)
+reversal steps fits ends word small =
+    bits-ext 64 _ _ (swaps-fits steps word small) (where-below 64 (bit word)) (λ s under.
+    swaps-bit steps fits word s under .0
+    ∙ ap (bit word) (eqb-true _ _ (all-at 64 _ ends s under))
+    ∙ sym (where-bit 64 (bit word) s under))

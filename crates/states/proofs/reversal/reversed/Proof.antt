@@ -2,11 +2,12 @@
 use Prim.Native.Nat.{ℕ}
 use mathlib.Core.List.{List, [], _∷_}
 use mathlib.Core.Path.{_≡_, refl, ap, _∙_}
+use native.Mathlib.Omega.{arith}
 use borrow.Author.Needs.{needs}
 use Rattle.states.specs.Search.{all}
-use Rattle.derivation.proofs.Reversal.{swap, swap-found, swaps, reversal}
-use Rattle.derivation.proofs.words.reversed.Statement.{statement}
-use Rattle.derivation.proofs.words.reversed.Tie as tie
+use Rattle.states.proofs.Swaps.{swap, swap-found, swaps, reversal}
+use Rattle.states.proofs.reversal.reversed.Statement.{statement}
+use Rattle.states.proofs.reversal.reversed.Tie as tie
 
 abbrev steps : List (ℕ × ℕ)
 steps =
@@ -26,7 +27,7 @@ found c =
 
 returns : tie.Need-returns
 unfolding all
-returns c s at here = found c ∙ ap (swaps steps) here ∙ reversal steps refl refl s at
+returns c = found c ∙ reversal steps refl refl _ (omega arith)
 
 pub reversed-spec : {M : Type 1} → statement M
 reversed-spec =
