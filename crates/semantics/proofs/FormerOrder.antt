@@ -3,7 +3,7 @@
 -- only where 41 or 45 is broken too: it is then that number, if the former one was asked before it.
 use Prim.Native.Nat.{ℕ, suc, _+_}
 use mathlib.Core.Path.{_≡_, refl}
-use mathlib.Core.Bool.{Bool, true, false, cond}
+use mathlib.Core.Bool.{Bool, true, false, cond, _||_}
 use mathlib.Core.List.{List, [], _∷_, _++_}
 use mathlib.Core.Option.{Option, none, some}
 use lib.Dec.{eqb}
@@ -13,7 +13,11 @@ use Rattle.semantics.specs.Language.{Expr, Stmt}
 use Rattle.semantics.specs.States.{Machine}
 use Rattle.semantics.specs.Derivations.{Derivation, skip, assignment, sequence, parallel, conditional, iteration, weaken, namesOf, nodes, Tables, Spec, specOf}
 use Rattle.semantics.specs.Conditions.{statementCode, targetOf, exprOf, firstOf, secondOf, isTrue, isFalse, underTest, c41, c42, c43, c45, c46}
-use Rattle.semantics.specs.Checking.{Condition, numbered, Breach, Broken, orBreach, firstBroken, orBroken, atNode, isOneOf, stability, common, bodyTables, assignmentObligations, ifObligations, obligations, firstFault}
+use Rattle.semantics.specs.Checking.{Condition, numbered, Breach, Broken, orBreach, firstBroken, orBroken, atNode, stability, common, bodyTables, assignmentObligations, ifObligations, obligations, firstFault}
+
+abbrev isOneOf : List ℕ → ℕ → Bool
+isOneOf [] k = false
+isOneOf (j ∷ rest) k = eqb j k || isOneOf rest k
 
 -- The conditions of an assignment and of an if in the former order.
 abbrev formerAssignment : Machine → Bool → Spec → ℕ → Expr → List Condition

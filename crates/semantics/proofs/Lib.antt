@@ -14,4 +14,5 @@ pub mod Soundness
 pub mod FormerOrder
 pub mod Complaints
 pub mod Numbers
+pub mod Facts
 pub mod Naming

@@ -1,20 +1,20 @@
 -- Which states come with a refusal: as many as its number names, each one of the n states.
 use Prim.Native.Nat.{ℕ, zero, suc, _+_, _≤_, _<_}
 use mathlib.Core.Path.{_≡_, refl, ap}
-use mathlib.Core.Bool.{Bool, true, false, cond}
+use mathlib.Core.Bool.{Bool, true, false}
 use mathlib.Core.List.{List, [], _∷_, _++_}
 use mathlib.Core.Option.{Option, none, some}
 use native.Mathlib.Omega.{arith}
 use native.Mathlib.Nat.{le-trans}
 use lib.IntN.{ℤ}
 use lib.ListN.{length}
-use borrow.Author.Tests.{ne-eqb}
 use Rattle.states.specs.Search.{Search, must, given, named, orElse, each}
 use Rattle.semantics.specs.Language.{Val, int, truth, Expr, Stmt}
 use Rattle.semantics.specs.States.{Machine, value, storeOf}
 use Rattle.semantics.specs.Derivations.{Derivation, skip, assignment, sequence, parallel, conditional, iteration, weaken, nodes, Tables, Spec}
 use Rattle.semantics.specs.Conditions.{firstOf, secondOf, inSet, afterStore, toAfter, c31, c32, c33, c34, c35, c36, c37, c38, c41, c42, c43, c45, c46, c50, c51, c52, c53, c54, c55, c56, c57, c60, c61, c65, c66, c70, c71, c72, c73}
-use Rattle.semantics.specs.Checking.{Condition, Breach, Broken, orBreach, firstBroken, orBroken, atNode, isOneOf, statesNamed, stability, common, obligations, firstFault}
+use Rattle.semantics.specs.Facts.{statesNamed}
+use Rattle.semantics.specs.Checking.{Condition, Breach, Broken, orBreach, firstBroken, orBroken, atNode, stability, common, obligations, firstFault}
 
 -- A list of so many of the n states.
 pub data Named (n : ℕ) : ℕ → List ℕ → Type 0 where
@@ -28,23 +28,6 @@ named-length (state low rest) = ap suc (named-length rest)
 pub named-within : {n m k : ℕ} {states : List ℕ} → n ≤ m → Named n k states → Named m k states
 named-within most nothing = nothing
 named-within most (state low rest) = state (le-trans low most) (named-within most rest)
-
--- No number has more than three states, and those below 31 have none.
-pub few-named : (k : ℕ) → statesNamed k ≤ 3
-few-named k = by (isOneOf (35 ∷ 46 ∷ 51 ∷ 52 ∷ []) k) (isOneOf (31 ∷ 42 ∷ 43 ∷ 53 ∷ 54 ∷ 55 ∷ 56 ∷ 60 ∷ 66 ∷ []) k) (isOneOf (32 ∷ 33 ∷ 57 ∷ 61 ∷ []) k)
-  where
-    by : (one two three : Bool) → cond one 1 (cond two 2 (cond three 3 0)) ≤ 3
-    by true two three = omega arith
-    by false true three = omega arith
-    by false false true = omega arith
-    by false false false = omega arith
-
-pub none-named : (k : ℕ) → k < 31 → statesNamed k ≡ 0
-none-named k low =
-    rw (ne-eqb 35 k (omega arith), ne-eqb 46 k (omega arith), ne-eqb 51 k (omega arith), ne-eqb 52 k (omega arith),
-    ne-eqb 31 k (omega arith), ne-eqb 42 k (omega arith), ne-eqb 43 k (omega arith), ne-eqb 53 k (omega arith), ne-eqb 54 k (omega arith),
-    ne-eqb 55 k (omega arith), ne-eqb 56 k (omega arith), ne-eqb 60 k (omega arith), ne-eqb 66 k (omega arith),
-    ne-eqb 32 k (omega arith), ne-eqb 33 k (omega arith), ne-eqb 57 k (omega arith), ne-eqb 61 k (omega arith))
 
 -- What a search finds, if anything, is such a list.
 abbrev pub Finds : ℕ → ℕ → Search → Type 0

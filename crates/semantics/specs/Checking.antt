@@ -1,7 +1,7 @@
 -- docs/RULES.md, "Order of conditions": the conditions that each node must meet, in their order, and the first fault of a derivation of
 -- a statement, nodes by number, a node's conditions in their order.
 use Prim.Native.Nat.{ℕ, suc, _+_}
-use mathlib.Core.Bool.{Bool, true, false, cond, _||_}
+use mathlib.Core.Bool.{Bool, true}
 use mathlib.Core.List.{List, [], _∷_, _++_}
 use mathlib.Core.Option.{Option, none, some}
 use lib.Dec.{eqb}
@@ -47,17 +47,6 @@ abbrev pub atNode : ℕ → Option Breach → Option Broken
 atNode node none = none
 atNode node (some b) = some (record { number = b .number; states = b .states; node = node })
 
-abbrev pub isOneOf : List ℕ → ℕ → Bool
-isOneOf [] k = false
-isOneOf (j ∷ rest) k = eqb j k || isOneOf rest k
-
--- How many states a broken condition names, by its number: the column "states" of docs/RULES.md.
-abbrev pub statesNamed : ℕ → ℕ
-statesNamed k =
-    cond (isOneOf (35 ∷ 46 ∷ 51 ∷ 52 ∷ []) k) 1
-    (cond (isOneOf (31 ∷ 42 ∷ 43 ∷ 53 ∷ 54 ∷ 55 ∷ 56 ∷ 60 ∷ 66 ∷ []) k) 2
-    (cond (isOneOf (32 ∷ 33 ∷ 57 ∷ 61 ∷ []) k) 3 0))
-
 -- The conditions on a node of each rule, in the order in which they are asked, over its own tables c and those of its children.
 -- 31 to 33 are asked at every node.
 abbrev pub stability : ℕ → Spec → List Condition
@@ -71,9 +60,9 @@ stability n c =
 abbrev pub common : ℕ → Bool → Spec → List Condition
 common n fits c = numbered 30 (must fits) ∷ stability n c
 
--- Assignment and if: 30, then 41 or 45, then 31 to 33.
-abbrev pub commonReading : ℕ → Bool → Condition → Spec → List Condition
-commonReading n fits reads c = numbered 30 (must fits) ∷ reads ∷ stability n c
+-- Assignment and if: 30, then what is asked of the expression that is read, then 31 to 33.
+abbrev pub commonReading : ℕ → Bool → List Condition → Spec → List Condition
+commonReading n fits reads c = numbered 30 (must fits) ∷ (reads ++ stability n c)
 
 -- The children's tables, against those that the rule asks for; the left child's come before the right's. If and while: all four.
 abbrev pub bodyTables : ℕ → Spec → Spec → List Condition
@@ -111,7 +100,7 @@ skipObligations n fits c =
 
 abbrev pub assignmentObligations : Machine → Bool → Spec → ℕ → Expr → List Condition
 assignmentObligations m fits c v e =
-    commonReading (m .states) fits (numbered 41 (c41 m c e)) c
+    commonReading (m .states) fits (numbered 41 (c41 m c e) ∷ []) c
     ++ numbered 42 (c42 m c v e)
     ∷ numbered 43 (c43 m c v e)
     ∷ []
@@ -134,7 +123,7 @@ parallelObligations n fits c l r =
 
 abbrev pub ifObligations : Machine → Bool → Spec → Expr → Spec → List Condition
 ifObligations m fits c e d =
-    commonReading (m .states) fits (numbered 45 (c45 m c e)) c
+    commonReading (m .states) fits (numbered 45 (c45 m c e) ∷ []) c
     ++ bodyTables (m .states) (underTest c (isTrue m e)) d
     ++ numbered 46 (c46 (m .states) c (isFalse m e))
     ∷ []

@@ -8,4 +8,5 @@ pub mod StepNumber
 pub mod Derivations
 pub mod Conditions
 pub mod Checking
+pub mod Facts
 pub mod Promise
