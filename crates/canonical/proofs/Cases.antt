@@ -16,6 +16,8 @@ use Rattle.derivation.specs.Nodes.{onName, namedTable, loopHead, namesHead, rul
 use Rattle.derivation.specs.Reading.{readProof}
 use Rattle.derivation.specs.declared.Node.{Node}
 use Rattle.derivation.specs.NodeTable.{nodeOf}
+use Rattle.pair.specs.Limits.{tooLong}
+use Rattle.pair.specs.Reading.{readPair}
 use Rattle.form.specs.Members.{nodeBy, rename, setMembers, relationMembers, byMembers}
 use Rattle.form.specs.Mentions.{setsOf, relationsOf, inOrder, isIn, placeIn, mentioned, allMentioned, distinct}
 use Rattle.form.specs.Form.{setsIn, relationsIn, numbered, partsOf, fileParts, formOf}
@@ -26,7 +28,7 @@ use Rattle.canonical.specs.Canonical.{Form, form, fault, canonical, turn
 
 -- Opens every definition, for the cases to compute.
 pub written : List ℕ → List ℕ → Form
-unfolding canonical readHandler headAt countRead sizesRead addSize sizeRead wholeStmt stmtAt stmtHead markHead codeHead targetHead
+unfolding canonical readPair tooLong readHandler headAt countRead sizesRead addSize sizeRead wholeStmt stmtAt stmtHead markHead codeHead targetHead
     wholeExpr exprAt exprHead tagHead payloadHead integerHead signed
     readProof tablesAt setsRead relationsRead isCount tablesThere wholeNode nodeAt nodeHead ruleHead namesHead loopHead namedTable onName
     fieldAt isThere bitLength fillAt fillFrom furtherByte fillBits firstSet

@@ -2,154 +2,125 @@
 -- are written alike exactly if their nodes agree in rules and table members; the check gives the same verdict on it; writing it again
 -- changes nothing; and the number for hosts tells the outcome.
 use Prim.Native.Nat.{ℕ, _-_, _^_, _≤_, _<_}
-use mathlib.Core.Bool.{Bool, true, false, cond, _||_}
+use mathlib.Core.Bool.{Bool, true, false, cond}
 use mathlib.Core.List.{List}
 use mathlib.Core.Option.{Option, none, some}
 use mathlib.Core.Path.{_≡_, refl, sym, _∙_, ap}
 use native.Mathlib.Omega.{arith}
-use borrow.Author.Tests.{ltb-false, le-ltb}
+use borrow.Author.Tests.{le-ltb}
 use lib.Dec.{ltb}
 use lib.ListN.{length}
-use Rattle.bits.proofs.Places.{FaultIn, either}
+use Rattle.bits.proofs.Places.{either}
 use Rattle.semantics.specs.Language.{Stmt}
 use Rattle.semantics.specs.States.{product, machineOf}
 use Rattle.semantics.specs.StepNumber.{steps}
 use Rattle.semantics.specs.Derivations.{Derivation}
 use Rattle.semantics.specs.Checking.{Broken}
 use Rattle.handler.specs.Reading.{HandlerRead, handler, refused, readHandler}
-use Rattle.handler.proofs.Places as Handlers
-use Rattle.derivation.specs.Tables.{workWords}
+use Rattle.derivation.specs.Tables.{rowAt, workWords}
 use Rattle.derivation.specs.Reading as Proofs
-use Rattle.derivation.proofs.Places as ProofPlaces
+use Rattle.pair.specs.Limits.{mostProofBytes, tooLong}
+use Rattle.pair.specs.Reading.{Pair, statesOf, PairRead, pair, faulty, long, onHandler, readPair}
+use Rattle.pair.specs.Modes.{rows}
+use Rattle.pair.proofs.Cases.{Holds, Case, case, read-holds, holds-read}
+use Rattle.pair.proofs.Bounds.{mostBits, fault-small}
 use Rattle.checker.specs.Verdicts as Check
-use Rattle.checker.specs.Verdicts.{PairRead, CheckResult, answer}
+use Rattle.checker.specs.Verdicts.{CheckResult, answer}
 use Rattle.report.specs.Code.{indexOf, codeOf, withoutStates, Lossless, decoded}
 use Rattle.report.proofs.Decoding.{decoded-back}
 use Rattle.form.specs.Members.{byMembers}
-use Rattle.form.specs.Form.{setsIn, numbered, formOf}
+use Rattle.form.specs.Form.{setsIn, relationsIn, numbered, formOf}
 use Rattle.form.proofs.Forms.{form-read, form-members, form-length, form-fault, one-form}
-use Rattle.canonical.specs.Canonical.{Form, form, fault, onProof, onHandler, canonical, outcome, asVerdict}
+use Rattle.canonical.specs.Canonical.{Form, form, fault, formIn, canonical, outcome, asVerdict}
 
--- The derivation of two files that are read, each table by its members. Two such are equal exactly if their nodes agree in rules and table
+-- The derivation of a pair, each table by its members. Two such are equal exactly if their nodes agree in rules and table
 -- members (`set-same`, `set-alike`, `relation-same` and `relation-alike` of `form`).
-abbrev pub meaningOf : {hb pb : List ℕ} → PairRead hb pb → Derivation
-meaningOf {hb} {pb} pair = byMembers pb (product (pair .sizes)) (pair .sets) (pair .derivation)
+abbrev pub meaningOf : List ℕ → Pair → Derivation
+meaningOf pb x = byMembers pb (statesOf x) (x .sets) (x .derivation)
 
--- What is known where a form is written: both files are within their length and are read, and the form is that of the derivation.
+-- What is known where a form is written: both files are read, and the form is that of the derivation.
 pub record Formed (hb pb out : List ℕ) : Type 0 where
-  pub handler-length : length hb ≤ 16384
-  pub proof-length : length pb ≤ 16384
-  pub pair : PairRead hb pb
-  pub is-form : out ≡ formOf (product (pair .sizes)) (meaningOf pair)
+  pub held : Pair
+  pub read : readPair hb pb ≡ pair held
+  pub is-form : out ≡ formOf (statesOf held) (meaningOf pb held)
 
 module _ (hb pb : List ℕ) where
-  -- What holds of each way out holds of the result.
-  module _ (P : Form → Type 0) (long : P (fault 2 0))
-      (bad-handler : length hb ≤ 16384 → (k place : ℕ) → readHandler hb ≡ refused k place → P (fault k place))
-      (bad-proof : length pb ≤ 16384 → (n k place : ℕ) → Proofs.readProof pb n ≡ Proofs.refused k place → P (fault k place))
-      (good : (out : List ℕ) → Formed hb pb out → P (form out)) where
-    by-proof : length hb ≤ 16384 → length pb ≤ 16384 → (sizes : List ℕ) (at : ℕ) (S : Stmt) → readHandler hb ≡ handler sizes at S
-        → (r : Proofs.ProofRead) → Proofs.readProof pb (product sizes) ≡ r → P (onProof pb (product sizes) r)
-    by-proof short short′ sizes at S h (Proofs.refused k place) e = bad-proof short′ (product sizes) k place e
-    by-proof short short′ sizes at S h (Proofs.proof sets relations root d) e =
-        good _ (record {
-          handler-length = short;
-          proof-length = short′;
-          pair = record {
-            sizes = sizes;
-            statement-bit = at;
-            statement = S;
-            handler-read = h;
-            sets = sets;
-            relations = relations;
-            root-bit = root;
-            derivation = d;
-            proof-read = e;
-          };
-          is-form = refl;
-        })
-
-    by-handler : length hb ≤ 16384 → length pb ≤ 16384 → (r : HandlerRead) → readHandler hb ≡ r → P (onHandler pb r)
-    by-handler short short′ (refused k place) h = bad-handler short k place h
-    by-handler short short′ (handler sizes at S) h = by-proof short short′ sizes at S h (Proofs.readProof pb (product sizes)) refl
-
-    by-stages : P (canonical hb pb)
-    unfolding canonical
-    by-stages = by (ltb 16384 (length hb)) (ltb 16384 (length pb)) refl refl
-      where
-        by : (a b : Bool) → ltb 16384 (length hb) ≡ a → ltb 16384 (length pb) ≡ b
-            → P (cond (a || b) (fault 2 0) (onHandler pb (readHandler hb)))
-        by true b s t = long
-        by false true s t = long
-        by false false s t = by-handler (ltb-false 16384 (length hb) s) (ltb-false 16384 (length pb) t) (readHandler hb) refl
-
-  abbrev FormedIn : Form → Type 0
-  FormedIn (form out) = Formed hb pb out
-  FormedIn (fault k place) = Unit {0}
+  formed-in : (r : PairRead) → readPair hb pb ≡ r → (out : List ℕ) → formIn pb r ≡ form out → Formed hb pb out
+  formed-in long is out e = absurd (let z : _≡_ {A = ℕ} 0 1 = cc in omega arith)
+  formed-in (faulty k place) is out e = absurd (let z : _≡_ {A = ℕ} 0 1 = cc in omega arith)
+  formed-in (pair x) is out e = record { held = x; read = is; is-form = sym (form-inj _ _ e) }
+    where
+      form-inj : (a b : List ℕ) → form a ≡ form b → a ≡ b
+      form-inj a b e = cc
 
   pub formed : (out : List ℕ) → canonical hb pb ≡ form out → Formed hb pb out
-  formed out e = rw e at (by-stages FormedIn tt (λ short k place h. tt) (λ short n k place h. tt) (λ out f. f))
+  unfolding canonical
+  formed out e = formed-in (readPair hb pb) refl out e
 
   -- And conversely.
   pub form-of : (out : List ℕ) → Formed hb pb out → canonical hb pb ≡ form out
   unfolding canonical
-  form-of out f =
-      let short = le-ltb 16384 (length hb) (f .handler-length) in
-      let short′ = le-ltb 16384 (length pb) (f .proof-length) in
-      rw (short, short′, f .pair .handler-read, f .pair .proof-read) (ap form (sym (f .is-form)))
+  form-of out f = rw (f .read) (ap form (sym (f .is-form)))
 
--- The N of a handler file.
-one-N : (hb : List ℕ) {sizes sizes′ : List ℕ} {at at′ : ℕ} {S S′ : Stmt} → readHandler hb ≡ handler sizes at S
-    → readHandler hb ≡ handler sizes′ at′ S′ → product sizes ≡ product sizes′
-one-N hb {sizes = sizes} {sizes′ = sizes′} e e′ = let same : sizes ≡ sizes′ = cc in ap product same
+  -- Both files of a pair whose form is written.
+  pub files : (out : List ℕ) (f : Formed hb pb out) → Holds hb pb (f .held)
+  files out f = read-holds hb pb (f .held) (f .read)
 
 -- (1) The file that is written is well formed over the same handler file: it is read without fault, with the same rules over tables with
 -- the same members, and it is no longer than the file that was given.
-pub record WellFormed (hb pb out : List ℕ) (before : PairRead hb pb) : Type 0 where
-  pub after : PairRead hb out
-  pub same-meaning : meaningOf after ≡ meaningOf before
+pub record WellFormed (hb pb out : List ℕ) (before : Pair) : Type 0 where
+  pub after : Pair
+  pub read : readPair hb out ≡ pair after
+  pub same-states : statesOf after ≡ statesOf before
+  pub same-meaning : meaningOf out after ≡ meaningOf pb before
   pub no-longer : length out ≤ length pb
 
-pub well-formed : (hb pb out : List ℕ) (f : Formed hb pb out) → WellFormed hb pb out (f .pair)
+pub well-formed : (hb pb out : List ℕ) (f : Formed hb pb out) → WellFormed hb pb out (f .held)
 well-formed hb pb out f =
-    let n = product (f .pair .sizes) in
-    let x = meaningOf (f .pair) in
-    let read = f .pair .proof-read in
+    let n = statesOf (f .held) in
+    let x = meaningOf pb (f .held) in
+    let h = files hb pb out f in
+    let shorter : length out ≤ length pb = rw (f .is-form) (form-length pb n _ _ _ _ (h .proof-read)) in
+    let after : Pair = record {
+      sizes = f .held .sizes;
+      statement-bit = f .held .statement-bit;
+      statement = f .held .statement;
+      sets = length (setsIn x);
+      relations = length (relationsIn x);
+      root-bit = rowAt n (length (setsIn x)) (length (relationsIn x)) 0;
+      derivation = numbered x;
+    } in
     record {
-      after = record {
-        sizes = f .pair .sizes;
-        statement-bit = f .pair .statement-bit;
-        statement = f .pair .statement;
-        handler-read = f .pair .handler-read;
-        sets = length (setsIn x);
-        relations = _;
-        root-bit = _;
-        derivation = numbered x;
-        proof-read = ap (λ file. Proofs.readProof file n) (f .is-form) ∙ form-read pb n _ _ _ _ read;
-      };
-      same-meaning = ap (λ file. byMembers file n (length (setsIn x)) (numbered x)) (f .is-form) ∙ form-members pb n _ _ _ _ read;
-      no-longer = rw (f .is-form) (form-length pb n _ _ _ _ read);
+      after = after;
+      read = holds-read hb out after (record {
+        short = record { handler-length = h .short .handler-length; proof-length = omega (arith, h .short .proof-length) };
+        handler-read = h .handler-read;
+        proof-read = ap (λ file. Proofs.readProof file n) (f .is-form) ∙ form-read pb n _ _ _ _ (h .proof-read);
+      });
+      same-states = refl;
+      same-meaning = ap (λ file. byMembers file n (length (setsIn x)) (numbered x)) (f .is-form) ∙ form-members pb n _ _ _ _ (h .proof-read);
+      no-longer = shorter;
     }
 
--- So it has at most 16,384 bytes.
-pub form-short : (hb pb out : List ℕ) (f : Formed hb pb out) → length out ≤ 16384
-form-short hb pb out f = omega (arith, f .proof-length, well-formed hb pb out f .no-longer)
+-- So it is within the length of a proof file.
+pub form-short : (hb pb out : List ℕ) (f : Formed hb pb out) → length out ≤ mostProofBytes
+form-short hb pb out f = omega (arith, files hb pb out f .short .proof-length, well-formed hb pb out f .no-longer)
 
 -- (2) Over the same N, two files that are written are equal exactly if the nodes of the files that were given agree in rules and table
 -- members.
 module _ (hb pb out : List ℕ) (f : Formed hb pb out) (hb′ pb′ out′ : List ℕ) (f′ : Formed hb′ pb′ out′)
-    (same-N : product (f .pair .sizes) ≡ product (f′ .pair .sizes)) where
+    (same-N : statesOf (f .held) ≡ statesOf (f′ .held)) where
   -- The second proof file over the N of the first handler file.
-  form-here : out′ ≡ formOf (product (f .pair .sizes)) (byMembers pb′ (product (f .pair .sizes)) (f′ .pair .sets) (f′ .pair .derivation))
+  form-here : out′ ≡ formOf (statesOf (f .held)) (byMembers pb′ (statesOf (f .held)) (f′ .held .sets) (f′ .held .derivation))
   form-here = rw same-N (f′ .is-form)
 
-  pub one-file : out ≡ out′ → meaningOf (f .pair) ≡ meaningOf (f′ .pair)
+  pub one-file : out ≡ out′ → meaningOf pb (f .held) ≡ meaningOf pb′ (f′ .held)
   one-file same =
-      one-form _ pb _ _ _ _ (f .pair .proof-read) pb′ _ _ _ _ (ap (Proofs.readProof pb′) same-N ∙ f′ .pair .proof-read)
+      one-form _ pb _ _ _ _ (files hb pb out f .proof-read) pb′ _ _ _ _ (ap (Proofs.readProof pb′) same-N ∙ files hb′ pb′ out′ f′ .proof-read)
       (sym (f .is-form) ∙ same ∙ form-here)
-      ∙ ap (λ n. byMembers pb′ n (f′ .pair .sets) (f′ .pair .derivation)) same-N
+      ∙ ap (λ n. byMembers pb′ n (f′ .held .sets) (f′ .held .derivation)) same-N
 
-  pub one-file-back : meaningOf (f .pair) ≡ meaningOf (f′ .pair) → out ≡ out′
+  pub one-file-back : meaningOf pb (f .held) ≡ meaningOf pb′ (f′ .held) → out ≡ out′
   one-file-back same = f .is-form ∙ (λ i. formOf (same-N i) (same i)) ∙ sym (f′ .is-form)
 
 -- The verdict of a choice is known from the verdicts of both.
@@ -167,68 +138,80 @@ same-fault a b e k words words′ = ap (λ o. Check.onFault o k words .verdict) 
     by none = either-verdict (ltb (2 ^ 32 - 1) k) _ _ _ _ refl refl
     by (some b) = refl
 
--- The check of a proof file and of its form, over variables of these sizes.
-module _ (pb out : List ℕ) (sizes : List ℕ) (sets relations root : ℕ) (d : Derivation)
-    (e : Proofs.readProof pb (product sizes) ≡ Proofs.proof sets relations root d)
-    (is-form : out ≡ formOf (product sizes) (byMembers pb (product sizes) sets d)) where
-  proof-verdict : (S : Stmt) → Check.onProof out sizes S (Proofs.readProof out (product sizes)) .verdict
-      ≡ Check.onProof pb sizes S (Proofs.readProof pb (product sizes)) .verdict
-  proof-verdict S =
-      rw (is-form, form-read pb (product sizes) sets relations root d e, e)
-      (same-fault _ _ (form-fault (machineOf sizes) pb sets relations root d e S 0) (steps (product sizes) S) _ _)
-
 -- (3) The check gives the same verdict on the file that is written as on the file that was given: accepted or not, with the same step
 -- number, number, place and states; so with any number of work words, and with any handler file that is refused or has the same N.
 module _ (hb pb out : List ℕ) (f : Formed hb pb out) (hb′ : List ℕ)
-    (same-N : (sizes : List ℕ) (at : ℕ) (S : Stmt) → readHandler hb′ ≡ handler sizes at S → product sizes ≡ product (f .pair .sizes)) where
-  handler-verdict : (r : HandlerRead) → readHandler hb′ ≡ r → Check.onHandler out r .verdict ≡ Check.onHandler pb r .verdict
+    (same-N : (sizes : List ℕ) (at : ℕ) (S : Stmt) → readHandler hb′ ≡ handler sizes at S → product sizes ≡ statesOf (f .held)) where
+  -- The check of both files, by what reading the handler file gives.
+  handler-verdict : (r : HandlerRead) → readHandler hb′ ≡ r
+      → Check.onPair out rows (onHandler out r) .verdict ≡ Check.onPair pb rows (onHandler pb r) .verdict
   handler-verdict (refused k place) e = refl
   handler-verdict (handler sizes at S) e =
+      let x = f .held in
       let N = same-N sizes at S e in
-      proof-verdict pb out sizes _ _ _ (f .pair .derivation) (ap (Proofs.readProof pb) N ∙ f .pair .proof-read) (rw N (f .is-form)) S
+      let read : Proofs.readProof pb (product sizes) ≡ Proofs.proof (x .sets) (x .relations) (x .root-bit) (x .derivation) =
+      ap (Proofs.readProof pb) N ∙ files hb pb out f .proof-read in
+      let is : out ≡ formOf (product sizes) (byMembers pb (product sizes) (x .sets) (x .derivation)) = rw N (f .is-form) in
+      rw (is, form-read pb (product sizes) _ _ _ _ read, read)
+      (same-fault _ _ (form-fault (machineOf sizes) pb _ _ _ _ read S 0) (steps (product sizes) S) _ _)
 
-  pub same-verdict : (words : ℕ) → answer hb′ out words .verdict ≡ answer hb′ pb words .verdict
+  -- Neither proof file is too long.
+  as-long : tooLong hb′ out ≡ tooLong hb′ pb
+  unfolding tooLong
+  as-long =
+      let short = files hb pb out f .short .proof-length in
+      let short′ = form-short hb pb out f in
+      rw (le-ltb mostProofBytes (length pb), le-ltb mostProofBytes (length out))
+
+  read-verdict : Check.onPair out rows (readPair hb′ out) .verdict ≡ Check.onPair pb rows (readPair hb′ pb) .verdict
+  unfolding readPair
+  read-verdict = rw as-long (by (tooLong hb′ pb))
+    where
+      by : (b : Bool) → Check.onPair out rows (cond b long (onHandler out (readHandler hb′))) .verdict
+          ≡ Check.onPair pb rows (cond b long (onHandler pb (readHandler hb′))) .verdict
+      by true = refl
+      by false = handler-verdict (readHandler hb′) refl
+
+  pub same-verdict : (words : ℕ) → answer hb′ out rows words .verdict ≡ answer hb′ pb rows words .verdict
   unfolding answer
-  same-verdict words =
-      rw (le-ltb 16384 (length pb) (f .proof-length), le-ltb 16384 (length out) (form-short hb pb out f))
-      (either-verdict (ltb words workWords) _ _ _ _ refl
-      (either-verdict (ltb 16384 (length hb′) || false) _ _ _ _ refl (handler-verdict (readHandler hb′) refl)))
+  same-verdict words = either-verdict (ltb words workWords) _ _ _ _ refl read-verdict
 
 -- With the handler file over which the form was written.
 pub own-verdict : (hb pb out : List ℕ) → canonical hb pb ≡ form out
-    → (words : ℕ) → answer hb out words .verdict ≡ answer hb pb words .verdict
+    → (words : ℕ) → answer hb out rows words .verdict ≡ answer hb pb rows words .verdict
 own-verdict hb pb out e =
-    let f = formed hb pb out e in same-verdict hb pb out f hb (λ sizes at S h. one-N hb h (f .pair .handler-read))
+    let f = formed hb pb out e in same-verdict hb pb out f hb (λ sizes at S h. one-N hb h (files hb pb out f .handler-read))
+  where
+    -- The N of a handler file.
+    one-N : (hb : List ℕ) {sizes sizes′ : List ℕ} {at at′ : ℕ} {S S′ : Stmt} → readHandler hb ≡ handler sizes at S
+        → readHandler hb ≡ handler sizes′ at′ S′ → product sizes ≡ product sizes′
+    one-N hb {sizes = sizes} {sizes′ = sizes′} e e′ = let same : sizes ≡ sizes′ = cc in ap product same
 
 -- (4) Writing the file a second time changes nothing.
 pub written-again : (hb pb out : List ℕ) → canonical hb pb ≡ form out → canonical hb out ≡ form out
 written-again hb pb out e =
     let f = formed hb pb out e in
     let w = well-formed hb pb out f in
-    let N = one-N hb (w .after .handler-read) (f .pair .handler-read) in
     form-of hb out out (record {
-      handler-length = f .handler-length;
-      proof-length = form-short hb pb out f;
-      pair = w .after;
-      is-form = f .is-form ∙ sym (λ i. formOf (N i) (w .same-meaning i));
+      held = w .after;
+      read = w .read;
+      is-form = f .is-form ∙ sym (λ i. formOf (w .same-states i) (w .same-meaning i));
     })
 
--- The number for hosts tells the outcome, whatever the files and the room are: the length of a file that is written is at most 16,384, and
+-- The number for hosts tells the outcome, whatever the files and the room are: the length of a file that is written is within its limit, and
 -- a refusal's number and place are small.
 abbrev Small : Form → Type 0
-Small (form out) = length out ≤ 16384
-Small (fault k place) = (0 < k) × (k ≤ 25) × (place ≤ 131072)
+Small (form out) = length out ≤ mostProofBytes
+Small (fault k place) = (0 < k) × (k ≤ 25) × (place ≤ mostBits)
+
+in-small : (hb pb : List ℕ) (r : PairRead) → readPair hb pb ≡ r → Case hb pb r → Small (formIn pb r)
+in-small hb pb long is c = omega arith
+in-small hb pb (faulty k place) is c = omega (arith, fault-small hb pb k place c)
+in-small hb pb (pair x) is c = form-short hb pb _ (record { held = x; read = is; is-form = refl })
 
 all-small : (hb pb : List ℕ) → Small (canonical hb pb)
-all-small hb pb =
-    by-stages hb pb Small (omega arith)
-    (λ short k place h. bit-small hb 10 18 k place short (omega arith) (omega arith) (Handlers.fault-inside hb k place h))
-    (λ short n k place h. bit-small pb 20 25 k place short (omega arith) (omega arith) (ProofPlaces.fault-inside pb n k place h))
-    (λ out f. form-short hb pb out f)
-  where
-    bit-small : (bytes : List ℕ) (least most k place : ℕ) → length bytes ≤ 16384 → 0 < least → most ≤ 25 → FaultIn bytes least most k place
-        → Small (fault k place)
-    bit-small bytes least most k place short low high f = omega (arith, f .from-least, f .to-most, f .inside)
+unfolding canonical
+all-small hb pb = in-small hb pb (readPair hb pb) refl (case hb pb)
 
 small-lossless : (r : Form) (room : ℕ) → Small r → Lossless (asVerdict (outcome r room))
 unfolding outcome indexOf

@@ -1,13 +1,11 @@
 -- docs/FORMAT.md, "One form": what is written, and what is turned away: 2, 10 to 18 of the handler file, 20 to 25 of the proof file, then
 -- 3, the output buffer is too short.
 use Prim.Native.Nat.{ℕ}
-use mathlib.Core.Bool.{cond, _||_}
+use mathlib.Core.Bool.{cond}
 use mathlib.Core.List.{List, _++_}
 use lib.Dec.{ltb}
 use lib.ListN.{length, drop}
-use Rattle.semantics.specs.States.{product}
-use Rattle.handler.specs.Reading.{HandlerRead, handler, refused, readHandler}
-use Rattle.derivation.specs.Reading as Proofs
+use Rattle.pair.specs.Reading.{statesOf, PairRead, pair, faulty, long, readPair}
 use Rattle.search.specs.declared.Named.the-variants.{Nothing}
 use Rattle.checker.specs.declared.Place.the-variants.{Bit}
 use Rattle.checker.specs.declared.Verdict.{Verdict}
@@ -22,18 +20,15 @@ pub data Form : Type 0 where
   form : List ℕ → Form
   fault : ℕ → ℕ → Form
 
-module _ (pb : List ℕ) where
-  abbrev pub onProof : ℕ → Proofs.ProofRead → Form
-  onProof n (Proofs.refused k place) = fault k place
-  onProof n (Proofs.proof sets relations root d) = form (formOf n (byMembers pb n sets d))
-
-  abbrev pub onHandler : HandlerRead → Form
-  onHandler (refused k place) = fault k place
-  onHandler (handler sizes at S) = onProof (product sizes) (Proofs.readProof pb (product sizes))
+-- The form of a pair: that of its derivation, each table by its members.
+abbrev pub formIn : List ℕ → PairRead → Form
+formIn pb long = fault 2 0
+formIn pb (faulty k place) = fault k place
+formIn pb (pair x) = form (formOf (statesOf x) (byMembers pb (statesOf x) (x .sets) (x .derivation)))
 
 -- The form of a proof file over the N of a handler file.
 unfoldable pub canonical : List ℕ → List ℕ → Form
-canonical hb pb = cond (ltb 16384 (length hb) || ltb 16384 (length pb)) (fault 2 0) (onHandler pb (readHandler hb))
+canonical hb pb = formIn pb (readPair hb pb)
 
 -- The answer to a form where there is so much room: the length that was written, or the fault; 3 if the room is too short.
 abbrev pub turnedAway : ℕ → ℕ → Outcome

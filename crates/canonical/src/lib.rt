@@ -1,24 +1,23 @@
 // The one form of a proof file (docs/FORMAT.md, "One form"): tables numbered by first mention, equal ones merged, unmentioned ones dropped.
 use checker::Fault;
-use checker::MOST_BYTES;
 use checker::Place;
 use checker::Verdict;
 use derivation::MOST_TABLES;
-use derivation::ProofFound;
 use derivation::ProofHead;
-use derivation::reading::read_proof;
-use handler::HandlerFound;
-use handler::reading::read_handler;
 use mentions::number;
+use pair::MOST_PROOF_BYTES;
+use pair::PairFound;
+use pair::read_pair;
 use search::Named;
 use writer::clear;
 use writing::form_bits;
 use writing::write_fields;
 ghost use mathlib.Core.Path.{_≡_};
 ghost use lib.ListN.{length};
-ghost use Rattle.derivation.specs.Reading.{readProof};
 ghost use Rattle.report.specs.Code.{codeOf, decoded};
-ghost use Rattle.canonical.specs.Canonical.{onProof, canonical, turnedAway, outcome, outAfter, asVerdict};
+ghost use Rattle.form.specs.Members.{byMembers};
+ghost use Rattle.form.specs.Form.{formOf};
+ghost use Rattle.canonical.specs.Canonical.{form, canonical, turnedAway, outcome, outAfter, asVerdict};
 ghost use Rattle.canonical.specs.Refinement.{Read};
 
 mod mentions;
@@ -27,7 +26,7 @@ mod tables;
 mod writing;
 
 // No form is longer (`form-short`): a buffer of so many bytes is never too short.
-pub const MOST_FORM_BYTES: usize = MOST_BYTES;
+pub const MOST_FORM_BYTES: usize = MOST_PROOF_BYTES;
 
 // The numbers that the form itself gives: a file is over its length, and the output buffer is too short (docs/FORMAT.md, "One form").
 const LONG_FILE: u32 = 2;
@@ -85,8 +84,10 @@ fn refused(number: u32, place: usize) -> Outcome
 // Writes the form of a proof file that was read, if there is room for it. Its length is known before the first byte is written.
 fn write_read(proof: &[u8], n: usize, head: ProofHead, nodes: &[u64], out: &mut [u8]) -> Outcome
     requires { ⌜ Read (now proof) n head (now nodes) ⌝ }
-    ensures answer { λ r. ⌜ r ≡ outcome (onProof (now (proof .entry)) n (readProof (now (proof .entry)) n)) (length (now (out .entry))) ⌝ }
-    ensures bytes { λ _. ⌜ now (out .exit) ≡ outAfter (onProof (now (proof .entry)) n (readProof (now (proof .entry)) n)) (now (out .entry)) ⌝ }
+    ensures answer { λ r. ⌜ ((x : Read (now (proof .entry)) n head (now (nodes .entry)))
+        → r ≡ outcome (form (formOf n (byMembers (now (proof .entry)) n (head .sets) (x .d)))) (length (now (out .entry)))) ⌝ }
+    ensures bytes { λ _. ⌜ ((x : Read (now (proof .entry)) n head (now (nodes .entry)))
+        → now (out .exit) ≡ outAfter (form (formOf n (byMembers (now (proof .entry)) n (head .sets) (x .d)))) (now (out .entry))) ⌝ }
 {
     let count = head.nodes as usize;
     let m = number(proof, n, head, nodes);
@@ -99,40 +100,20 @@ fn write_read(proof: &[u8], n: usize, head: ProofHead, nodes: &[u64], out: &mut 
     Outcome::Written(length as u32)
 }
 
-// Writes the form of a proof file over n states.
-fn write_over(proof: &[u8], n: u32, out: &mut [u8]) -> Outcome
-    ensures answer { λ r. ⌜ r ≡ outcome (onProof (now (proof .entry)) n (readProof (now (proof .entry)) n)) (length (now (out .entry))) ⌝ }
-    ensures bytes { λ _. ⌜ now (out .exit) ≡ outAfter (onProof (now (proof .entry)) n (readProof (now (proof .entry)) n)) (now (out .entry)) ⌝ }
-{
-    let file = read_proof(proof, n);
-    let found = file.found;
-    match found {
-        ProofFound::Fault(number, place) => refused(number, place),
-        ProofFound::Proof(head) => {
-            let nodes = file.nodes;
-            write_read(proof, n as usize, head, &nodes, out)
-        }
-    }
-}
-
 // Writes the one form of a proof file over the N of a handler file, and returns its length, or the fault for which nothing is written.
 pub fn write_form(handler: &[u8], proof: &[u8], out: &mut [u8]) -> Outcome
     ensures answer { λ r. ⌜ r ≡ outcome (canonical (now (handler .entry)) (now (proof .entry))) (length (now (out .entry))) ⌝ }
     ensures bytes { λ _. ⌜ now (out .exit) ≡ outAfter (canonical (now (handler .entry)) (now (proof .entry))) (now (out .entry)) ⌝ }
 {
-    if handler.len() > MOST_BYTES {
-        return refused(LONG_FILE, 0);
-    }
-    if proof.len() > MOST_BYTES {
-        return refused(LONG_FILE, 0);
-    }
-    let file = read_handler(handler);
+    let file = read_pair(handler, proof);
     let found = file.found;
     match found {
-        HandlerFound::Fault(number, place) => refused(number, place),
-        HandlerFound::Handler(_summary) => {
+        PairFound::TooLong => refused(LONG_FILE, 0),
+        PairFound::Fault(number, place) => refused(number, place),
+        PairFound::Pair(read) => {
             let head = file.head;
-            write_over(proof, head.states, out)
+            let nodes = file.nodes;
+            write_read(proof, head.states as usize, read.proof, &nodes, out)
         }
     }
 }

@@ -1,6 +1,6 @@
 -- Every verdict is small, whatever the files are: a refusal's number is 1 to 80, its bit is at most the number of bits of the longest
 -- file, and its node is below 127. So a verdict can be sent as one number of 64 bits.
-use Prim.Native.Nat.{ℕ, _+_, _-_, _*_, _^_, _≤_, _<_, max}
+use Prim.Native.Nat.{ℕ, _+_, _-_, _^_, _≤_, _<_}
 use mathlib.Core.Bool.{Bool, true, false, cond}
 use mathlib.Core.List.{List}
 use mathlib.Core.Option.{Option, none, some}
@@ -8,30 +8,22 @@ use mathlib.Core.Path.{_≡_, refl}
 use native.Mathlib.Omega.{arith}
 use borrow.Author.Tests.{ltb-false}
 use lib.Dec.{ltb}
-use lib.ListN.{length}
-use Rattle.bits.proofs.Places.{FaultIn, either}
-use Rattle.semantics.specs.States.{product}
+use Rattle.bits.proofs.Places.{either}
 use Rattle.semantics.specs.Derivations.{nodes}
 use Rattle.semantics.specs.Checking.{Broken, firstFault}
 use Rattle.semantics.proofs.Numbers as Numbers
-use Rattle.handler.proofs.Places as Handlers
 use Rattle.derivation.specs.Tables.{workWords}
 use Rattle.derivation.proofs.Files.{read-known}
-use Rattle.derivation.proofs.Places as ProofPlaces
 use Rattle.pair.specs.declared.Mode.{Mode}
-use Rattle.pair.specs.Limits.{mostHandlerBytes, mostProofBytes}
 use Rattle.pair.specs.Reading.{statesOf, stepsOf, PairRead, pair, faulty, long, readPair}
 use Rattle.pair.specs.Modes.{tablesIn, tableWords}
-use Rattle.pair.proofs.Cases.{Case, is-long, handler-fault, proof-fault, holds, case}
+use Rattle.pair.proofs.Cases.{Case, is-long, holds, case}
+use Rattle.pair.proofs.Bounds.{mostBits, fault-small}
 use Rattle.checker.specs.declared.Place.{Place}
 use Rattle.checker.specs.declared.Place.the-variants.{Bit, Node}
 use Rattle.checker.specs.declared.Verdict.{Verdict}
 use Rattle.checker.specs.declared.Verdict.the-variants.{Accepted, Refused}
 use Rattle.checker.specs.Verdicts.{refusedAt, CheckResult, cleared, onSteps, onFault, onPair, answer}
-
--- The bits of the longest file.
-abbrev pub mostBits : ℕ
-mostBits = 8 * max mostHandlerBytes mostProofBytes
 
 abbrev pub PlaceBounded : Place → Type 0
 PlaceBounded (Bit i) = i ≤ mostBits
@@ -56,18 +48,10 @@ unfolding Numbers.FaultIn
 fault-small past few none p k words = steps-small k words
 fault-small past few (some b) p k words = omega arith
 
--- A fault of a file that is not too long.
-bit-small : (bytes : List ℕ) (bound : ℕ) → length bytes ≤ bound → 8 * bound ≤ mostBits → (least most k place : ℕ) → 1 ≤ least → most ≤ 80
-    → FaultIn bytes least most k place → Bounded (refusedAt k (Bit place))
-bit-small bytes bound short bits least most k place low high f = omega (arith, f .from-least, f .to-most, f .inside)
-
 module _ (hb pb : List ℕ) (mode : Mode) where
   by-case : (r : PairRead) → Case hb pb r → Small (onPair pb mode r)
   by-case long (is-long e) = omega arith
-  by-case (faulty k place) (handler-fault s h) =
-      bit-small hb mostHandlerBytes (s .handler-length) (omega arith) 10 18 k place (omega arith) (omega arith) (Handlers.fault-inside hb k place h)
-  by-case (faulty k place) (proof-fault s sizes at S h p) =
-      bit-small pb mostProofBytes (s .proof-length) (omega arith) 20 25 k place (omega arith) (omega arith) (ProofPlaces.fault-inside pb (product sizes) k place p)
+  by-case (faulty k place) c = omega (arith, fault-small hb pb k place c)
   by-case (pair x) (holds h) =
       let t = tablesIn pb mode x in
       let few = read-known pb (statesOf x) (x .sets) (x .relations) (x .root-bit) (x .derivation) (h .proof-read) .nodes-most in

@@ -9,19 +9,19 @@ use native.Mathlib.Omega.{arith}
 use lib.Dec.{ltb}
 use Rattle.bits.proofs.Places.{either}
 use Rattle.states.specs.Sets.{capacity}
-use Rattle.semantics.specs.States.{product}
-use Rattle.semantics.specs.Checking.{Broken, statesNamed, firstFault}
+use Rattle.semantics.specs.Checking.{Broken, firstFault}
+use Rattle.semantics.specs.Facts.{statesNamed}
+use Rattle.semantics.proofs.Facts.{few-named, none-named}
 use Rattle.semantics.proofs.Storing.{store-read}
-use Rattle.semantics.proofs.Naming.{Named, nothing, named-length, named-within, few-named, none-named, FaultNames, fault-names}
+use Rattle.semantics.proofs.Naming.{Named, nothing, named-length, named-within, FaultNames, fault-names}
 use Rattle.handler.proofs.Heads.{head-read}
 use Rattle.handler.proofs.Handlers.{known-handler}
-use Rattle.handler.proofs.Places as Handlers
 use Rattle.derivation.specs.Tables.{workWords}
-use Rattle.derivation.proofs.Places as ProofPlaces
 use Rattle.pair.specs.declared.Mode.{Mode}
 use Rattle.pair.specs.Reading.{Pair, statesOf, stepsOf, PairRead, pair, faulty, long, readPair}
 use Rattle.pair.specs.Modes.{tablesIn, tableWords}
-use Rattle.pair.proofs.Cases.{Case, is-long, handler-fault, proof-fault, holds, case}
+use Rattle.pair.proofs.Cases.{Case, is-long, holds, case}
+use Rattle.pair.proofs.Bounds.{fault-small}
 use Rattle.search.specs.Named.{listed, naming}
 use Rattle.search.proofs.Breaches.{listed-naming}
 use Rattle.checker.specs.declared.Place.{Place}
@@ -59,10 +59,7 @@ module _ (hb pb : List ℕ) (mode : Mode) where
 
   by-case : (r : PairRead) → Case hb pb r → NamesStates (onPair pb mode r .verdict)
   by-case long (is-long e) = no-states 2 (Bit 0) refl
-  by-case (faulty k place) (handler-fault s h) =
-      no-states k (Bit place) (none-named k (omega (arith, Handlers.fault-inside hb k place h .to-most)))
-  by-case (faulty k place) (proof-fault s sizes at S h p) =
-      no-states k (Bit place) (none-named k (omega (arith, ProofPlaces.fault-inside pb (product sizes) k place p .to-most)))
+  by-case (faulty k place) c = no-states k (Bit place) (none-named k (omega (arith, fault-small hb pb k place c .most)))
   by-case (pair x) (holds h) =
       let t = tablesIn pb mode x in
       let most = head-read hb (x .sizes) (x .statement-bit) (known-handler hb (x .sizes) (x .statement-bit) (x .statement) (h .handler-read) .head) .most in

@@ -57,7 +57,7 @@ returns : tie.Need-returns
 returns c =
     let start = c .before .before .before .before .before .before .before .before in
     let f = c .before .before in
-    let answer = no-room _ _ _ _ _ (start .pre .d) (start .pre .read) (start .args .out .now) _
+    let answer = no-room _ (start .args .out .now) _
     (length-is _ _ _ _ _ (start .pre .d) (start .pre .read) _ (numbers (f .before)) _ (bits f)) (c .before .if1 .taken) in
     (c .refused .ensures ∙ answer .0, answer .1)
 
