@@ -11,6 +11,8 @@ use Rattle.handler.specs.Reading.{readHandler}
 use Rattle.derivation.specs.Tables.{rowAt, tablesThere, isCount, relationsRead, setsRead, tablesAt}
 use Rattle.derivation.specs.Nodes.{onName, namedTable, loopHead, namesHead, ruleHead, nodeHead, nodeAt, wholeNode}
 use Rattle.derivation.specs.Reading.{readProof}
+use Rattle.pair.specs.Limits.{tooLong}
+use Rattle.pair.specs.Reading.{readPair}
 use Rattle.checker.specs.declared.Place.the-variants.{Bit, Node}
 use Rattle.checker.specs.declared.Verdict.the-variants.{Accepted}
 use Rattle.checker.specs.Verdicts.{refusedAt}
@@ -54,5 +56,5 @@ roots =
     ∷ []
 
 pub some-roots : roots ≡ (2 + 2 ^ 24 * 1 + 2 ^ 32 * 2) ∷ (2 + 2 ^ 32 * 2) ∷ 0 ∷ 0 ∷ []
-unfolding bitLength bitAt bitsAt isThere fieldAt firstSet fillBits furtherByte fillFrom fillAt sizeRead addSize sizesRead countRead headAt signed integerHead payloadHead tagHead exprHead exprAt wholeExpr targetHead codeHead markHead stmtHead stmtAt wholeStmt readHandler rowAt tablesThere isCount relationsRead setsRead tablesAt onName namedTable loopHead namesHead ruleHead nodeHead nodeAt wholeNode readProof rootOf
+unfolding bitLength bitAt bitsAt isThere fieldAt firstSet fillBits furtherByte fillFrom fillAt sizeRead addSize sizesRead countRead headAt signed integerHead payloadHead tagHead exprHead exprAt wholeExpr targetHead codeHead markHead stmtHead stmtAt wholeStmt readHandler rowAt tablesThere isCount relationsRead setsRead tablesAt onName namedTable loopHead namesHead ruleHead nodeHead nodeAt wholeNode readProof tooLong readPair rootOf
 some-roots = refl

@@ -10,6 +10,7 @@ use borrow.Author.Tests.{lt-ltb, le-ltb}
 use Rattle.states.specs.Sets.{capacity}
 use Rattle.semantics.specs.Checking.{statesNamed}
 use Rattle.semantics.proofs.Naming.{Named, nothing, state, few-named}
+use Rattle.pair.specs.declared.Mode.{Mode}
 use Rattle.checker.specs.Verdicts.{refusedAt, answer, AcceptedIsSound}
 use Rattle.checker.specs.declared.Place.{Place}
 use Rattle.checker.specs.declared.Place.the-variants.{Bit, Node}
@@ -51,15 +52,16 @@ pub lossless : (v : Verdict) → Bounded v → Lossless v
 lossless (Accepted n) h = h
 lossless (Refused f) h = (h .0, omega arith, place-small (f .place) (h .2))
 
--- The code of every verdict of the check determines it but for the states, whatever the files are.
-pub answer-decoded : (hb pb : List ℕ) (words : ℕ) → decoded (codeOf (answer hb pb words .verdict)) ≡ withoutStates (answer hb pb words .verdict)
-answer-decoded hb pb words = let v = answer hb pb words .verdict in decoded-back v (lossless v (bounded hb pb words))
+-- The code of every verdict of the check determines it but for the states, whatever the files and the mode are.
+pub answer-decoded : (hb pb : List ℕ) (mode : Mode) (words : ℕ)
+    → decoded (codeOf (answer hb pb mode words .verdict)) ≡ withoutStates (answer hb pb mode words .verdict)
+answer-decoded hb pb mode words = let v = answer hb pb mode words .verdict in decoded-back v (lossless v (bounded hb pb mode words))
 
 -- A verdict without its states accepts what the verdict accepts.
-pub accepted-alike : (hb pb : List ℕ) (v : Verdict) → AcceptedIsSound hb pb v → AcceptedIsSound hb pb (withoutStates v)
+pub accepted-alike : (hb pb : List ℕ) (mode : Mode) (v : Verdict) → AcceptedIsSound hb pb mode v → AcceptedIsSound hb pb mode (withoutStates v)
 unfolding withoutStates
-accepted-alike hb pb (Accepted n) sound = sound
-accepted-alike hb pb (Refused f) sound = record { sound = λ k e. absurd (let z : _≡_ {A = ℕ} 0 1 = cc in omega arith) }
+accepted-alike hb pb mode (Accepted n) sound = sound
+accepted-alike hb pb mode (Refused f) sound = record { sound = λ k e. absurd (let z : _≡_ {A = ℕ} 0 1 = cc in omega arith) }
 
 -- The parts of the number of up to three states below 64.
 fields : (count s t u : ℕ) → s < 64 → t < 64 → u < 64 → (code : ℕ) → code ≡ count * 2 ^ 24 + s + 2 ^ 8 * t + 2 ^ 16 * u
@@ -77,11 +79,11 @@ states-back k states few (state {s = s} low (state {s = t} low′ (state {s = u}
     let p = fields 3 s t u low low′ low″ (statesNumber (s ∷ t ∷ u ∷ [])) refl in rw (p .0, p .1, p .2, p .3)
 states-back k states few (state low (state low′ (state low″ (state low‴ more)))) = absurd (omega arith)
 
--- The states of every verdict of the check can be recovered, whatever the files are.
-pub states-decoded : (hb pb : List ℕ) (words : ℕ)
-    → statesDecoded (statesNumber (statesOf (answer hb pb words .verdict))) ≡ statesOf (answer hb pb words .verdict)
+-- The states of every verdict of the check can be recovered, whatever the files and the mode are.
+pub states-decoded : (hb pb : List ℕ) (mode : Mode) (words : ℕ)
+    → statesDecoded (statesNumber (statesOf (answer hb pb mode words .verdict))) ≡ statesOf (answer hb pb mode words .verdict)
 unfolding statesOf
-states-decoded hb pb words = by (answer hb pb words .verdict) (names-states hb pb words)
+states-decoded hb pb mode words = by (answer hb pb mode words .verdict) (names-states hb pb mode words)
   where
     by : (v : Verdict) → NamesStates v → statesDecoded (statesNumber (statesOf v)) ≡ statesOf v
     by (Accepted n) p = states-back 0 (statesOf (Accepted n)) (omega arith) nothing

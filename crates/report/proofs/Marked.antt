@@ -26,12 +26,15 @@ use Rattle.handler.specs.Reading.{HandlerRead, handler, refused, readHandler}
 use Rattle.derivation.specs.Tables.{workWords, setAt, rowAt, tablesThere, isCount, relationsRead, setsRead, tablesAt, inSetOf, inRelationOf}
 use Rattle.derivation.specs.Nodes.{onName, namedTable, loopHead, namesHead, ruleHead, nodeHead, nodeAt, wholeNode}
 use Rattle.derivation.specs.Reading.{readProof}
+use Rattle.pair.specs.Limits.{tooLong}
+use Rattle.pair.specs.Reading.{readPair}
+use Rattle.pair.specs.Modes.{rows}
 use Rattle.checker.specs.Verdicts.{answer}
 use Rattle.report.specs.Line.{ascii, digits, decimal, placeText, verdictText, lineOf}
 
 -- What the check program prints for two files.
 abbrev line : List ℕ → List ℕ → List ℕ
-line hb pb = lineOf (answer hb pb workWords .verdict)
+line hb pb = lineOf (answer hb pb rows workWords .verdict)
 
 -- One variable c of size 2, c ← 1; and the proof with P {0,1}, R none, G {(0,1)}, Q {(0,1),(1,1)}.
 abbrev pub sample-handler : List ℕ
@@ -96,5 +99,5 @@ marked =
 pub twelve : marked
     ≡ ascii "accepted 1\n" ∷ ascii "refused 43 node 0\n" ∷ ascii "refused 10 bit 0\n" ∷ ascii "refused 10 bit 8\n" ∷ ascii "refused 18 bit 23\n"
     ∷ (4 ∷ []) ∷ (4 ∷ 1 ∷ []) ∷ (28 ∷ []) ∷ (1 ∷ []) ∷ (64 ∷ []) ∷ (13 ∷ 8 ∷ []) ∷ (50 ∷ 0 ∷ []) ∷ []
-unfolding bitLength bitAt bitsAt isThere fieldAt firstSet fillBits furtherByte fillFrom fillAt implies all any must given named orElse each holds within reach inSet sameSet sameRelation setLiesIn relationLiesIn isTrue isFalse afterStore toAfter moves c31 c32 c33 c34 c35 c36 c37 c38 unmoved c41 c42 c43 c50 c51 c52 c53 c54 c55 c56 c57 sizeRead addSize sizesRead countRead headAt signed integerHead truthHead variableHead operationHead payloadHead tagHead exprHead exprAt wholeExpr targetHead codeHead markHead stmtHead stmtAt wholeStmt readHandler setAt rowAt tablesThere isCount relationsRead setsRead tablesAt inSetOf inRelationOf onName namedTable loopHead namesHead ruleHead nodeHead nodeAt wholeNode readProof answer digits decimal placeText verdictText lineOf
+unfolding bitLength bitAt bitsAt isThere fieldAt firstSet fillBits furtherByte fillFrom fillAt implies all any must given named orElse each holds within reach inSet sameSet sameRelation setLiesIn relationLiesIn isTrue isFalse afterStore toAfter moves c31 c32 c33 c34 c35 c36 c37 c38 unmoved c41 c42 c43 c50 c51 c52 c53 c54 c55 c56 c57 sizeRead addSize sizesRead countRead headAt signed integerHead truthHead variableHead operationHead payloadHead tagHead exprHead exprAt wholeExpr targetHead codeHead markHead stmtHead stmtAt wholeStmt readHandler setAt rowAt tablesThere isCount relationsRead setsRead tablesAt inSetOf inRelationOf onName namedTable loopHead namesHead ruleHead nodeHead nodeAt wholeNode readProof tooLong readPair answer digits decimal placeText verdictText lineOf
 twelve = refl

@@ -10,6 +10,8 @@ use Rattle.handler.specs.Reading.{readHandler}
 use Rattle.derivation.specs.Tables.{rowAt, tablesThere, isCount, relationsRead, setsRead, tablesAt}
 use Rattle.derivation.specs.Nodes.{onName, namedTable, loopHead, namesHead, ruleHead, nodeHead, nodeAt, wholeNode}
 use Rattle.derivation.specs.Reading.{readProof}
+use Rattle.pair.specs.Limits.{tooLong}
+use Rattle.pair.specs.Reading.{readPair}
 use Rattle.checker.specs.declared.Place.the-variants.{Bit, Node}
 use Rattle.viewer.specs.View.{firstBitsOf, nodeByte, locationOf, viewed, locationByKind, locationNumber, viewOf}
 
@@ -64,5 +66,5 @@ pub shown-nodes :
     × (viewed handler-file proof-file 43 (Node 0) ≡ 0x20 ∷ 0x02 ∷ 0x40 ∷ [])
     × (viewed (0x22 ∷ 0x20 ∷ 0x03 ∷ []) proof-file 18 (Bit 23) ≡ 0x03 ∷ [])
     × (viewed handler-file proof-file 2 (Bit 0) ≡ [])
-unfolding bitLength bitAt bitsAt isThere fieldAt firstSet fillBits furtherByte fillFrom fillAt sizeRead addSize sizesRead countRead headAt signed integerHead payloadHead tagHead exprHead exprAt wholeExpr targetHead codeHead markHead stmtHead stmtAt wholeStmt readHandler rowAt tablesThere isCount relationsRead setsRead tablesAt onName namedTable loopHead namesHead ruleHead nodeHead nodeAt wholeNode readProof firstBitsOf nodeByte locationOf viewed locationByKind locationNumber viewOf
+unfolding bitLength bitAt bitsAt isThere fieldAt firstSet fillBits furtherByte fillFrom fillAt sizeRead addSize sizesRead countRead headAt signed integerHead payloadHead tagHead exprHead exprAt wholeExpr targetHead codeHead markHead stmtHead stmtAt wholeStmt readHandler rowAt tablesThere isCount relationsRead setsRead tablesAt onName namedTable loopHead namesHead ruleHead nodeHead nodeAt wholeNode readProof tooLong readPair firstBitsOf nodeByte locationOf viewed locationByKind locationNumber viewOf
 shown-nodes = (refl, refl, refl, refl)

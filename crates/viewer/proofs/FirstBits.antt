@@ -1,6 +1,5 @@
 -- The table of nodes holds the first bits of the derivation's nodes: word for word, a node's word gives back its first bit.
 use Prim.Native.Nat.{ℕ, suc, _+_, _-_, _≤_, _<_}
-use mathlib.Core.Bool.{true, false, _||_}
 use mathlib.Core.List.{List, [], _∷_, _++_, map, map-append, append-nil}
 use mathlib.Core.Path.{_≡_, sym, _∙_, ap}
 use native.Mathlib.Omega.{arith}
@@ -8,13 +7,13 @@ use borrow.Author.Tests.{lt-ltb, le-ltb}
 use lib.ListN.{length, getD, drop, replicate, length-replicate, length-map, List·getD-append, List·getD-map}
 use lib.Seq.{drop-at, getD-drop}
 use Rattle.semantics.specs.Derivations.{Derivation, skip, assignment, sequence, parallel, conditional, iteration, weaken, nodes}
-use Rattle.handler.specs.Reading.{readHandler}
 use Rattle.derivation.specs.Tables.{mostTables}
 use Rattle.derivation.specs.NodeTable.{nodeOf, nodeIn, nodeBits, nodeWords, padded, nodeTable}
-use Rattle.derivation.specs.Reading.{proof, readProof}
 use Rattle.derivation.proofs.NodeTable.{Known, length-nodeWords, node-held}
 use Rattle.derivation.proofs.Files.{read-known}
-use Rattle.viewer.specs.View.{firstBits, onHandlerBits, tooLong, firstBitsOf, byteOf, nodeByte}
+use Rattle.pair.specs.Reading.{Pair, statesOf, pair, readPair}
+use Rattle.pair.proofs.Cases.{read-holds}
+use Rattle.viewer.specs.View.{firstBits, firstBitsOf, byteOf, nodeByte}
 
 abbrev bitIn : ℕ → ℕ
 bitIn word = nodeOf word .bit
@@ -55,12 +54,22 @@ module _ (sets relations : ℕ) (few-sets : sets ≤ mostTables) (few-relations 
   bits-held i bit (weaken h d) known room =
       rw (first-word-bit i bit (weaken h d) known room, bits-held (suc i) (bit + 19) d (known .1) (omega arith))
 
--- A proof file that was read.
-module _ (pb : List ℕ) (n sets relations at : ℕ) (d : Derivation) (read : readProof pb n ≡ proof sets relations at d) where
+-- Two files that are read.
+module _ (hb pb : List ℕ) (x : Pair) (read : readPair hb pb ≡ pair x) where
+  abbrev at : ℕ
+  at = x .root-bit
+
+  abbrev d : Derivation
+  d = x .derivation
+
   held : map bitIn (nodeWords 0 at d) ≡ firstBits at d
   held =
-      let k = read-known pb n sets relations at d read in
-      bits-held sets relations (k .sets-most) (k .relations-most) 0 at d (k .known) (omega (arith, k .nodes-most))
+      let k = read-known pb (statesOf x) (x .sets) (x .relations) at d (read-holds hb pb x read .proof-read) in
+      bits-held (x .sets) (x .relations) (k .sets-most) (k .relations-most) 0 at d (k .known) (omega (arith, k .nodes-most))
+
+  pub bits-of : firstBitsOf hb pb ≡ firstBits at d
+  unfolding firstBitsOf
+  bits-of = rw read
 
   pub count-bits : length (firstBits at d) ≡ nodes d
   count-bits = sym (ap length held) ∙ length-map (nodeWords 0 at d) bitIn ∙ length-nodeWords 0 at d
@@ -81,13 +90,3 @@ module _ (pb bits : List ℕ) (j : ℕ) where
   pub no-node : length bits ≤ j → nodeByte pb bits j ≡ length pb
   unfolding nodeByte
   no-node over = rw (le-ltb j (length bits))
-
--- The nodes of two files, by their lengths.
-module _ (hb pb : List ℕ) where
-  pub too-long : (tooLong hb || tooLong pb) ≡ true → firstBitsOf hb pb ≡ []
-  unfolding firstBitsOf
-  too-long long = rw long
-
-  pub short-enough : (tooLong hb || tooLong pb) ≡ false → firstBitsOf hb pb ≡ onHandlerBits pb (readHandler hb)
-  unfolding firstBitsOf
-  short-enough short = rw short

@@ -1,11 +1,11 @@
 -- The refusals of a check are shown in the file at fault, from their place on: 10 to 25 at the byte that holds their bit, and a
 -- condition, if both files are well formed, at the byte that holds the first bit of its node.
-use Prim.Native.Nat.{ℕ, _/_, _≤_, _<_, min}
+use Prim.Native.Nat.{ℕ, _/_, _<_, min}
 use mathlib.Core.Bool.{Bool, true, _&&_}
 use mathlib.Core.List.{List, [], _∷_}
-use mathlib.Core.Path.{_≡_, refl, _∙_}
+use mathlib.Core.Path.{_≡_, refl}
 use native.Mathlib.Omega.{arith}
-use borrow.Author.Tests.{le-leb, lt-leb, le-ltb}
+use borrow.Author.Tests.{le-leb, lt-leb}
 use lib.ListN.{length, getD}
 use Rattle.semantics.specs.Language.{Stmt}
 use Rattle.semantics.specs.Derivations.{Derivation, skip, assignment, sequence, parallel, conditional, iteration, weaken, nodes, Tables}
@@ -14,11 +14,11 @@ use Rattle.handler.specs.Reading.{refused, readHandler}
 use Rattle.handler.proofs.Places as Handlers
 use Rattle.derivation.specs.Reading as Proofs
 use Rattle.derivation.proofs.Places as ProofPlaces
+use Rattle.pair.specs.Reading.{Pair, pair, readPair}
 use Rattle.checker.specs.declared.Place.the-variants.{Bit, Node}
-use Rattle.checker.specs.Verdicts.{PairRead}
 use Rattle.viewer.specs.declared.File.the-variants.{Handler, Proof}
-use Rattle.viewer.specs.View.{withNode, firstBits, firstBitsOf, byteOf, locationOf}
-use Rattle.viewer.proofs.FirstBits.{count-bits, node-there, short-enough}
+use Rattle.viewer.specs.View.{withNode, firstBits, byteOf, locationOf}
+use Rattle.viewer.proofs.FirstBits.{bits-of, count-bits, node-there}
 
 module _ (hb pb : List ℕ) where
   pub handler-fault-shown : (k place : ℕ) → readHandler hb ≡ refused k place
@@ -38,14 +38,12 @@ module _ (hb pb : List ℕ) where
       rw (le-leb 10 k (omega (arith, f .from-least)), lt-leb k 18 (omega (arith, f .from-least)), le-leb 20 k (f .from-least), le-leb k 25 (f .to-most), byte)
 
   -- A node of two files that are read.
-  pub node-shown : length hb ≤ 16384 → length pb ≤ 16384 → (pair : PairRead hb pb) (k j : ℕ) → withNode k ≡ true → j < nodes (pair .derivation)
-      → locationOf hb pb k (Node j) ≡ record { file = Proof; index = byteOf pb (getD (firstBits (pair .root-bit) (pair .derivation)) j 0) }
+  pub node-shown : (x : Pair) → readPair hb pb ≡ pair x → (k j : ℕ) → withNode k ≡ true → j < nodes (x .derivation)
+      → locationOf hb pb k (Node j) ≡ record { file = Proof; index = byteOf pb (getD (firstBits (x .root-bit) (x .derivation)) j 0) }
   unfolding locationOf
-  node-shown short short′ pair k j with-node under =
-      let bits : firstBitsOf hb pb ≡ firstBits (pair .root-bit) (pair .derivation) =
-      short-enough hb pb (rw (le-ltb 16384 (length hb), le-ltb 16384 (length pb))) ∙ rw (pair .handler-read, pair .proof-read) refl in
-      let few = count-bits _ _ _ _ _ (pair .derivation) (pair .proof-read) in
-      rw (with-node, bits, node-there pb (firstBits (pair .root-bit) (pair .derivation)) j (omega arith))
+  node-shown x read k j with-node under =
+      let few = count-bits hb pb x read in
+      rw (with-node, bits-of hb pb x read, node-there pb (firstBits (x .root-bit) (x .derivation)) j (omega arith))
 
 -- Every condition of every rule has a number that is shown with a node.
 abbrev shown : List Condition → Bool

@@ -5,11 +5,9 @@ use mathlib.Core.Bool.{Bool, cond, _&&_, _||_}
 use mathlib.Core.List.{List, [], _∷_, _++_}
 use lib.Dec.{leb, ltb, eqb}
 use lib.ListN.{length, getD, drop}
-use Rattle.semantics.specs.States.{product}
 use Rattle.semantics.specs.Derivations.{Derivation, skip, assignment, sequence, parallel, conditional, iteration, weaken}
-use Rattle.handler.specs.Reading.{HandlerRead, handler, refused, readHandler}
 use Rattle.derivation.specs.NodeTable.{nodeBits}
-use Rattle.derivation.specs.Reading as Proofs
+use Rattle.pair.specs.Reading.{PairRead, pair, faulty, long, readPair}
 use Rattle.checker.specs.declared.Place.{Place}
 use Rattle.checker.specs.declared.Place.the-variants.{Bit, Node}
 use Rattle.viewer.specs.declared.File.{File}
@@ -43,21 +41,15 @@ firstBits bit (conditional h d) = bit ∷ firstBits (bit + 19) d
 firstBits bit (iteration h K W d) = bit ∷ firstBits (bit + 27) d
 firstBits bit (weaken h d) = bit ∷ firstBits (bit + 19) d
 
--- An ill-formed file has no nodes.
-abbrev pub onProofBits : Proofs.ProofRead → List ℕ
-onProofBits (Proofs.refused k place) = []
-onProofBits (Proofs.proof sets relations at d) = firstBits at d
+-- A pair of which a file is too long or ill-formed (2 and 10 to 25) has no nodes.
+abbrev pub bitsIn : PairRead → List ℕ
+bitsIn long = []
+bitsIn (faulty k place) = []
+bitsIn (pair x) = firstBits (x .root-bit) (x .derivation)
 
-abbrev pub onHandlerBits : List ℕ → HandlerRead → List ℕ
-onHandlerBits pb (refused k place) = []
-onHandlerBits pb (handler sizes at S) = onProofBits (Proofs.readProof pb (product sizes))
-
-abbrev pub tooLong : List ℕ → Bool
-tooLong file = ltb 16384 (length file)
-
--- The first bits of the nodes of two files; none where a file is too long or ill-formed (2 and 10 to 25).
+-- The first bits of the nodes of two files.
 unfoldable pub firstBitsOf : List ℕ → List ℕ → List ℕ
-firstBitsOf hb pb = cond (tooLong hb || tooLong pb) [] (onHandlerBits pb (readHandler hb))
+firstBitsOf hb pb = bitsIn (readPair hb pb)
 
 -- The byte of a file that holds a bit; the file's length for a bit that it lacks.
 abbrev pub byteOf : List ℕ → ℕ → ℕ

@@ -1,47 +1,64 @@
--- By cases of the two lengths, and then of what reading the handler file found; each is a case of `rootOf`.
+-- By cases of what reading the pair found. The first node of the table is the root (`root-names`).
 use mathlib.Core.Path.{_≡_, sym, _∙_, ap}
 use borrow.Author.Needs.{needs}
-use Rattle.handler.specs.Reading.{readHandler}
-use Rattle.derivation.specs.Reading.{readProof}
-use Rattle.handler.proofs.Handlers.{found-refused}
-use Rattle.checker.proofs.Judging.{handled, states-are}
-use Rattle.report.specs.Root.{onProofRoot, onHandlerRoot, rootOf}
-use Rattle.report.proofs.RootTables.{long-handler, long-proof, both-short}
+use Rattle.semantics.specs.Derivations.{namesOf}
+use Rattle.handler.specs.Header.{headOf}
+use Rattle.derivation.specs.NodeTable.{nodeIn}
+use Rattle.pair.specs.Reading.{readPair, pairFile}
+use Rattle.pair.proofs.Cases.{read-holds}
+use Rattle.pair.proofs.Found.{FoundPair, found-long, found-fault, found-pair}
+use Rattle.report.specs.Root.{rootNumber, rootOf}
+use Rattle.report.proofs.RootTables.{names-small, root-names}
 use Rattle.report.proofs.root.root_number.Statement.{statement}
 use Rattle.report.proofs.root.root_number.Tie as tie
 
+-- The points of the code: its start, and where the pair has been read.
+abbrev start : tie.After-read-pair → tie.Start
+start r = r .before .before .before
+
+abbrev reading : tie.After-node-at → tie.After-read-pair
+reading c = c .before .before .before .before .before .before
+
+found : (r : tie.After-read-pair) → let a = start r .args in pairFile (readPair (a .handler .now) (a .proof .now)) .found ≡ r .read-pair .result .found
+found r = sym (ap (λ f. f .found) (r .read-pair .ensures))
+
+held : (c : tie.After-node-at) → let a = start (reading c) .args in FoundPair (readPair (a .handler .now) (a .proof .now)) (c .before .before .before .before .enum-told3 .given .0 .0)
+held c = found-pair _ _ (found (reading c) ∙ c .before .before .before .before .enum-told3 .given .1)
+
+-- The names of the first node are those of the root.
+names : (c : tie.After-node-at) → c .node-at .result .names ≡ namesOf (held c .held .derivation)
+unfolding pairFile
+names c =
+    let f = held c in
+    let table = ap (λ y. y .nodes) (reading c .read-pair .ensures ∙ ap pairFile (f .read)) in
+    ap (λ x. x .names) (c .node-at .ensures ∙ ap (λ t. nodeIn t 0) table)
+    ∙ root-names _ _ _ _ _ _ (read-holds _ _ _ (f .read) .proof-read)
+
+pack-requires : tie.Need-pack-requires
+pack-requires c κs = rw (names (c .before)) (names-small _ _ _ _ _ _ (read-holds _ _ _ (held (c .before) .read) .proof-read))
+
 returns : tie.Need-returns
-returns c = sym (long-handler _ (c .before .before .before .args .proof .now) (c .if1 .taken))
+unfolding rootOf
+returns c = rw (found-long _ (found (c .before .before) ∙ c .enum-told .given .1))
 
 returns-2 : tie.Need-returns-2
-returns-2 c = sym (long-proof (c .before .before .before .before .args .handler .now) _ (c .if2 .taken))
-
--- Both files are short enough, so the root is by cases of what the handler file holds.
-by-handler : (c : tie.After-read-handler) → let a = c .before .before .before .before .before .args in
-    rootOf (a .handler .now) (a .proof .now) ≡ onHandlerRoot (a .proof .now) (readHandler (a .handler .now))
-by-handler c = both-short _ _ (c .before .before .if1 .left) (c .before .if2 .left)
+unfolding rootOf
+returns-2 c = rw (found-fault _ _ _ (found (c .before .before) ∙ c .enum-told2 .given .1))
 
 returns-3 : tie.Need-returns-3
+unfolding rootOf pairFile headOf
 returns-3 c =
-    let r = c .before .before .before in
-    let a = r .before .before .before .before .before .args in
-    let no = found-refused (readHandler (a .handler .now)) _ _ (sym (ap (λ f. f .found) (r .read-handler .ensures)) ∙ c .before .found .given .1) in
-    sym (by-handler r ∙ ap (onHandlerRoot (a .proof .now)) no)
-
-returns-4 : tie.Need-returns-4
-returns-4 c =
-    let r = c .before .before .before .before .before in
-    let a = r .before .before .before .before .before .args in
-    let h = handled (a .handler .now) _ _ (r .read-handler .ensures) (c .before .before .before .found2 .given .1) in
-    c .root-over .ensures ∙ ap (λ n. onProofRoot n (readProof (a .proof .now) n)) (states-are (a .handler .now) (a .proof .now) _ _ _ h)
-    ∙ sym (by-handler r ∙ ap (onHandlerRoot (a .proof .now)) (h .reads))
+    let r = reading (c .before .before) in
+    let f = held (c .before .before) in
+    let states = ap (λ y. y .head .states) (r .read-pair .ensures ∙ ap pairFile (f .read)) in
+    rw (f .read) (c .pack .ensures ∙ (λ j. rootNumber (states j) (names (c .before .before) j)))
 
 pub root-number-spec : {M : Type 1} → statement M
 root-number-spec =
     tie.close
     (tie.spec
+    (λ c κs. search needs) (λ c. search needs) (λ c. search needs) (λ c. search needs) (λ c. search needs) (λ c κs. search needs)
+    pack-requires
     returns
     returns-2
-    (λ c κs. search needs) (λ c. search needs) (λ c. search needs) (λ c κs. search needs)
-    returns-3
-    returns-4)
+    returns-3)
