@@ -54,10 +54,10 @@ plain-out k number b rest quiet = by b (eqb k number) refl
 
 -- Of the conditions of an assignment or an if: 41 or 45 can be left out, and those after 33 that name no state.
 pub reading-silent : (k n number : ℕ) (fits b : Bool) (c : Spec) (rest : List Condition) → Silent number (stability n c) → Silent k rest
-    → statesFor k (commonReading n fits (numbered number (must b)) c ++ rest) ≡ statesFor k (common n fits c)
+    → statesFor k (commonReading n fits (numbered number (must b) ∷ []) c ++ rest) ≡ statesFor k (common n fits c)
 unfolding statesFor
 reading-silent k n number fits b c rest apart quiet =
-    before-silent k (commonReading n fits (numbered number (must b)) c) rest quiet
+    before-silent k (commonReading n fits (numbered number (must b) ∷ []) c) rest quiet
     ∙ ap (orStates (given (eqb k 30) (must fits))) (plain-out k number b (stability n c) apart)
 
 -- What a search of the code has found, for a condition whose number is asked for.

@@ -36,6 +36,7 @@ use tables::set_at;
 use weaken::weaken_fault;
 ghost use mathlib.Core.Path.{_≡_};
 ghost use mathlib.Core.Bool.{Bool};
+ghost use mathlib.Core.List.{[], _∷_};
 ghost use Rattle.rules.specs.Words.{wordSpec};
 ghost use Rattle.states.specs.Search.{must};
 ghost use Rattle.semantics.specs.Conditions.{unmoved as movesNothing};
@@ -109,7 +110,7 @@ pub fn common_reading(
     ensures { λ r.
         ⌜ r ≡ askedAll Holds (commonReading (machineIn head .states) fits
         (numbered number (must (movesNothing (machineIn head) (wordSpec (machineIn head .states) (now (work .entry)) own)
-        (exprIn (now (handler .entry)) (head .count) expr))))
+        (exprIn (now (handler .entry)) (head .count) expr))) ∷ [])
         (wordSpec (machineIn head .states) (now (work .entry)) own)) ⌝ }
 {
     let found = ask(NodeVerdict::Holds, 30, fits);
