@@ -4,13 +4,13 @@ use checker::Fault;
 use checker::Place;
 use checker::WORK_WORDS;
 use children::put_child;
-use derivation::reading::load;
-use derivation::reading::read_proof;
 use derivation::table::node_at;
 use handler::head::Head;
-use handler::reading::read_handler;
 use naming::put_state;
 use naming::put_states;
+use pair::load_pair;
+use pair::read_pair;
+use pair::rows;
 use rules::tables::set_at;
 use search::Named;
 use sentences::sentence;
@@ -46,12 +46,11 @@ fn put_node(
     node: u32,
     states: Named,
 ) -> usize {
-    let file = read_handler(handler);
+    let mut work = [0u64; WORK_WORDS];
+    let file = load_pair(handler, proof, rows(), &mut work);
     let head = file.head;
     let statements = file.statements;
-    let mut work = [0u64; WORK_WORDS];
-    let read = load(proof, head.states, &mut work);
-    let nodes = read.nodes;
+    let nodes = file.nodes;
     let at = put_states(out, at, head, number, states);
     let at = put_child(out, at, head.states, &work, &nodes, number, node);
     put_statement(out, at, handler, head.count, &statements, &nodes, node)
@@ -130,10 +129,9 @@ fn put_root(out: &mut [u8], head: Head, p: u32, set: StateSet) -> usize {
 pub fn write_accepted(handler: &[u8], proof: &[u8], work: &[u64], out: &mut [u8]) -> usize
     ensures { λ r. ⌜ r ≤ length (now (out .entry)) ⌝ }
 {
-    let file = read_handler(handler);
+    let file = read_pair(handler, proof);
     let head = file.head;
-    let read = read_proof(proof, head.states);
-    let nodes = read.nodes;
+    let nodes = file.nodes;
     let root = node_at(&nodes, 0);
     let names = root.names;
     let p = names.p;

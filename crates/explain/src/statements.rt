@@ -4,6 +4,7 @@ use crate::text::put_if;
 use crate::text::put_number;
 use bits::Field;
 use checker::nodes::statement_of;
+use derivation::MOST_NODES;
 use handler::ASSIGNMENT;
 use handler::IF;
 use handler::MOST_STATEMENTS;
@@ -173,7 +174,7 @@ pub(crate) fn put_statement(
     handler: &[u8],
     count: u32,
     statements: &[u64; MOST_STATEMENTS],
-    nodes: &[u64],
+    nodes: &[u64; MOST_NODES],
     node: u32,
 ) -> usize {
     let j = statement_of(nodes, node);
