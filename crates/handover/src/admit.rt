@@ -7,7 +7,8 @@ ghost use lib.ListN.{length};
 ghost use Rattle.handover.specs.Guest.{handlerAmount, proofAmount};
 ghost use Rattle.handover.specs.Reading.{amount};
 use super::ARGUMENT_BYTES;
-use super::BUFFER_BYTES;
+use super::HANDLER_BYTES;
+use super::PROOF_BYTES;
 use super::Reading;
 use super::argument;
 use super::number::Number;
@@ -127,8 +128,8 @@ fn write_table(frame_length: u32, guests: usize, table: &mut [u8]) -> Reading
     for i in 0..guests {
         let place = i as u32;
         let first = FIRST_GUEST + GUEST_ARGUMENTS * i;
-        let mut handler = [0u8; BUFFER_BYTES];
-        let mut proof = [0u8; BUFFER_BYTES];
+        let mut handler = [0u8; HANDLER_BYTES];
+        let mut proof = [0u8; PROOF_BYTES];
         let GuestReading::Guest(guest) = read_guest(first, &mut handler, &mut proof) else {
             return Reading::Failed;
         };

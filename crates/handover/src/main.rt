@@ -18,11 +18,12 @@ ghost use Rattle.handover.specs.Reading.{amount};
 use canonical::MOST_FORM_BYTES;
 use canonical::Outcome;
 use checker::Fault;
-use checker::MOST_BYTES;
 use checker::Verdict;
 use checker::WORK_WORDS;
 use libc::STDERR_FILENO;
 use libc::STDOUT_FILENO;
+use pair::MOST_HANDLER_BYTES;
+use pair::MOST_PROOF_BYTES;
 use viewer::File;
 
 // What is to be done with the two files.
@@ -148,7 +149,7 @@ fn explain_accepted(handler: &[u8], proof: &[u8], work: &[u64]) {
 // Checks the two files, prints the line and, if asked to, explains it.
 fn judge(handler_path: &[u8], proof_path: &[u8], handler: &[u8], proof: &[u8], explaining: bool) {
     let mut work = [0u64; WORK_WORDS];
-    let v = checker::check(handler, proof, &mut work);
+    let v = checker::check(handler, proof, pair::rows(), &mut work);
     if print_line(v) & explaining {
         match v {
             Verdict::Accepted(_) => explain_accepted(handler, proof, &work),
@@ -175,16 +176,18 @@ fn write_form(handler: &[u8], proof: &[u8], out: &[u8]) {
     }
 }
 
-// One byte more than a file may have: enough to refuse it as too long, so no more is read.
-const BUFFER_BYTES: usize = MOST_BYTES + 1;
+// One byte more than each file may have: enough to refuse it as too long, so no more is read.
+const HANDLER_BYTES: usize = MOST_HANDLER_BYTES + 1;
+
+const PROOF_BYTES: usize = MOST_PROOF_BYTES + 1;
 
 // Reads the files at the two paths and does the task with them, unless one of them cannot be read. Only Write looks at `out`.
 fn do_with_files(handler_path: &[u8], proof_path: &[u8], out: &[u8], task: Task) {
-    let mut handler = [0u8; BUFFER_BYTES];
+    let mut handler = [0u8; HANDLER_BYTES];
     let Reading::Bytes(n) = read_file(handler_path, &mut handler) else {
         return;
     };
-    let mut proof = [0u8; BUFFER_BYTES];
+    let mut proof = [0u8; PROOF_BYTES];
     let Reading::Bytes(m) = read_file(proof_path, &mut proof) else {
         return;
     };

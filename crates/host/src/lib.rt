@@ -4,6 +4,7 @@
 ghost use mathlib.Core.Path.{_≡_};
 ghost use lib.Dec.{eqb};
 ghost use lib.ListN.{length};
+ghost use Rattle.pair.specs.Modes.{rows};
 ghost use Rattle.checker.specs.Verdicts.{answer, workAfter, AcceptedIsSound};
 ghost use Rattle.report.specs.Code.{codeOf, withoutStates, decoded};
 ghost use Rattle.report.specs.States.{statesOf, statesNumber, statesDecoded};
@@ -25,12 +26,12 @@ ghost use Rattle.frame.specs.Served.{ServedIf};
 // for every pair of files, and what acceptance promises is promised of what is decoded.
 #[no_mangle]
 pub extern "C" fn handover_check(handler: &[u8], proof: &[u8], work: &mut [u64]) -> u64
-    ensures number { λ r. ⌜ r ≡ codeOf (answer (now (handler .entry)) (now (proof .entry)) (length (now (work .entry))) .verdict) ⌝ }
-    ensures verdict { λ r. ⌜ decoded r ≡ withoutStates (answer (now (handler .entry)) (now (proof .entry)) (length (now (work .entry))) .verdict) ⌝ }
-    ensures words { λ _. ⌜ now (work .exit) ≡ workAfter (now (handler .entry)) (now (proof .entry)) (now (work .entry)) ⌝ }
-    ensures promise { λ r. ⌜ AcceptedIsSound (now (handler .entry)) (now (proof .entry)) (decoded r) ⌝ }
+    ensures number { λ r. ⌜ r ≡ codeOf (answer (now (handler .entry)) (now (proof .entry)) rows (length (now (work .entry))) .verdict) ⌝ }
+    ensures verdict { λ r. ⌜ decoded r ≡ withoutStates (answer (now (handler .entry)) (now (proof .entry)) rows (length (now (work .entry))) .verdict) ⌝ }
+    ensures words { λ _. ⌜ now (work .exit) ≡ workAfter (now (handler .entry)) (now (proof .entry)) rows (now (work .entry)) ⌝ }
+    ensures promise { λ r. ⌜ AcceptedIsSound (now (handler .entry)) (now (proof .entry)) rows (decoded r) ⌝ }
 {
-    report::code_of(checker::check(handler, proof, work))
+    report::code_of(checker::check(handler, proof, pair::rows(), work))
 }
 
 // The check once more, for the states that its refusal names: how many, and then up to three of 8 bits each, `statesNumber`; 0 for an
@@ -38,12 +39,12 @@ pub extern "C" fn handover_check(handler: &[u8], proof: &[u8], work: &mut [u64])
 #[no_mangle]
 pub extern "C" fn handover_states(handler: &[u8], proof: &[u8], work: &mut [u64]) -> u64
     ensures number { λ r.
-        ⌜ r ≡ statesNumber (statesOf (answer (now (handler .entry)) (now (proof .entry)) (length (now (work .entry))) .verdict)) ⌝ }
+        ⌜ r ≡ statesNumber (statesOf (answer (now (handler .entry)) (now (proof .entry)) rows (length (now (work .entry))) .verdict)) ⌝ }
     ensures states { λ r.
-        ⌜ statesDecoded r ≡ statesOf (answer (now (handler .entry)) (now (proof .entry)) (length (now (work .entry))) .verdict) ⌝ }
-    ensures words { λ _. ⌜ now (work .exit) ≡ workAfter (now (handler .entry)) (now (proof .entry)) (now (work .entry)) ⌝ }
+        ⌜ statesDecoded r ≡ statesOf (answer (now (handler .entry)) (now (proof .entry)) rows (length (now (work .entry))) .verdict) ⌝ }
+    ensures words { λ _. ⌜ now (work .exit) ≡ workAfter (now (handler .entry)) (now (proof .entry)) rows (now (work .entry)) ⌝ }
 {
-    report::states_code(checker::check(handler, proof, work))
+    report::states_code(checker::check(handler, proof, pair::rows(), work))
 }
 
 // N and the numbers of the root's P, R, G and Q, 8 bits each, or 0 where a file is too long or ill-formed: what a host must know of a pair

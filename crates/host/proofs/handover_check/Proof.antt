@@ -3,6 +3,7 @@
 use mathlib.Core.Path.{_≡_, sym, _∙_, ap, subst}
 use borrow.Author.Needs.{needs}
 use lib.ListN.{length}
+use Rattle.pair.specs.Modes.{rows}
 use Rattle.checker.specs.Verdicts.{answer, AcceptedIsSound}
 use Rattle.report.specs.Code.{codeOf, withoutStates, decoded}
 use Rattle.report.proofs.Decoding.{answer-decoded, accepted-alike}
@@ -13,12 +14,12 @@ returns : tie.Need-returns
 returns c =
     let k = c .before .before .before .check in
     let a = c .before .before .before .before .before .before .before .before .args in
-    let v = answer (a .handler .now) (a .proof .now) (length (a .work .now)) .verdict in
+    let v = answer (a .handler .now) (a .proof .now) rows (length (a .work .now)) .verdict in
     let checked : k .result ≡ v = k .ensures .0 in
     let number = c .code-of .ensures ∙ ap codeOf checked in
-    let verdict : decoded (c .code-of .result) ≡ withoutStates v = ap decoded number ∙ answer-decoded _ _ _ in
-    (number, (verdict, (k .ensures .1 .0, subst (AcceptedIsSound (a .handler .now) (a .proof .now)) (sym verdict)
-    (accepted-alike _ _ v (subst (AcceptedIsSound (a .handler .now) (a .proof .now)) checked (k .ensures .1 .1))))))
+    let verdict : decoded (c .code-of .result) ≡ withoutStates v = ap decoded number ∙ answer-decoded _ _ _ _ in
+    (number, (verdict, (k .ensures .1 .0, subst (AcceptedIsSound (a .handler .now) (a .proof .now) rows) (sym verdict)
+    (accepted-alike _ _ _ v (subst (AcceptedIsSound (a .handler .now) (a .proof .now) rows) checked (k .ensures .1 .1))))))
 
 pub handover-check-spec : {M : Type 1} → statement M
 handover-check-spec = tie.close (tie.spec (λ c κs. search needs) (λ c κs. search needs) (λ c. search needs) returns)
