@@ -51,7 +51,7 @@ pub handlers :
     × (handlerFile (readHandler (0x22 ∷ 0x20 ∷ 0x02 ∷ [])) ≡ record {
       found = Handler (record { at = 8; end = 23; statements = 1; levels = 1; steps = 1 });
       head = record { count = 1; sizes = 2 ∷ 1 ∷ 1 ∷ 1 ∷ []; states = 2 };
-      statements = (1 + 8 * (0 + 4 * (1 + 128 * 13))) ∷ replicate 62 0;
+      statements = (1 + 8 * (0 + 4 * (1 + 128 * (0 + 2048 * 8)))) ∷ replicate 62 0;
     })
     × (handlerFile (readHandler many) .found ≡ Handler (record { at = 8; end = 197; statements = 63; levels = 6; steps = 31 }))
     × (handlerFile (readHandler loops) .found ≡ Handler (record { at = 13; end = 106; statements = 16; levels = 16; steps = 2 ^ 32 }))
