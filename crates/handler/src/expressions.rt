@@ -176,7 +176,7 @@ fn wanted_of(result: Kind, wanted: Kind, at: usize, below: KindError) -> KindErr
 }
 
 // The first kind error of two parts, in file order.
-pub fn earlier_of(first: KindError, second: KindError) -> KindError
+pub(crate) fn earlier_of(first: KindError, second: KindError) -> KindError
     ensures { λ r. ⌜ r ≡ earlierOf first second ⌝ }
 {
     match first {

@@ -77,7 +77,7 @@ fn code_at(src: &[u8], count: u32, at: usize, code: u32, next: usize) -> StmtHea
 }
 
 // Reads the head of the statement at a cursor, with `before` statements before it and `below` levels left below it.
-pub fn stmt_head_at(src: &[u8], count: u32, below: u32, before: u32, at: usize) -> StmtHead
+pub(crate) fn stmt_head_at(src: &[u8], count: u32, below: u32, before: u32, at: usize) -> StmtHead
     ensures { λ r. ⌜ r ≡ stmtHead (now (src .entry)) count below before at ⌝ }
 {
     let Field::Value(code, next) = bits::read(src, at, CODE_BITS) else {
