@@ -15,12 +15,11 @@ use Rattle.handler.specs.declared.table.Statement.{Statement}
 use Rattle.handler.specs.declared.StmtHead.the-variants.{Nil, Assign, Pair, Test}
 use Rattle.handler.specs.Statements.{stmtHead, StmtRead, whole, fault, onAssigned, onRight, stmtAt}
 use Rattle.handler.specs.Kinds.{width, stmtWidth}
-use Rattle.handler.specs.Terms.{exprNodes, stmtTerms, termWord, exprTerm}
+use Rattle.handler.specs.Terms.{exprNodes, stmtTerms}
 use Rattle.handler.specs.StatementTable.{statements, statementWord, wordOf, statementWords, StatementsStored}
 use Rattle.handler.specs.declared.StmtShape.the-variants as stmt
 use Rattle.handler.specs.Shapes.{stmtShape}
-use Rattle.handler.proofs.Stores.{one-filled, two-filled, both-filled}
-use Rattle.handler.proofs.TermTable.{length-termWords, length-handlerTerms}
+use Rattle.handler.proofs.Stores.{one-filled, two-filled}
 use Rattle.handler.proofs.StatementTable.{length-statementWords}
 use Rattle.handler.proofs.StmtShapes.{stmt-faulted}
 use Rattle.handler.proofs.StmtFolds.{stmt-step, Marked, marked, whole-read, stmt-read}

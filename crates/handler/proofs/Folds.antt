@@ -18,7 +18,7 @@ use Rattle.bits.specs.declared.Field.{Field}
 use Rattle.bits.specs.declared.Field.the-variants.{Value, Missing}
 use Rattle.bits.proofs.Laws.{there}
 use Rattle.bits.proofs.Places.{either}
-use Rattle.semantics.specs.Language.{int, truth, Expr, lit, var, op, rowOf}
+use Rattle.semantics.specs.Language.{int, truth, Expr, lit, var, rowOf}
 use Rattle.semantics.specs.declared.Row.the-variants.{Unused}
 use Rattle.semantics.specs.StepNumber.{E}
 use Rattle.handler.specs.declared.expressions.ExprHead.{ExprHead}
@@ -151,7 +151,11 @@ all-read (suc levels) bytes count nodes at = by (exprHead bytes count nodes at) 
     right o next room moved used l after behind before (bad k place) known = tt
     right o next room moved used l after behind before (good r last end) known =
         record {
-          ends = omega arith; counted = omega arith; added = omega arith; short = omega arith; room = known .room;
+          ends = omega arith;
+          counted = omega arith;
+          added = omega arith;
+          short = omega arith;
+          room = known .room;
           fits = (omega arith, before .fits, known .fits);
         }
 

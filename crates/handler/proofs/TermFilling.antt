@@ -39,7 +39,7 @@ head-fits bytes count nodes at h e = by h (headed-as bytes count nodes at h e)
     by (head.Integer z next) p = omega (arith, p .2)
     by (head.Truth b next) p = tt
     by (head.Variable v next) p = omega (arith, p .3)
-    by (head.Operation o next) p = omega (arith, p .2)
+    by (head.Operation o next) p = tt
     by (head.Fault k place) p = tt
 
 -- What reading an expression does to a table, whose first node is number `first`.

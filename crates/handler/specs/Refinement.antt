@@ -1,5 +1,5 @@
 -- What only the contracts of private functions cite.
-use Prim.Native.Nat.{ℕ, _<_}
+use Prim.Native.Nat.{_<_}
 use lib.Signed.{mag}
 use Rattle.semantics.specs.Language.{lit, int, truth, var}
 use Rattle.handler.specs.declared.expressions.ExprHead.{ExprHead}
@@ -13,12 +13,12 @@ pub record TermFits (x : Term) : Type 0 where
   pub value : x .value < 65536
   pub right : x .right < 16384
 
--- A constant, a variable or an operation has room in 16 bits.
+-- A constant or a variable has room in 16 bits.
 abbrev pub HeadFits : ExprHead → Type 0
 HeadFits (Integer z next) = mag z < 32768
 HeadFits (Truth b next) = Unit {0}
 HeadFits (Variable v next) = v < 65536
-HeadFits (Operation o next) = o < 65536
+HeadFits (Operation o next) = Unit {0}
 HeadFits (Fault k place) = Unit {0}
 
 -- The node of an expression without operands, from its head.

@@ -67,7 +67,10 @@ unfoldable pub stmtShape : ℕ → ℕ → ℕ → StmtRead → StmtShape
 stmtShape N i at (whole S after next) = stmt.Whole (stmtSummary N i at S after next)
 stmtShape N i at (fault k place) = stmt.Fault k place
 
--- The shape of a statement from those of its parts: an assignment, a sequence or parallel, an if (4) or while (5).
+-- The shape of a statement from those of its parts: nil, an assignment, a sequence or parallel, an if (4) or while (5).
+abbrev pub nilOf : ℕ → ℕ → ℕ → StmtShape
+nilOf after i next = stmt.Whole (record { steps = 0; error = Nowhere; statements = after; terms = i; levels = 1; next = next })
+
 abbrev pub assignedOf : ℕ → ℕ → ExprShape → StmtShape
 assignedOf after i (expr.Whole e) =
     stmt.Whole (record { steps = min (e .e + 1) (2 ^ 32); error = e .error; statements = after; terms = i + e .nodes; levels = 1; next = e .next })

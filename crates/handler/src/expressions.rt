@@ -266,44 +266,45 @@ fn leaf_of(head: ExprHead, wanted: Kind, nodes: u32, at: usize) -> ExprShape
 }
 
 // The shape of the expression at a cursor, with `levels` levels to read. Its nodes are stored in the table: the expression's first
-// node as number `first`, and `nodes` of its nodes are stored before. An operation that was read always has a row.
+// node as number `base`, and `nodes` of its nodes are stored before. An operation that was read always has a row.
 fn expr_walk(
     src: &[u8],
     table: &mut [u32],
     count: u32,
     wanted: Kind,
     levels: u32,
-    first: u32,
+    base: u32,
     nodes: u32,
     at: usize,
 ) -> ExprShape
-    requires { ⌜ (nodes ≤ 31) × (first ≤ 1953) ⌝ }
+    requires { ⌜ (nodes ≤ 31) × (base ≤ 1953) ⌝ }
     ensures { λ r. ⌜ r ≡ exprShape wanted at (exprAt levels (now (src .entry)) count nodes at) ⌝ }
     ensures { λ r.
-        ⌜ TermsStored (now (table .entry)) (now (table .exit)) (first + nodes) (exprAt levels (now (src .entry)) count nodes at) ⌝ }
+        ⌜ TermsStored (now (table .entry)) (now (table .exit)) (base + nodes) (exprAt levels (now (src .entry)) count nodes at) ⌝ }
 {
     if levels == 0 {
         return ExprShape::Fault(TOO_MANY, at);
     }
     let head = expr_head_at(src, count, nodes, at);
     let ExprHead::Operation(o, next) = head else {
-        store_term(table, first + nodes, leaf_term(head));
+        store_term(table, base + nodes, leaf_term(head));
         return leaf_of(head, wanted, nodes, at);
     };
     let Row::Kinds(a, b, result) = semantics::row_of(o as usize) else {
         return ExprShape::Fault(UNUSED, at);
     };
-    let left_shape = expr_walk(src, table, count, a, levels - 1, first, nodes + 1, next);
+    let below = levels - 1;
+    let left_shape = expr_walk(src, table, count, a, below, base, nodes + 1, next);
     let ExprShape::Whole(left) = left_shape else {
         return left_shape;
     };
     let term = Term {
         tag: terms::OPERATION,
         value: o,
-        right: first + left.nodes,
+        right: base + left.nodes,
     };
-    store_term(table, first + nodes, term);
-    let right_shape = expr_walk(src, table, count, b, levels - 1, first, left.nodes, left.next);
+    store_term(table, base + nodes, term);
+    let right_shape = expr_walk(src, table, count, b, below, base, left.nodes, left.next);
     let ExprShape::Whole(right) = right_shape else {
         return right_shape;
     };
@@ -318,18 +319,18 @@ fn expr_walk(
     })
 }
 
-// The shape of the whole expression at a cursor. Its nodes are stored in the table from number `first` on.
+// The shape of the whole expression at a cursor. Its nodes are stored in the table from number `base` on.
 pub(crate) fn expr_shape(
     src: &[u8],
     table: &mut [u32],
     count: u32,
     wanted: Kind,
-    first: u32,
+    base: u32,
     at: usize,
 ) -> ExprShape
-    requires { ⌜ first ≤ 1953 ⌝ }
+    requires { ⌜ base ≤ 1953 ⌝ }
     ensures { λ r. ⌜ r ≡ exprShape wanted at (wholeExpr (now (src .entry)) count at) ⌝ }
-    ensures { λ r. ⌜ TermsStored (now (table .entry)) (now (table .exit)) first (wholeExpr (now (src .entry)) count at) ⌝ }
+    ensures { λ r. ⌜ TermsStored (now (table .entry)) (now (table .exit)) base (wholeExpr (now (src .entry)) count at) ⌝ }
 {
-    expr_walk(src, table, count, wanted, EXPR_LEVELS, first, 0, at)
+    expr_walk(src, table, count, wanted, EXPR_LEVELS, base, 0, at)
 }

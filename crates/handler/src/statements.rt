@@ -25,7 +25,7 @@ ghost use Prim.Native.Nat.{suc, _+_, _*_, _^_, _≤_, _<_, min, max};
 ghost use lib.ListN.{length};
 ghost use Rattle.bits.specs.Fields.{fieldAt};
 ghost use Rattle.states.specs.Sets.{capacity};
-ghost use Rattle.handler.specs.Shapes.{stmtShape, assignedOf, pairOf, testSteps, testedOf};
+ghost use Rattle.handler.specs.Shapes.{stmtShape, nilOf, assignedOf, pairOf, testSteps, testedOf};
 ghost use Rattle.handler.specs.Statements.{targetHead, codeHead, stmtHead, stmtAt};
 ghost use Rattle.handler.specs.StatementTable.{StatementsStored};
 ghost use Rattle.handler.specs.Terms.{ExprsStored};
@@ -94,6 +94,20 @@ fn capped(steps: u64) -> u64
     ensures { λ r. ⌜ r ≡ min steps (2 ^ 32) ⌝ }
 {
     if steps < PAST { steps } else { PAST }
+}
+
+// The shape of nil.
+fn nil_of(statements: u32, terms: u32, next: usize) -> StmtShape
+    ensures { λ r. ⌜ r ≡ nilOf statements terms next ⌝ }
+{
+    StmtShape::Whole(StmtSummary {
+        steps: 0,
+        error: KindError::Nowhere,
+        statements,
+        terms,
+        levels: 1,
+        next,
+    })
 }
 
 // The shape of an assignment, from that of its expression.
@@ -208,44 +222,45 @@ pub(crate) fn stmt_walk(
     if levels == 0 {
         return StmtShape::Fault(TOO_MANY, at);
     }
-    match stmt_head_at(src, count, levels - 1, before, at) {
+    let below = levels - 1;
+    let after = before + 1;
+    match stmt_head_at(src, count, below, before, at) {
         StmtHead::Nil(next) => {
-            store_statement(table, before, NIL, 0, before + 1, 0, at);
-            StmtShape::Whole(StmtSummary {
-                steps: 0,
-                error: KindError::Nowhere,
-                statements: before + 1,
-                terms,
-                levels: 1,
-                next,
-            })
+            store_statement(table, before, NIL, 0, after, 0, at);
+            nil_of(after, terms, next)
         }
         StmtHead::Assign(v, next) => {
-            store_statement(table, before, ASSIGNMENT, v, before + 1, terms, at);
+            store_statement(table, before, ASSIGNMENT, v, after, terms, at);
             let assigned = expr_shape(src, exprs, count, Kind::Integer, terms, next);
-            assigned_of(before + 1, terms, assigned)
+            assigned_of(after, terms, assigned)
         }
         StmtHead::Pair(code, next) => {
-            let first = stmt_walk(src, table, exprs, count, n, levels - 1, before + 1, terms, next);
+            let first = stmt_walk(src, table, exprs, count, n, below, after, terms, next);
             let StmtShape::Whole(left) = first else {
                 return first;
             };
             store_statement(table, before, code, 0, left.statements, 0, at);
-            let second = stmt_walk(src, table, exprs, count, n, levels - 1, left.statements, left.terms, left.next);
+            let so_far = left.statements;
+            let used = left.terms;
+            let then = left.next;
+            let second = stmt_walk(src, table, exprs, count, n, below, so_far, used, then);
             pair_of(left, second)
         }
-        StmtHead::Test(code, next) => match expr_shape(src, exprs, count, Kind::Truth, terms, next) {
-            ExprShape::Fault(fault, place) => StmtShape::Fault(fault, place),
-            ExprShape::Whole(test) => {
-                let inner = terms + test.nodes;
-                let second = stmt_walk(src, table, exprs, count, n, levels - 1, before + 1, inner, test.next);
-                let StmtShape::Whole(body) = second else {
-                    return second;
-                };
-                store_statement(table, before, code, 0, body.statements, terms, at);
-                tested_of(n, code, test, body)
+        StmtHead::Test(code, next) => {
+            match expr_shape(src, exprs, count, Kind::Truth, terms, next) {
+                ExprShape::Fault(fault, place) => StmtShape::Fault(fault, place),
+                ExprShape::Whole(test) => {
+                    let inner = terms + test.nodes;
+                    let then = test.next;
+                    let second = stmt_walk(src, table, exprs, count, n, below, after, inner, then);
+                    let StmtShape::Whole(body) = second else {
+                        return second;
+                    };
+                    store_statement(table, before, code, 0, body.statements, terms, at);
+                    tested_of(n, code, test, body)
+                }
             }
-        },
+        }
         StmtHead::Fault(fault, place) => StmtShape::Fault(fault, place),
     }
 }

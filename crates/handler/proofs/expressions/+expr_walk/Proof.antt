@@ -119,8 +119,8 @@ small-left t c = shape-small _ _ _ _ _ _ _ (left-is t c)
 small-right : (t : ℕ) (c : RightRead t) → FewNodes (c .before .right-shape .given .0 .0)
 small-right t c = shape-small _ _ _ _ _ _ _ (right-is t c)
 
-first-small : (t : ℕ) (c : LeftRead t) → start t (head-of t (operation-of t (row-of-left t c))) .args .first < 1954
-first-small t c = omega (arith, start t (head-of t (operation-of t (row-of-left t c))) .pre)
+base-small : (t : ℕ) (c : LeftRead t) → start t (head-of t (operation-of t (row-of-left t c))) .args .base < 1954
+base-small t c = omega (arith, start t (head-of t (operation-of t (row-of-left t c))) .pre)
 
 leaf-requires : (t : ℕ) → lts.Need-leaf-term-requires (callees t) (now-at t) expr-walk.Post
 leaf-requires t c κs = head-fits _ _ _ _ _ (sym (c .before .before .expr-head-at .ensures))
@@ -142,7 +142,7 @@ leaf-returns t c =
     let head = sym (h .expr-head-at .ensures) in (
       rw (expr-step _ _ _ _ _ (h .expr-head-at .result) (more t h) head, childless (h .expr-head-at .result) (k .match .keys2) _ _ (λ _ place. bad 14 place)) (c .leaf-of .ensures),
       leaf-filled _ _ _ _ _ _ (more t h) _ head (k .match .keys2) _ _
-      (rw (c .before .before .before .before .leaf-term .ensures .0) at (c .before .before .before .store-term .ensures)),
+          (rw (c .before .before .before .before .leaf-term .ensures .0) at (c .before .before .before .store-term .ensures)),
     )
 
 row-returns : (t : ℕ) → lts.Need-returns-3 (callees t) (now-at t) expr-walk.Post
@@ -175,9 +175,9 @@ op-returns t c =
     let a = operation-of t b in
     let left = shaped _ _ _ _ (left-is t l) in (
       rw (c .before .before .wanted-of .ensures, c .before .before .before .earlier-of .ensures)
-      (op-shape _ _ _ _ _ _ _ (more t (head-of t a)) (head-is t a) _ _ _ _ (row-is t b) _ (left-is t l) _ (right-is t r)),
+          (op-shape _ _ _ _ _ _ _ (more t (head-of t a)) (head-is t a) _ _ _ _ (row-is t b) _ (left-is t l) _ (right-is t r)),
       operation-filled _ _ _ _ _ _ (more t (head-of t a)) _ _ (head-is t a) (left .tree) _ _ (left .was) _ _ _ _
-      (l .before .before .before .before .before .expr-walk .ensures .1) (r .before .before .before .before .before .before .before .before .before .store-term2 .ensures) (r .before .before .before .before .before .expr-walk2 .ensures .1),
+          (l .before .before .before .before .before .expr-walk .ensures .1) (r .before .before .before .before .before .before .before .before .before .store-term2 .ensures) (r .before .before .before .before .before .expr-walk2 .ensures .1),
     )
 
 pub +expr-walk-spec : {M : Type 1} → statement M
@@ -193,10 +193,9 @@ pub +expr-walk-spec : {M : Type 1} → statement M
     (λ c κs. (search needs, omega (arith, room t (operation-of t (c .before)), start t (head-of t (operation-of t (c .before))) .pre)))
     (λ c. search needs) (λ c. search needs) (λ c. search needs)
     (left-returns t)
-    (λ c. omega (arith, small-left t (c .before), first-small t (c .before)))
-    (λ c. omega (arith, room t (operation-of t (row-of-left t (c .before .before))), first-small t (c .before .before)))
-    (λ c κs. record { tag = omega arith; value = omega (arith, room t (operation-of t (row-of-left t (c .before .before)))); right = omega (arith, small-left t (c .before .before), first-small t (c .before .before)) })
-    (λ c. search needs)
+    (λ c. omega (arith, small-left t (c .before), base-small t (c .before)))
+    (λ c. omega (arith, room t (operation-of t (row-of-left t (c .before .before))), base-small t (c .before .before)))
+    (λ c κs. record { tag = omega arith; value = omega (arith, room t (operation-of t (row-of-left t (c .before .before)))); right = omega (arith, small-left t (c .before .before), base-small t (c .before .before)) })
     (right-requires t)
     (λ c. search needs) (λ c. search needs) (λ c. search needs)
     (right-returns t)

@@ -12,7 +12,7 @@ unfolding wholeExpr
 returns c =
     let w = c .before .before in
     let a = w .before .before .before .before .args in
-    let here : a .first + 0 ≡ a .first = omega arith in
+    let here : a .base + 0 ≡ a .base = omega arith in
     (w .expr-walk .ensures .0, rw here at (w .expr-walk .ensures .1))
 
 pub expr-shape-spec : {M : Type 1} → statement M

@@ -1,12 +1,12 @@
 -- The first i words are 0, and the others are as they were.
 use Prim.Native.Nat.{ℕ, zero, suc, _-_, _≤_}
-use mathlib.Core.List.{List, [], _∷_, _++_, append-nil}
+use mathlib.Core.List.{List, _∷_, _++_, append-nil}
 use mathlib.Core.Path.{_≡_, refl, ap, _∙_}
 use native.Mathlib.Numerals.{add-one}
 use native.Mathlib.Omega.{arith}
 use borrow.Author.Needs.{needs}
 use lib.ListN.{length, drop, replicate, set, length-append, length-replicate, length-drop, drop-of-length-le}
-use lib.Seq.{drop-cons, set-append-seam}
+use lib.Seq.{drop-cons}
 use Rattle.handler.proofs.reading.clear.Statement.{statement}
 use Rattle.handler.proofs.reading.clear.Tie as tie
 

@@ -24,6 +24,7 @@ use Rattle.handler.proofs.statements.stmt_walk.Kinds as stmt-walk-kinds
 use Rattle.handler.proofs.statements.+stmt_walk.Lts-stmt_walk as lts
 use Rattle.handler.proofs.expressions.expr_shape.Reads as expr-shape-reads
 use Rattle.handler.proofs.statements.assigned_of.Reads as assigned-of-reads
+use Rattle.handler.proofs.statements.nil_of.Reads as nil-of-reads
 use Rattle.handler.proofs.statements.pair_of.Reads as pair-of-reads
 use Rattle.handler.proofs.statements.stmt_head_at.Reads as stmt-head-at-reads
 use Rattle.handler.proofs.statements.tested_of.Reads as tested-of-reads
@@ -44,6 +45,8 @@ callees t = (
   stmt-head-at-reads.Learnt,
   store-reads.Asked,
   store-reads.Learnt,
+  nil-of-reads.Asked,
+  nil-of-reads.Learnt,
   expr-shape-reads.Asked,
   expr-shape-reads.Learnt,
   assigned-of-reads.Asked,
@@ -224,12 +227,12 @@ body-returns t c =
 nil-returns : (t : ℕ) → lts.Need-returns-4 (callees t) (stmt-walk-at t) stmt-walk.Post
 unfolding stmtShape
 nil-returns t c =
-    let k = c .before .before .before .before in
+    let k = c .before .before .before .before .before in
     let h = k .before .before .before in
     let head = head-is t h _ (k .before .next .given .1) in
     let terms : start t h .args .terms + 0 ≡ start t h .args .terms = omega arith in (
-      rw (stmt-step _ _ _ _ _ _ (more t h) head, add-one, terms),
-      (nil-filled _ _ _ _ _ _ (more t h) _ head _ _ (c .before .before .store-statement .ensures), nil-exprs _ _ _ _ _ _ (more t h) _ head _),
+      c .nil-of .ensures ∙ rw (stmt-step _ _ _ _ _ _ (more t h) head, add-one, terms),
+      (nil-filled _ _ _ _ _ _ (more t h) _ head _ _ (c .before .before .before .store-statement .ensures), nil-exprs _ _ _ _ _ _ (more t h) _ head _),
     )
 
 assign-returns : (t : ℕ) → lts.Need-returns-5 (callees t) (stmt-walk-at t) stmt-walk.Post
@@ -258,7 +261,7 @@ pair-returns t c =
       rw (c .pair-of .ensures, second .ensures .0) (pair-shape _ _ _ _ _ _ _ (more t h) _ _ head _ (left-is t l)),
       (
         pair-filled _ _ _ _ _ _ (more t h) _ _ head (left .tree) _ _ (left .was) _ _ _ _
-        (first .ensures .1 .0) (c .before .before .before .before .before .before .before .before .before .before .store-statement3 .ensures) (rw terms at (second .ensures .1 .0)),
+            (first .ensures .1 .0) (c .before .before .before .before .before .before .before .before .before .before .store-statement3 .ensures) (rw terms at (second .ensures .1 .0)),
         pair-exprs _ _ _ _ _ _ (more t h) _ _ head (left .tree) _ _ (left .was) _ _ _ (first .ensures .1 .1) (rw terms at (second .ensures .1 .1)),
       ),
     )
@@ -284,7 +287,7 @@ tested-returns t c =
       c .tested-of .ensures ∙ test-shape _ _ _ _ _ _ _ (more t h) _ _ head _ (test-is t r) _ (body-is t b),
       (
         test-filled _ _ _ _ _ _ (more t h) _ _ head (test .tree) _ _ (test .was) (body .tree) _ _ (body .was) _ _ _
-        (second .ensures .1 .0) (c .before .before .before .store-statement4 .ensures),
+            (second .ensures .1 .0) (c .before .before .before .store-statement4 .ensures),
         test-exprs _ _ _ _ _ _ (more t h) _ _ head (test .tree) _ _ (test .was) _ _ _ (r .before .before .before .before .before .expr-shape2 .ensures .1) (second .ensures .1 .1),
       ),
     )
@@ -299,26 +302,23 @@ fault-returns t c =
 pub +stmt-walk-spec : {M : Type 1} → statement M
 +stmt-walk-spec = close μ-stmt-walk λ t. lts.spec (callees t) (stmt-walk-at t) stmt-walk.Post
     (stmt-walk-returns t)
-    (λ c. search needs) (λ c κs. search needs) (λ c. search needs) (λ c. search needs)
+    (λ c. search needs) (λ c. search needs) (λ c κs. search needs) (λ c. search needs)
     (nil-store t)
-    (λ c. search needs) (λ c. search needs) (λ c. search needs)
+    (λ c κs. search needs) (λ c. search needs)
     (assign-store t)
     (assign-expr t)
-    (λ c. search needs)
     (assigned-requires t)
-    (λ c. search needs) (λ c. search needs) (λ c. search needs)
-    (λ c κs. omega (arith, pair-room t (c .before .before), start t (head-of-pair t (c .before .before)) .pre))
+    (λ c. search needs)
+    (λ c κs. let h = head-of-pair t (c .before .before) in omega (arith, more t h, pair-room t (c .before .before), start t h .pre))
     (λ c. search needs) (λ c. search needs) (λ c. search needs) (λ c. search needs)
     (left-returns t)
     (pair-store t)
-    (λ c. search needs)
     (right-requires t)
     (pair-requires t)
     (λ c. search needs)
     (λ c κs. omega (arith, start t (c .before .before .before .before) .pre))
     (λ c. search needs) (λ c. search needs)
     (λ c. omega (arith, body-room t (c .before)))
-    (λ c. search needs) (λ c. search needs)
     (λ c κs. let h = head-of-test t (test-of-expr t (c .before .before .before)) in omega (arith, more t h, body-room t (c .before .before .before), start t h .pre))
     (λ c. search needs) (λ c. search needs) (λ c. search needs) (λ c. search needs)
     (body-returns t)
