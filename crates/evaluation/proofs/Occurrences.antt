@@ -1,11 +1,11 @@
 -- How often the variables of a mask occur in an expression of a table, from one level to the next.
-use Prim.Native.Nat.{ℕ, suc, _+_, _-_, _^_, _≤_, _<_}
+use Prim.Native.Nat.{ℕ, _+_, _-_, _^_, _≤_, _<_}
 use native.Mathlib.Nat.{zero-div}
 use native.Mathlib.Omega.{arith}
 use mathlib.Core.Bool.{Bool, true, false, cond}
 use mathlib.Core.List.{List}
 use mathlib.Core.Path.{_≡_, refl, ap₂, _∙_}
-use borrow.Author.Tests.{ne-eqb, eqb-true, eqb-false}
+use borrow.Author.Tests.{eqb-false}
 use lib.Dec.{eqb}
 use Rattle.semantics.specs.Language.{Expr, lit, var, op}
 use Rattle.semantics.specs.Conditions.{occurrences}
@@ -37,9 +37,6 @@ module _ (table : List ℕ) (mask levels i : ℕ) where
   no-level none-left = rw none-left (refl, omega arith)
 
   module _ (more : 0 < levels) where
-    below : ℕ → Expr
-    below = exprFrom (levels - 1) table
-
     few : (r : ℕ) → r ≤ 1 → r < doubled 1 levels
     few r h = omega (arith, doubled-step 1 levels more, doubled-least 1 (levels - 1))
 
@@ -69,5 +66,5 @@ module _ (table : List ℕ) (mask levels i : ℕ) where
         → (a ≡ occurrences (inMask mask) (exprFrom (levels - 1) table (i + 1))) × (a < doubled 1 (levels - 1))
         → (b ≡ occurrences (inMask mask) (exprFrom (levels - 1) table (termIn table i .right))) × (b < doubled 1 (levels - 1)) → Counted (a + b)
     both-occur last a b left right =
-        (rw (term-step table levels i more, is-operation (termIn table i) (exprFrom (levels - 1) table (i + 1)) (exprFrom (levels - 1) table (termIn table i .right)) last)
-        (ap₂ (λ x y. x + y) (left .0) (right .0)), omega (arith, doubled-step 1 levels more, left .1, right .1))
+        let operands = is-operation (termIn table i) (exprFrom (levels - 1) table (i + 1)) (exprFrom (levels - 1) table (termIn table i .right)) last in
+        (rw (term-step table levels i more, operands) (ap₂ (λ x y. x + y) (left .0) (right .0)), omega (arith, doubled-step 1 levels more, left .1, right .1))

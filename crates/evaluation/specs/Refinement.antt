@@ -37,7 +37,7 @@ andCode = 5
 abbrev pub exprLevels : ℕ
 exprLevels = 32
 
--- A number, doubled so often.
+-- b, doubled k times.
 abbrev pub doubled : ℕ → ℕ → ℕ
 doubled b zero = b
 doubled b (suc k) = 2 * doubled b k

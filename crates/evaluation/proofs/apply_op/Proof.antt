@@ -49,7 +49,7 @@ returns-3 c =
     let a = k .args in
     λ s l. (
       rw (made .0) (mixed-kinds (a .o) (a .left .kind) (a .right .kind) (integerIn (a .left) s) (integerIn (a .right) s)
-      (has (a .left .truths) s) (has (a .right .truths) s) (c .before .if1 .left) (k .pre .1) (k .pre .2)),
+          (has (a .left .truths) s) (has (a .right .truths) s) (c .before .if1 .left) (k .pre .1) (k .pre .2)),
       rw (made .1 s) (omega arith),
     )
 
