@@ -1,4 +1,4 @@
--- Laws for callers: the variables of a head, and the expression at a cursor.
+-- Laws for callers: the variables of a head.
 use Prim.Native.Nat.{ℕ, suc, _/_, _≤_, _<_}
 use native.Mathlib.Nat.{mod-one, mod-lt}
 use native.Mathlib.Omega.{arith}
@@ -19,17 +19,11 @@ use Rattle.semantics.specs.Conditions.{afterStore}
 use Rattle.semantics.proofs.Storing.{store-read}
 use Rattle.handler.specs.declared.head.Head.{Head}
 use Rattle.handler.specs.Header.{isHead, sizesIn, machineIn}
-use Rattle.handler.specs.Expressions.{good, wholeExpr}
 use Rattle.handler.proofs.Heads.{size-past, known-head}
 use Rattle.evaluation.specs.declared.Variable.{Variable}
-use Rattle.evaluation.specs.Values.{exprIn, leadsTo, agree, variableIn, valueBy, isSmall, agreeIn}
-use Rattle.evaluation.specs.Refinement.{nodeBound, storedBy}
+use Rattle.evaluation.specs.Values.{leadsTo, agree, variableIn, valueBy, isSmall, agreeIn}
+use Rattle.evaluation.specs.Refinement.{leafBound, storedBy}
 use Rattle.evaluation.proofs.Sizes.{later-sizes, one-size}
-
--- The expression at a cursor is the one that is read there, if there is one.
-pub expr-whole : (bytes : List ℕ) (count at : ℕ) (e : Expr) (nodes next : ℕ) → wholeExpr bytes count at ≡ good e nodes next → exprIn bytes count at ≡ e
-unfolding exprIn
-expr-whole bytes count at e nodes next read = rw read
 
 -- A variable that is not declared has the same value at all states.
 pub get-past : (head : Head) (v s t : ℕ) → head .count ≤ v → machineIn head .get s v ≡ machineIn head .get t v
@@ -130,7 +124,7 @@ variable-states head v = by (isHead head) refl
 
 pub variable-values : (head : Head) (v n : ℕ) (x : Variable) (values : List ℤ) → x ≡ variableIn head v → n ≡ machineIn head .states
     → ((s : ℕ) → s < n → getD values s (pos 0) ≡ pos (valueBy x s))
-    → (s : ℕ) → s < n → (getD values s (pos 0) ≡ machineIn head .get s v) × (mag (getD values s (pos 0)) < nodeBound)
+    → (s : ℕ) → s < n → (getD values s (pos 0) ≡ machineIn head .get s v) × (mag (getD values s (pos 0)) < leafBound)
 unfolding machineIn variableIn
 variable-values head v n x values is all each s l =
     let known = small x (ap isSmall is ∙ variable-small head v) in

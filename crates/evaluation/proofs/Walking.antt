@@ -1,27 +1,64 @@
--- What a walk promises about its row at each kind of node: the values of a leaf, and those of an operation from the rows of its
--- operands. If an operand's row has no values, it is the row of the operation too.
-use Prim.Native.Nat.{ℕ, suc, _+_, _-_, _*_, _≤_, _<_}
+-- What a walk promises about its row: the values of a leaf, and those of an operation from the rows of its operands. If an operand's
+-- row has no values, it is the row of the operation too.
+use Prim.Native.Nat.{ℕ, zero, suc, _+_, _-_, _*_, _≤_, _<_}
+use native.Mathlib.Numerals.{add-one}
 use native.Mathlib.Omega.{arith}
-use mathlib.Core.Bool.{Bool}
+use mathlib.Core.Bool.{Bool, true, false, cond}
 use mathlib.Core.List.{List, [], _∷_}
 use mathlib.Core.Option.{Option, none, some}
 use mathlib.Core.Path.{_≡_, refl, sym, ap, _∙_}
-use lib.IntN.{ℤ, pos}
-use lib.ListN.{getD, replicate, getD-replicate, List·getD-eq-default}
+use borrow.Author.Tests.{ne-eqb, ltb-true, ltb-false}
+use lib.Dec.{ltb, eqb}
+use lib.IntN.{ℤ, pos, negsuc}
+use lib.ListN.{length, getD, replicate, getD-replicate, List·getD-eq-default}
 use lib.Signed.{mag}
 use Rattle.states.specs.declared.StateSet.{StateSet}
 use Rattle.states.specs.Sets.{capacity, has}
-use Rattle.semantics.specs.Language.{Val, int, truth, Expr, lit, var, apply}
+use Rattle.semantics.specs.Language.{Val, int, truth, Expr, op, apply}
 use Rattle.semantics.specs.States.{Machine, value, both}
 use Rattle.handler.specs.declared.head.Head.{Head}
+use Rattle.handler.specs.declared.terms.Term.{Term}
 use Rattle.handler.specs.Header.{machineIn}
-use Rattle.handler.specs.declared.expressions.ExprHead.{ExprHead}
-use Rattle.handler.specs.declared.expressions.ExprHead.the-variants as head
-use Rattle.handler.specs.Expressions.{exprHead, ExprRead, good, bad, joined, operands, onExprHead, exprAt, wholeExpr}
-use Rattle.handler.proofs.Folds.{Headed, headed-as, expr-step, inner-step}
+use Rattle.handler.specs.Terms.{signed16, termOf, termIn, onTerm, exprFrom, exprIn}
 use Rattle.evaluation.specs.declared.Values.{Values}
-use Rattle.evaluation.specs.Values.{exprRead, exprIn}
-use Rattle.evaluation.specs.Refinement.{integersKind, truthsKind, nothingKind, mostNodes, exprLevels, nodeBound, operandsBound, integerIn, valueIn, Applied, Walked, Evaluated}
+use Rattle.evaluation.specs.Refinement.{integersKind, truthsKind, nothingKind, exprLevels, doubled, leafBound, valueBound, integerIn, valueIn, Applied, LeafRow, Walked, Evaluated}
+
+-- Doubling.
+pub doubled-step : (b k : ℕ) → 0 < k → doubled b k ≡ 2 * doubled b (k - 1)
+doubled-step b zero more = absurd (omega arith)
+doubled-step b (suc k) more = let less : suc k - 1 ≡ k = omega arith in rw less
+
+pub doubled-least : (b k : ℕ) → b ≤ doubled b k
+doubled-least b zero = omega arith
+doubled-least b (suc k) = omega (arith, doubled-least b k)
+
+pub doubled-most : (b k n : ℕ) → k ≤ n → doubled b k ≤ doubled b n
+doubled-most b zero n h = doubled-least b n
+doubled-most b (suc k) zero h = absurd (omega arith)
+doubled-most b (suc k) (suc n) h = omega (arith, doubled-most b k n (omega arith))
+
+-- One level of an expression, with `levels - 1` below it as in the code.
+pub term-step : (table : List ℕ) (levels i : ℕ) → 0 < levels
+    → exprFrom levels table i ≡ onTerm (termIn table i) (exprFrom (levels - 1) table (i + 1)) (exprFrom (levels - 1) table (termIn table i .right))
+unfolding exprFrom
+term-step table zero i more = absurd (omega arith)
+term-step table (suc levels) i more = let less : suc levels - 1 ≡ levels = omega arith in rw (less, add-one i)
+
+pub is-operation : (x : Term) (l r : Expr) → 3 ≤ x .tag → onTerm x l r ≡ op (x .value) l r
+is-operation x l r last = rw (ne-eqb (x .tag) 0 (omega arith), ne-eqb (x .tag) 1 (omega arith), ne-eqb (x .tag) 2 (omega arith))
+
+-- Past the end of the table there are integers only, so the node after an operation has a number that fits.
+pub operation-inside : (table : List ℕ) (i : ℕ) → 3 ≤ termIn table i .tag → i < length table
+unfolding termIn termOf
+operation-inside table i last = by (ltb i (length table)) refl
+  where
+    by : (b : Bool) → ltb i (length table) ≡ b → i < length table
+    by true t = ltb-true i (length table) t
+    by false t = absurd (let none : getD table i 0 ≡ 0 = List·getD-eq-default table 0 (ltb-false i (length table) t) in omega (arith, last, none))
+
+pub value-small : (table : List ℕ) (i : ℕ) → termIn table i .value < 65536
+unfolding termIn termOf
+value-small table i = omega arith
 
 no-value : (row : Values) → nothingKind ≤ row .kind → (s : ℕ) → valueIn row s ≡ none
 no-value row past s = List·getD-eq-default (some (int (integerIn row s)) ∷ some (truth (has (row .truths) s)) ∷ []) none {n = row .kind} past
@@ -30,172 +67,87 @@ both-none : (f : Val → Val → Option Val) (a : Option Val) → both f a none 
 both-none f none = refl
 both-none f (some a) = refl
 
-module _ (n : ℕ) (m : Machine) where
-  -- What is known about a row with values.
-  pub record Valued (nodes : ℕ) (row : Values) (x : ExprRead) : Type 0 where
-    pub expr : Expr
-    pub read : x ≡ good expr (row .nodes) (row .next)
-    pub values : (s : ℕ) → s < n → valueIn row s ≡ value m expr s
-    pub more : nodes < row .nodes
-    pub room : row .nodes ≤ mostNodes
-    pub small : (s : ℕ) → s < n → mag (integerIn row s) < nodeBound * (row .nodes - nodes)
+signed-small : (n : ℕ) → n < 65536 → mag (signed16 n) < leafBound
+unfolding signed16
+signed-small n h = by (ltb n 32768)
+  where
+    by : (b : Bool) → mag (cond b (pos n) (negsuc (65535 - n))) < leafBound
+    by true = h
+    by false = omega arith
 
-  as-valued : (nodes : ℕ) (row : Values) → row .kind < nothingKind → (x : ExprRead) → Walked n m nodes row x → Valued nodes row x
-  as-valued nodes row valued (bad k place) w = absurd (omega arith)
-  as-valued nodes row valued (good e after next) w =
-      let k = w .1 valued in
-      rw (← k .0, ← k .1)
-      (record { expr = e; read = refl; values = w .0; more = rw (k .0) (k .2); room = rw (k .0) (k .3); small = λ s l. rw (k .0) (k .4 s l) })
+-- The rows of leaves.
+module _ (n : ℕ) (m : Machine) (x : Term) (row : Values) (a b : Expr) where
+  pub integer-row : n ≤ capacity → x .tag ≡ 0 → x .value < 65536
+      → (row .kind ≡ integersKind) × (row .integers ≡ replicate capacity (signed16 (x .value))) → LeafRow n m row (onTerm x a b)
+  integer-row most is low made =
+      record {
+        each = λ s l. rw (is, made .0, made .1, getD-replicate capacity s (signed16 (x .value)) (pos 0) (omega arith));
+        small = λ s l. rw (made .1, getD-replicate capacity s (signed16 (x .value)) (pos 0) (omega arith)) (signed-small (x .value) low);
+      }
 
-  left-none : (o nodes above : ℕ) (row : Values) → nothingKind ≤ row .kind → (x : ExprRead) → Walked n m nodes row x
-      → (f : ℕ → ℕ → ExprRead) → Walked n m above row (operands o x f)
-  left-none o nodes above row past (bad k place) w f = past
-  left-none o nodes above row past (good l after next) w f = right (f after next)
-    where
-      right : (y : ExprRead) → Walked n m above row (joined o l y)
-      right (bad k place) = past
-      right (good r last end) =
-          (λ s h. no-value row past s ∙ rw (sym (w .0 s h) ∙ no-value row past s), λ valued. absurd (omega arith))
+  pub truth-row : (set : StateSet) → n ≤ capacity → x .tag ≡ 1 → ((s : ℕ) → s < capacity → has set s ≡ eqb (x .value) 1)
+      → (row .kind ≡ truthsKind) × (row .truths ≡ set) × ((s : ℕ) → integerIn row s ≡ pos 0) → LeafRow n m row (onTerm x a b)
+  truth-row set most is always made =
+      record { each = λ s l. rw (is, made .0, made .1, always s (omega arith)); small = λ s l. rw (made .2 s) (omega arith) }
 
-  right-none : (o nodes above : ℕ) (l : Expr) (row : Values) → nothingKind ≤ row .kind → (y : ExprRead) → Walked n m nodes row y
-      → Walked n m above row (joined o l y)
-  right-none o nodes above l row past (bad k place) w = past
-  right-none o nodes above l row past (good r last end) w =
-      (λ s h. no-value row past s ∙ rw (sym (w .0 s h) ∙ no-value row past s, both-none (apply o) (value m l s)), λ valued. absurd (omega arith))
+  pub variable-row : (values : List ℤ) → x .tag ≡ 2
+      → ((s : ℕ) → s < n → (getD values s (pos 0) ≡ m .get s (x .value)) × (mag (getD values s (pos 0)) < leafBound))
+      → (row .kind ≡ integersKind) × (row .integers ≡ values) → LeafRow n m row (onTerm x a b)
+  variable-row values is each made =
+      record { each = λ s l. rw (is, made .0, made .1) (ap (λ z. some (int z)) (each s l .0)); small = λ s l. rw (made .1) (each s l .1) }
 
-  in-whole : (nodes : ℕ) (row : Values) (x : ExprRead) → Walked n m nodes row x → (s : ℕ) → s < n → valueIn row s ≡ value m (exprRead x) s
-  in-whole nodes row (good e after next) w s l = w .0 s l
-  in-whole nodes row (bad k place) w s l = no-value row w s
+-- Where a walk is, and how far it may go: the table, the states, the levels left, and the node's number.
+module _ (table : List ℕ) (n : ℕ) (m : Machine) (levels i : ℕ) where
+  -- Where no level is left.
+  pub walked-out : (row : Values) → levels ≡ 0 → (row .kind ≡ nothingKind) × ((s : ℕ) → integerIn row s ≡ pos 0)
+      → Walked n m levels row (exprFrom levels table i)
+  unfolding exprFrom
+  walked-out row none-left made =
+      record { each = λ s l. rw (none-left, made .0); small = λ s l. rw (none-left, made .1 s) (omega arith) }
 
--- Where a walk is, and how far it may go: the file, its number of variables, the states, the levels left, the nodes before, and the
--- cursor.
-pub record Place : Type 0 where
-  pub bytes : List ℕ
-  pub count : ℕ
-  pub n : ℕ
-  pub m : Machine
-  pub levels : ℕ
-  pub nodes : ℕ
-  pub at : ℕ
-  pub most : n ≤ capacity
-  pub more : 0 < levels
+  module _ (more : 0 < levels) where
+    pub walked-leaf : (row : Values) → ((a b : Expr) → LeafRow n m row (onTerm (termIn table i) a b)) → Walked n m levels row (exprFrom levels table i)
+    walked-leaf row made =
+        let known = made (exprFrom (levels - 1) table (i + 1)) (exprFrom (levels - 1) table (termIn table i .right)) in
+        rw (term-step table levels i more) (record { each = known .each; small = λ s l. omega (arith, known .small s l, doubled-least leafBound levels) })
 
--- What is read there, and what a walk promises about its row.
-abbrev pub headHere : Place → ExprHead
-headHere p = exprHead (p .bytes) (p .count) (p .nodes) (p .at)
+    module _ (last : 3 ≤ termIn table i .tag) (left : Values) (first : Walked n m (levels - 1) left (exprFrom (levels - 1) table (i + 1))) where
+      abbrev o : ℕ
+      o = termIn table i .value
 
-abbrev pub RowAt : Place → Values → Type 0
-RowAt p row = Walked (p .n) (p .m) (p .nodes) row (exprAt (p .levels) (p .bytes) (p .count) (p .nodes) (p .at))
+      step : exprFrom levels table i ≡ op o (exprFrom (levels - 1) table (i + 1)) (exprFrom (levels - 1) table (termIn table i .right))
+      step = term-step table levels i more ∙ is-operation (termIn table i) _ _ last
 
--- The same one level down, for an operand.
-abbrev pub OperandAt : Place → ℕ → ℕ → Values → Type 0
-OperandAt p nodes at row = Walked (p .n) (p .m) nodes row (exprAt (p .levels - 1) (p .bytes) (p .count) nodes at)
+      pub walked-left : nothingKind ≤ left .kind → Walked n m levels left (exprFrom levels table i)
+      walked-left past =
+          rw step (record {
+            each = λ s l. no-value left past s ∙ rw (sym (first .each s l) ∙ no-value left past s);
+            small = λ s l. omega (arith, doubled-step leafBound levels more, first .small s l);
+          })
 
-module _ (p : Place) where
-  step : (h : ExprHead) → headHere p ≡ h → exprAt (p .levels) (p .bytes) (p .count) (p .nodes) (p .at) ≡ onExprHead h (p .nodes) (exprAt (p .levels - 1) (p .bytes) (p .count))
-  step h = expr-step (p .bytes) (p .count) (p .levels) (p .nodes) (p .at) h (p .more)
+      module _ (right : Values) (second : Walked n m (levels - 1) right (exprFrom (levels - 1) table (termIn table i .right))) where
+        pub walked-right : nothingKind ≤ right .kind → Walked n m levels right (exprFrom levels table i)
+        walked-right past =
+            rw step (record {
+              each = λ s l. no-value right past s ∙ rw (sym (second .each s l) ∙ no-value right past s, both-none (apply o) (value m (exprFrom (levels - 1) table (i + 1)) s));
+              small = λ s l. omega (arith, doubled-step leafBound levels more, second .small s l);
+            })
 
-  pub known-at : (h : ExprHead) → headHere p ≡ h → Headed (p .count) (p .nodes) (p .at) h
-  known-at h = headed-as (p .bytes) (p .count) (p .nodes) (p .at) h
+        pub operands-small : levels ≤ exprLevels → (s : ℕ) → s < n → mag (integerIn left s) + mag (integerIn right s) < valueBound
+        operands-small few s l =
+            let most : doubled leafBound levels ≤ valueBound = doubled-most leafBound levels exprLevels few in
+            omega (arith, doubled-step leafBound levels more, most, first .small s l, second .small s l)
 
-  leaf : (e : Expr) (next : ℕ) (row : Values) → exprAt (p .levels) (p .bytes) (p .count) (p .nodes) (p .at) ≡ good e (suc (p .nodes)) next
-      → p .nodes < mostNodes → row .nodes ≡ p .nodes + 1 → row .next ≡ next
-      → ((s : ℕ) → s < p .n → (valueIn row s ≡ value (p .m) e s) × (mag (integerIn row s) < nodeBound)) → RowAt p row
-  leaf e next row read room counted ends each =
-      rw read (λ s l. each s l .0, λ valued. (omega arith, ends, omega arith, omega arith, λ s l. omega (arith, each s l .1)))
-
-  pub walked-integer : (z : ℤ) (next : ℕ) → headHere p ≡ head.Integer z next → (row : Values)
-      → (row .kind ≡ integersKind) × (row .nodes ≡ p .nodes + 1) × (row .next ≡ next) × (row .integers ≡ replicate capacity z) → RowAt p row
-  unfolding Headed
-  walked-integer z next e row made =
-      let known = known-at _ e in
-      leaf (lit (int z)) next row (step _ e) (known .0) (made .1) (made .2)
-      (λ s l. rw (made .0, made .3, getD-replicate capacity s z (pos 0) (omega (arith, p .most))) (refl, known .2))
-
-  pub walked-truth : (b : Bool) (next : ℕ) → headHere p ≡ head.Truth b next → (row : Values) (set : StateSet)
-      → (row .kind ≡ truthsKind) × (row .nodes ≡ p .nodes + 1) × (row .next ≡ next) × (row .truths ≡ set) × ((s : ℕ) → integerIn row s ≡ pos 0)
-      → ((s : ℕ) → s < capacity → has set s ≡ b) → RowAt p row
-  unfolding Headed
-  walked-truth b next e row set made always =
-      leaf (lit (truth b)) next row (step _ e) (known-at _ e .0) (made .1) (made .2)
-      (λ s l. (rw (made .0, made .3, always s (omega (arith, p .most))), rw (made .4 s) (omega arith)))
-
-  pub walked-variable : (v next : ℕ) → headHere p ≡ head.Variable v next → (row : Values) (values : List ℤ)
-      → ((s : ℕ) → s < p .n → (getD values s (pos 0) ≡ p .m .get s v) × (mag (getD values s (pos 0)) < nodeBound))
-      → (row .kind ≡ integersKind) × (row .nodes ≡ p .nodes + 1) × (row .next ≡ next) × (row .integers ≡ values) → RowAt p row
-  unfolding Headed
-  walked-variable v next e row values each made =
-      leaf (var v) next row (step _ e) (known-at _ e .0) (made .1) (made .2)
-      (λ s l. rw (made .0, made .3) (ap (λ z. some (int z)) (each s l .0), each s l .1))
-
-  pub walked-fault : (k place : ℕ) → headHere p ≡ head.Fault k place → (row : Values) → row .kind ≡ nothingKind → RowAt p row
-  walked-fault k place e row nothing = rw (step _ e) (omega arith)
-
--- Where no level is left.
-pub walked-out : (bytes : List ℕ) (count n : ℕ) (m : Machine) (levels nodes at : ℕ) (row : Values) → levels ≡ 0 → row .kind ≡ nothingKind
-    → Walked n m nodes row (exprAt levels bytes count nodes at)
-unfolding exprAt
-walked-out bytes count n m levels nodes at row none-left nothing = rw none-left (omega arith)
-
--- An operation whose left operand, at `first`, has been walked.
-pub record Operation : Type 0 where
-  pub place : Place
-  pub o : ℕ
-  pub first : ℕ
-  pub is : headHere place ≡ head.Operation o first
-  pub left : Values
-  pub walked : OperandAt place (place .nodes + 1) first left
-
-module _ (q : Operation) where
-  abbrev p : Place
-  p = q .place
-
-  abbrev below : ℕ → ℕ → ExprRead
-  below = exprAt (p .levels - 1) (p .bytes) (p .count)
-
-  inner : exprAt (p .levels) (p .bytes) (p .count) (p .nodes) (p .at) ≡ operands (q .o) (below (p .nodes + 1) (q .first)) below
-  inner = inner-step (p .bytes) (p .count) (p .levels) (p .nodes) (p .at) (q .o) (q .first) (p .more) (q .is)
-
-  pub walked-left : nothingKind ≤ q .left .kind → RowAt p (q .left)
-  walked-left past = rw inner (left-none (p .n) (p .m) (q .o) (p .nodes + 1) (p .nodes) (q .left) past (below (p .nodes + 1) (q .first)) (q .walked) below)
-
-  -- The right operand comes after the left one, which has values.
-  module _ (valued : q .left .kind < nothingKind) where
-    pub known-left : Valued (p .n) (p .m) (p .nodes + 1) (q .left) (below (p .nodes + 1) (q .first))
-    known-left = as-valued (p .n) (p .m) (p .nodes + 1) (q .left) valued (below (p .nodes + 1) (q .first)) (q .walked)
-
-    module _ (right : Values) (r : OperandAt p (q .left .nodes) (q .left .next) right) where
-      pub walked-right : nothingKind ≤ right .kind → RowAt p right
-      walked-right past =
-          rw (inner, known-left .read) (right-none (p .n) (p .m) (q .o) (q .left .nodes) (p .nodes) (known-left .expr) right past (below (q .left .nodes) (q .left .next)) r)
-
-      module _ (also : right .kind < nothingKind) where
-        known-right : Valued (p .n) (p .m) (q .left .nodes) right (below (q .left .nodes) (q .left .next))
-        known-right = as-valued (p .n) (p .m) (q .left .nodes) right also (below (q .left .nodes) (q .left .next)) r
-
-        pub operands-small : (s : ℕ) → s < p .n → mag (integerIn (q .left) s) + mag (integerIn right s) < operandsBound
-        operands-small s h = omega (arith, known-left, known-right, known-left .small s h, known-right .small s h)
-
-        pub walked-both : (row : Values) → Applied (p .n) (λ s. both (apply (q .o)) (valueIn (q .left) s) (valueIn right s)) (q .left) right row → RowAt p row
+        pub walked-both : (row : Values) → Applied n (λ s. both (apply o) (valueIn left s) (valueIn right s)) left right row
+            → Walked n m levels row (exprFrom levels table i)
         walked-both row made =
-            rw (inner, known-left .read, known-right .read) (
-              λ s h. made .2 s h .0 ∙ rw (known-left .values s h, known-right .values s h),
-              λ valued. (
-                made .0,
-                made .1,
-                omega (arith, known-left, known-right),
-                known-right .room,
-                λ s h. omega (arith, known-left, known-right, known-left .small s h, known-right .small s h, made .2 s h .1),
-              ),
-            )
+            rw step (record {
+              each = λ s l. made s l .0 ∙ rw (first .each s l, second .each s l);
+              small = λ s l. omega (arith, doubled-step leafBound levels more, first .small s l, second .small s l, made s l .1);
+            })
 
--- The whole expression at a cursor, from the row of a walk with all levels left.
-pub whole-row : (head : Head) (bytes : List ℕ) (at n : ℕ) (row : Values) → n ≡ machineIn head .states
-    → Walked n (machineIn head) 0 row (exprAt exprLevels bytes (head .count) 0 at) → Evaluated head bytes at row
-unfolding exprIn wholeExpr
-whole-row head bytes at n row all w =
-    let x = exprAt exprLevels bytes (head .count) 0 at in
-    record {
-      each = λ s l. in-whole n (machineIn head) 0 row x w s (rw all l);
-      small = λ valued s l. let k = as-valued n (machineIn head) 0 row valued x w in omega (arith, k .room, k .small s (rw all l));
-    }
+-- A whole expression, from the row of a walk with all levels left.
+pub whole-row : (head : Head) (table : List ℕ) (expr n : ℕ) (row : Values) → n ≡ machineIn head .states
+    → Walked n (machineIn head) exprLevels row (exprFrom exprLevels table expr) → Evaluated head table expr row
+unfolding exprIn
+whole-row head table expr n row all w = record { each = λ s l. w .each s (rw all l); small = λ s l. w .small s (rw all l) }

@@ -1,27 +1,19 @@
--- The expression at a cursor of the file, where a store leads, and the states that agree in a variable.
-use Prim.Native.Nat.{ℕ, _/_, _%_}
+-- Masks of variables, where a store leads, and the states that agree in a variable.
+use Prim.Native.Nat.{ℕ, _/_, _%_, _^_}
 use mathlib.Core.Bool.{Bool, false, cond, _&&_}
-use mathlib.Core.List.{List}
 use mathlib.Core.Option.{Option, none, some}
 use lib.Dec.{leb, ltb, eqb}
-use lib.IntN.{pos}
 use lib.ListN.{getD}
 use Rattle.states.specs.Sets.{capacity}
-use Rattle.semantics.specs.Language.{Expr, lit, op, int, eqZ}
+use Rattle.semantics.specs.Language.{eqZ}
 use Rattle.semantics.specs.States.{Machine, weight}
 use Rattle.handler.specs.declared.head.Head.{Head}
 use Rattle.handler.specs.Header.{isHead, sizesIn}
-use Rattle.handler.specs.Expressions.{ExprRead, good, bad, wholeExpr}
 use Rattle.evaluation.specs.declared.Variable.{Variable}
 
--- What was read. Where nothing can be read, an expression with no variable and no value: there is no operation 7.
-abbrev pub exprRead : ExprRead → Expr
-exprRead (good e nodes next) = e
-exprRead (bad k place) = op 7 (lit (int (pos 0))) (lit (int (pos 0)))
-
--- The expression at a cursor of a file that declares `count` variables.
-unfoldable pub exprIn : List ℕ → ℕ → ℕ → Expr
-exprIn bytes count at = exprRead (wholeExpr bytes count at)
+-- Whether variable v is in a mask: whether bit v is 1.
+abbrev pub inMask : ℕ → ℕ → Bool
+inMask mask v = eqb (mask / 2 ^ v % 2) 1
 
 -- Whether a store leads to t; where there is no integer to store, it leads nowhere.
 abbrev pub leadsTo : Option ℕ → ℕ → Bool

@@ -2,27 +2,24 @@
 // states: each node gives a row, with a value for each state.
 mod pointwise;
 
-use handler::expressions::EXPR_LEVELS;
-use handler::expressions::ExprHead;
-use handler::expressions::ExprShape;
-use handler::expressions::expr_head_at;
-use handler::expressions::expr_shape;
 use handler::head::Head;
 use handler::head::is_head;
 use handler::head::size_of;
 use handler::head::states_in;
+use handler::terms;
+use handler::terms::Term;
+use handler::terms::term_at;
 use pointwise::always;
 use pointwise::compared;
 use pointwise::states_with;
 use pointwise::sum_row;
 use pointwise::variable_row;
-use semantics::Kind;
 use states::CAPACITY;
 use states::RELATION_WORDS;
 use states::StateSet;
 use states::entries::put_entry;
 ghost use mathlib.Core.Path.{_≡_};
-ghost use mathlib.Core.Bool.{true, _&&_};
+ghost use mathlib.Core.Bool.{true, cond, _&&_};
 ghost use mathlib.Core.Option.{none};
 ghost use Prim.Native.Nat.{ℕ, _+_, _≤_, _<_};
 ghost use lib.Dec.{ltb};
@@ -30,14 +27,13 @@ ghost use lib.IntN.{pos};
 ghost use lib.ListN.{getD};
 ghost use lib.Signed.{mag};
 ghost use Rattle.states.specs.Sets.{capacity, mem, has, entryAt};
-ghost use Rattle.semantics.specs.Language.{ofIntegers, ofTruths, apply};
+ghost use Rattle.semantics.specs.Language.{Expr, ofIntegers, ofTruths, apply};
 ghost use Rattle.semantics.specs.States.{both, weight, remainder};
 ghost use Rattle.semantics.specs.Conditions.{isTrue, isFalse, afterStore, occurrences};
 ghost use Rattle.handler.specs.Header.{isHead, sizesIn, machineIn};
-ghost use Rattle.handler.specs.Expressions.{exprAt};
-ghost use Rattle.handler.specs.Shapes.{inMask};
-ghost use Rattle.evaluation.specs.Values.{exprIn, leadsTo, variableIn, valueBy, isSmall, agreeIn};
-ghost use Rattle.evaluation.specs.Refinement.{integersKind, truthsKind, nothingKind, mostNodes, operandsBound, valueBound, integerIn, valueIn, Applied, Walked, Evaluated, storedBy};
+ghost use Rattle.handler.specs.Terms.{signed16, onTerm, exprFrom, exprIn};
+ghost use Rattle.evaluation.specs.Values.{inMask, leadsTo, variableIn, valueBy, isSmall, agreeIn};
+ghost use Rattle.evaluation.specs.Refinement.{integersKind, truthsKind, nothingKind, exprLevels, doubled, valueBound, integerIn, valueIn, Applied, LeafRow, Walked, Evaluated, storedBy};
 
 // The kinds of a row: an integer at each state, a truth value at each state, or no value.
 const INTEGERS: u32 = 0;
@@ -46,8 +42,11 @@ const TRUTHS: u32 = 1;
 
 const NOTHING: u32 = 2;
 
-// More than the magnitude of any value: an expression has at most 31 nodes, and each adds at most 128.
-const VALUE_BOUND: u32 = 3968;
+// The levels to which an expression is walked, one more than the 31 nodes of an expression of a file.
+const EXPR_LEVELS: u32 = 32;
+
+// More than the magnitude of any value: a constant has 16 bits, and each level above it adds at most one bit.
+const VALUE_BOUND: u64 = 281474976710656;
 
 // The codes of the operations + − < = > ∧ ∨, from 0. Those below LESS give an integer, those from LESS to below AND compare two
 // integers, and the last two take truth values.
@@ -61,12 +60,9 @@ const AND: u32 = 5;
 
 const OR: u32 = 6;
 
-// The value of an expression at each state, by kind; it has no value where its operands are of the wrong kinds. `nodes` counts the
-// nodes of the whole expression up to here, and `next` is the cursor after this part of it.
+// The value of an expression at each state, by kind; it has no value where its operands are of the wrong kinds.
 struct Values {
     kind: u32,
-    nodes: u32,
-    next: usize,
     integers: [i64; CAPACITY as usize],
     truths: StateSet,
 }
@@ -122,40 +118,33 @@ pub fn variable_of(head: Head, v: u32) -> Variable
 }
 
 // A row with no value at any state.
-fn nothing(nodes: u32, next: usize) -> Values
-    ensures { λ r. ⌜ (r .kind ≡ nothingKind) × (r .nodes ≡ nodes) × (r .next ≡ next) × ((s : ℕ) → integerIn r s ≡ pos 0) ⌝ }
+fn nothing() -> Values
+    ensures { λ r. ⌜ (r .kind ≡ nothingKind) × ((s : ℕ) → integerIn r s ≡ pos 0) ⌝ }
 {
     Values {
         kind: NOTHING,
-        nodes,
-        next,
         integers: [0; CAPACITY as usize],
         truths: StateSet::empty(),
     }
 }
 
 // A row with an integer at each state.
-fn integers_of(nodes: u32, next: usize, integers: [i64; CAPACITY as usize]) -> Values
-    ensures { λ r. ⌜ (r .kind ≡ integersKind) × (r .nodes ≡ nodes) × (r .next ≡ next) × (r .integers ≡ integers) ⌝ }
+fn integers_of(integers: [i64; CAPACITY as usize]) -> Values
+    ensures { λ r. ⌜ (r .kind ≡ integersKind) × (r .integers ≡ integers) ⌝ }
 {
     Values {
         kind: INTEGERS,
-        nodes,
-        next,
         integers,
         truths: StateSet::empty(),
     }
 }
 
 // A row with a truth value at each state.
-fn truths_of(nodes: u32, next: usize, truths: StateSet) -> Values
-    ensures { λ r.
-        ⌜ (r .kind ≡ truthsKind) × (r .nodes ≡ nodes) × (r .next ≡ next) × (r .truths ≡ truths) × ((s : ℕ) → integerIn r s ≡ pos 0) ⌝ }
+fn truths_of(truths: StateSet) -> Values
+    ensures { λ r. ⌜ (r .kind ≡ truthsKind) × (r .truths ≡ truths) × ((s : ℕ) → integerIn r s ≡ pos 0) ⌝ }
 {
     Values {
         kind: TRUTHS,
-        nodes,
-        next,
         integers: [0; CAPACITY as usize],
         truths,
     }
@@ -163,17 +152,17 @@ fn truths_of(nodes: u32, next: usize, truths: StateSet) -> Values
 
 // The results of operation o on two integers, state by state.
 fn of_integers(n: u32, o: u32, left: Values, right: Values) -> Values
-    requires { ⌜ (n ≤ capacity) × ((s : ℕ) → s < n → mag (integerIn left s) + mag (integerIn right s) < operandsBound) ⌝ }
+    requires { ⌜ (n ≤ capacity) × ((s : ℕ) → s < n → mag (integerIn left s) + mag (integerIn right s) < valueBound) ⌝ }
     ensures { λ r. ⌜ Applied n (λ s. getD (ofIntegers (integerIn left s) (integerIn right s)) o none) left right r ⌝ }
 {
     let a = left.integers;
     let b = right.integers;
     if o < LESS {
-        integers_of(right.nodes, right.next, sum_row(n, o, a, b))
+        integers_of(sum_row(n, o, a, b))
     } else if o < AND {
-        truths_of(right.nodes, right.next, compared(n, o, a, b))
+        truths_of(compared(n, o, a, b))
     } else {
-        nothing(right.nodes, right.next)
+        nothing()
     }
 }
 
@@ -184,16 +173,16 @@ fn of_truths(n: u32, o: u32, left: Values, right: Values) -> Values
     let a = left.truths;
     let b = right.truths;
     match o {
-        AND => truths_of(right.nodes, right.next, a.meet(b)),
-        OR => truths_of(right.nodes, right.next, a.join(b)),
-        _ => nothing(right.nodes, right.next),
+        AND => truths_of(a.meet(b)),
+        OR => truths_of(a.join(b)),
+        _ => nothing(),
     }
 }
 
 // The results of operation o on its operands, both of which have values.
 fn apply_op(n: u32, o: u32, left: Values, right: Values) -> Values
     requires { ⌜ (n ≤ capacity) × (left .kind < nothingKind) × (right .kind < nothingKind)
-        × ((s : ℕ) → s < n → mag (integerIn left s) + mag (integerIn right s) < operandsBound) ⌝ }
+        × ((s : ℕ) → s < n → mag (integerIn left s) + mag (integerIn right s) < valueBound) ⌝ }
     ensures { λ r. ⌜ Applied n (λ s. both (apply o) (valueIn left s) (valueIn right s)) left right r ⌝ }
 {
     if left.kind == right.kind {
@@ -203,56 +192,74 @@ fn apply_op(n: u32, o: u32, left: Values, right: Values) -> Values
             of_truths(n, o, left, right)
         }
     } else {
-        nothing(right.nodes, right.next)
+        nothing()
     }
 }
 
-// The values at n states of the expression at a cursor, which is part of an expression with `nodes` nodes before it. A node adds at
-// most 128 to the magnitude of an integer, so the sums of 31 nodes fit. An operand without a value ends the walk, because then the
-// whole expression has none either.
-fn values_walk(src: &[u8], head: Head, n: u32, levels: u32, nodes: u32, at: usize) -> Values
-    requires { ⌜ (n ≡ machineIn head .states) × (nodes ≤ mostNodes) ⌝ }
-    ensures { λ r. ⌜ Walked n (machineIn head) nodes r (exprAt levels (now (src .entry)) (head .count) nodes at) ⌝ }
+// The value of 16 bits in two's complement.
+fn signed_of(value: u32) -> i64
+    requires { ⌜ value < 65536 ⌝ }
+    ensures { λ r. ⌜ r ≡ signed16 value ⌝ }
+{
+    if value < 32768 {
+        value as i64
+    } else {
+        value as i64 - 65536
+    }
+}
+
+// The values at n states of a node without operands.
+fn leaf_row(head: Head, n: u32, term: Term) -> Values
+    requires { ⌜ (n ≡ machineIn head .states) × (term .tag < 3) × (term .value < 65536) ⌝ }
+    ensures { λ r. ⌜ ((a b : Expr) → LeafRow n (machineIn head) r (onTerm term a b)) ⌝ }
+{
+    if term.tag == terms::INTEGER {
+        return integers_of([signed_of(term.value); CAPACITY as usize]);
+    }
+    if term.tag == terms::TRUTH {
+        return truths_of(always(term.value == 1));
+    }
+    let x = variable_of(head, term.value);
+    integers_of(variable_row(n, x.weight, x.size))
+}
+
+// The values at n states of the expression whose first node is number i of a table. A level adds at most one bit to the magnitude of
+// an integer, so the sums fit. An operand without a value ends the walk, because then the whole expression has none either.
+fn values_walk(exprs: &[u32], head: Head, n: u32, levels: u32, i: usize) -> Values
+    requires { ⌜ (n ≡ machineIn head .states) × (levels ≤ exprLevels) ⌝ }
+    ensures { λ r. ⌜ Walked n (machineIn head) levels r (exprFrom levels (now (exprs .entry)) i) ⌝ }
 {
     if levels == 0 {
-        return nothing(nodes, at);
+        return nothing();
     }
-    let node = expr_head_at(src, head.count, nodes, at);
-    match node {
-        ExprHead::Integer(z, next) => integers_of(nodes + 1, next, [z; CAPACITY as usize]),
-        ExprHead::Truth(b, next) => truths_of(nodes + 1, next, always(b)),
-        ExprHead::Variable(v, next) => {
-            let x = variable_of(head, v);
-            integers_of(nodes + 1, next, variable_row(n, x.weight, x.size))
-        }
-        ExprHead::Operation(o, next) => {
-            let left = values_walk(src, head, n, levels - 1, nodes + 1, next);
-            if left.kind >= NOTHING {
-                return left;
-            }
-            let right = values_walk(src, head, n, levels - 1, left.nodes, left.next);
-            if right.kind >= NOTHING {
-                return right;
-            }
-            apply_op(n, o, left, right)
-        }
-        ExprHead::Fault(_, place) => nothing(nodes, place),
+    let term = term_at(exprs, i);
+    if term.tag < terms::OPERATION {
+        return leaf_row(head, n, term);
     }
+    let left = values_walk(exprs, head, n, levels - 1, i + 1);
+    if left.kind >= NOTHING {
+        return left;
+    }
+    let right = values_walk(exprs, head, n, levels - 1, term.right as usize);
+    if right.kind >= NOTHING {
+        return right;
+    }
+    apply_op(n, term.value, left, right)
 }
 
-// The values of the whole expression at a cursor.
-fn values_at(src: &[u8], head: Head, at: usize) -> Values
-    ensures { λ r. ⌜ Evaluated head (now (src .entry)) at r ⌝ }
+// The values of a whole expression.
+fn values_at(exprs: &[u32], head: Head, expr: u32) -> Values
+    ensures { λ r. ⌜ Evaluated head (now (exprs .entry)) expr r ⌝ }
 {
-    values_walk(src, head, states_in(head), EXPR_LEVELS, 0, at)
+    values_walk(exprs, head, states_in(head), EXPR_LEVELS, expr as usize)
 }
 
-// The states at which the expression at a cursor is true, and those at which it is false.
-pub fn truths_at(src: &[u8], head: Head, at: usize) -> Truths
-    ensures holding { λ r. ⌜ ((s : ℕ) → has (r .holds) s ≡ isTrue (machineIn head) (exprIn (now (src .entry)) (head .count) at) s) ⌝ }
-    ensures failing { λ r. ⌜ ((s : ℕ) → has (r .fails) s ≡ isFalse (machineIn head) (exprIn (now (src .entry)) (head .count) at) s) ⌝ }
+// The states at which an expression is true, and those at which it is false.
+pub fn truths_at(exprs: &[u32], head: Head, expr: u32) -> Truths
+    ensures holding { λ r. ⌜ ((s : ℕ) → has (r .holds) s ≡ isTrue (machineIn head) (exprIn (now (exprs .entry)) expr) s) ⌝ }
+    ensures failing { λ r. ⌜ ((s : ℕ) → has (r .fails) s ≡ isFalse (machineIn head) (exprIn (now (exprs .entry)) expr) s) ⌝ }
 {
-    let row = values_at(src, head, at);
+    let row = values_at(exprs, head, expr);
     if row.kind != TRUTHS {
         let none = StateSet::empty();
         return Truths {
@@ -269,18 +276,45 @@ pub fn truths_at(src: &[u8], head: Head, at: usize) -> Truths
     }
 }
 
-// How many variable occurrences in the expression at a cursor are of variables in a mask. R usually moves no variable, and then
-// nothing is read.
-pub fn occurrences_at(src: &[u8], head: Head, mask: u32, at: usize) -> u32
-    ensures { λ r. ⌜ r ≡ occurrences (inMask mask) (exprIn (now (src .entry)) (head .count) at) ⌝ }
+// 1 if variable v is in the mask, otherwise 0. A mask has 32 bits.
+fn occurs_in(mask: u32, v: u32) -> u32
+    ensures { λ r. ⌜ r ≡ cond (inMask mask v) 1 0 ⌝ }
+{
+    if v >= 32 {
+        return 0;
+    }
+    (mask >> v) % 2
+}
+
+// How many variable occurrences are of variables in a mask, in the expression whose first node is number i of a table. A level at
+// most doubles their number.
+fn occurrences_walk(exprs: &[u32], mask: u32, levels: u32, i: usize) -> u32
+    requires { ⌜ levels ≤ exprLevels ⌝ }
+    ensures { λ r. ⌜ (r ≡ occurrences (inMask mask) (exprFrom levels (now (exprs .entry)) i)) × (r < doubled 1 levels) ⌝ }
+{
+    if levels == 0 {
+        return 0;
+    }
+    let term = term_at(exprs, i);
+    if term.tag < terms::VARIABLE {
+        return 0;
+    }
+    if term.tag == terms::VARIABLE {
+        return occurs_in(mask, term.value);
+    }
+    let left = occurrences_walk(exprs, mask, levels - 1, i + 1);
+    let right = occurrences_walk(exprs, mask, levels - 1, term.right as usize);
+    left + right
+}
+
+// How many variable occurrences in an expression are of variables in a mask. R usually moves no variable, and then nothing is read.
+pub fn occurrences_at(exprs: &[u32], mask: u32, expr: u32) -> u32
+    ensures { λ r. ⌜ r ≡ occurrences (inMask mask) (exprIn (now (exprs .entry)) expr) ⌝ }
 {
     if mask == 0 {
         return 0;
     }
-    let ExprShape::Whole(summary) = expr_shape(src, head.count, Kind::Integer, mask, at) else {
-        return 0;
-    };
-    summary.occurs
+    occurrences_walk(exprs, mask, EXPR_LEVELS, expr as usize)
 }
 
 // Whether there are no more states than a set can hold, and the weight and the size, by which states are divided, are not 0 and no
@@ -313,8 +347,8 @@ fn wrapped(size: u32, z: i64) -> u32
     requires { ⌜ (0 < size) × (size ≤ capacity) × (mag z < valueBound) ⌝ }
     ensures { λ r. ⌜ r ≡ remainder z size ⌝ }
 {
-    let lifted = z + (VALUE_BOUND * size) as i64;
-    lifted as u32 % size
+    let lifted = z + (VALUE_BOUND * size as u64) as i64;
+    (lifted as u64 % size as u64) as u32
 }
 
 // The state after a store of z at state s, from the value that the variable has there.
@@ -325,14 +359,14 @@ fn store(x: Variable, s: u32, value: i64, z: i64) -> u32
     s - value as u32 * x.weight + wrapped(x.size, z) * x.weight
 }
 
-// Where a store of the expression at a cursor in variable v leads: row s holds the one state after the store at s, or none where
+// Where a store of an expression in variable v leads: row s holds the one state after the store at s, or none where
 // the expression is no integer.
-pub fn successors(src: &[u8], head: Head, v: u32, at: usize) -> [u64; RELATION_WORDS]
+pub fn successors(exprs: &[u32], head: Head, v: u32, expr: u32) -> [u64; RELATION_WORDS]
     ensures { λ r. ⌜ ((s t : ℕ) → mem (entryAt r s) t
-        ≡ (ltb s (machineIn head .states) && leadsTo (afterStore (machineIn head) v (exprIn (now (src .entry)) (head .count) at) s) t)) ⌝ }
+        ≡ (ltb s (machineIn head .states) && leadsTo (afterStore (machineIn head) v (exprIn (now (exprs .entry)) expr) s) t)) ⌝ }
 {
     let mut rows = [0u64; RELATION_WORDS];
-    let row = values_at(src, head, at);
+    let row = values_at(exprs, head, expr);
     if row.kind != INTEGERS {
         return rows;
     }

@@ -15,7 +15,7 @@ ghost use lib.ListN.{getD};
 ghost use lib.Signed.{mag};
 ghost use Rattle.states.specs.Sets.{capacity, has};
 ghost use Rattle.semantics.specs.Language.{int, truth, ofIntegers};
-ghost use Rattle.evaluation.specs.Refinement.{lessCode, andCode, operandsBound};
+ghost use Rattle.evaluation.specs.Refinement.{lessCode, andCode, valueBound};
 
 // The number after x, or 0 after the last number below the limit.
 fn next_below(limit: u32, x: u32) -> u32
@@ -68,7 +68,7 @@ pub(crate) fn always(b: bool) -> StateSet
 
 // The sum of two integers where o is PLUS, their difference where it is the code of −. The operands are small, so the result fits.
 fn sum(o: u32, a: i64, b: i64) -> i64
-    requires { ⌜ (o < lessCode) × (mag a + mag b < operandsBound) ⌝ }
+    requires { ⌜ (o < lessCode) × (mag a + mag b < valueBound) ⌝ }
     ensures exact { λ r. ⌜ some (int r) ≡ getD (ofIntegers a b) o none ⌝ }
     ensures bounded { λ r. ⌜ mag r ≤ mag a + mag b + 1 ⌝ }
 {
@@ -82,7 +82,7 @@ pub(crate) fn sum_row(
     left: [i64; CAPACITY as usize],
     right: [i64; CAPACITY as usize],
 ) -> [i64; CAPACITY as usize]
-    requires { ⌜ (n ≤ capacity) × (o < lessCode) × ((s : ℕ) → s < n → mag (getD left s (pos 0)) + mag (getD right s (pos 0)) < operandsBound) ⌝ }
+    requires { ⌜ (n ≤ capacity) × (o < lessCode) × ((s : ℕ) → s < n → mag (getD left s (pos 0)) + mag (getD right s (pos 0)) < valueBound) ⌝ }
     ensures { λ r.
         ⌜ ((s : ℕ) → s < n → (some (int (getD r s (pos 0))) ≡ getD (ofIntegers (getD left s (pos 0)) (getD right s (pos 0))) o none)
         × (mag (getD r s (pos 0)) ≤ mag (getD left s (pos 0)) + mag (getD right s (pos 0)) + 1)) ⌝ }

@@ -1,135 +1,113 @@
 -- How the walk fills the table: a statement's own word is stored before the words of its parts, between them or after them.
 use Prim.Native.Nat.{ℕ, suc, _+_, _-_, _≤_, _<_}
 use mathlib.Core.Bool.{Bool, true, false, cond}
-use mathlib.Core.List.{List, [], _∷_, _++_}
+use mathlib.Core.List.{List, _∷_, _++_}
 use mathlib.Core.Path.{_≡_, refl, sym, ap, _∙_}
 use native.Mathlib.Numerals.{add-one}
 use native.Mathlib.Omega.{arith}
 use borrow.Author.Tests.{eqb-true, eqb-false}
 use lib.Dec.{eqb}
 use lib.ListN.{length, set}
-use lib.Seq.{sets, set-comm}
+use lib.Seq.{sets}
 use Rattle.semantics.specs.Language.{Expr, Stmt, seq, par, if, while}
 use Rattle.handler.specs.Expressions.{ExprRead, good, bad, wholeExpr}
 use Rattle.handler.specs.declared.table.Statement.{Statement}
 use Rattle.handler.specs.declared.StmtHead.the-variants.{Nil, Assign, Pair, Test}
 use Rattle.handler.specs.Statements.{stmtHead, StmtRead, whole, fault, onAssigned, onRight, stmtAt}
 use Rattle.handler.specs.Kinds.{width, stmtWidth}
+use Rattle.handler.specs.Terms.{exprNodes, stmtTerms}
 use Rattle.handler.specs.StatementTable.{statements, statementWord, wordOf, statementWords, StatementsStored}
 use Rattle.handler.specs.declared.StmtShape.the-variants as stmt
 use Rattle.handler.specs.Shapes.{stmtShape}
+use Rattle.handler.proofs.Stores.{one-filled, two-filled}
 use Rattle.handler.proofs.StatementTable.{length-statementWords}
 use Rattle.handler.proofs.StmtShapes.{stmt-faulted}
 use Rattle.handler.proofs.StmtFolds.{stmt-step, Marked, marked, whole-read, stmt-read}
 
--- Runs of stores.
-sets-append : (table : List ℕ) (i : ℕ) (xs ys : List ℕ) → sets table i (xs ++ ys) ≡ sets (sets table i xs) (i + length xs) ys
-sets-append table i [] ys = let here : i + 0 ≡ i = omega arith in rw here
-sets-append table i (x ∷ xs) ys =
-    let here : i + suc (length xs) ≡ suc i + length xs = omega arith in
-    rw here (sets-append (set table i x) (suc i) xs ys)
-
-set-sets : (table : List ℕ) (i j x : ℕ) (xs : List ℕ) → i < j → set (sets table j xs) i x ≡ sets (set table i x) j xs
-set-sets table i j x [] less = refl
-set-sets table i j x (y ∷ xs) less =
-    set-sets (set table j y) i (suc j) x xs (omega arith)
-    ∙ ap (λ l. sets l (suc j) xs) (set-comm table j i y x (λ same. let other : j ≡ i = same in omega arith))
-
-abbrev entry : ℕ → ℕ → ℕ → ℕ → Statement
-entry code target after expr = record { code = code; target = target; after = after; expr = expr }
-
--- A statement with one part, whose own word is stored last.
-one-filled : (table₀ table₁ table₂ : List ℕ) (before word : ℕ) (xs : List ℕ)
-    → table₁ ≡ sets table₀ (suc before) xs → table₂ ≡ set table₁ before word → table₂ ≡ sets table₀ before (word ∷ xs)
-one-filled table₀ table₁ table₂ before word xs first own = own ∙ ap (λ l. set l before word) first ∙ set-sets table₀ before (suc before) word xs (omega arith)
-
--- A statement with two parts, whose own word is stored between theirs.
-two-filled : (table₀ table₁ table₂ table₃ : List ℕ) (before so-far word : ℕ) (xs ys : List ℕ) → so-far ≡ suc before + length xs
-    → table₁ ≡ sets table₀ (suc before) xs → table₂ ≡ set table₁ before word → table₃ ≡ sets table₂ so-far ys
-    → table₃ ≡ sets table₀ before (word ∷ (xs ++ ys))
-two-filled table₀ table₁ table₂ table₃ before so-far word xs ys counted first own second =
-    second ∙ rw (counted, one-filled table₀ table₁ table₂ before word xs first own) (sym (sets-append (set table₀ before word) (suc before) xs ys))
+abbrev entry : ℕ → ℕ → ℕ → ℕ → ℕ → Statement
+entry code target after expr bit = record { code = code; target = target; after = after; expr = expr; bit = bit }
 
 -- The words of a statement, from the numbers that reading gives.
-pair-words : (b : Bool) (code before at so-far : ℕ) (l r : Stmt) → eqb code 2 ≡ b → 2 ≤ code → code < 4 → so-far ≡ suc before + statements l
-    → statementWords before at (cond b (seq l r) (par l r))
-    ≡ statementWord (entry code 0 so-far 0) ∷ (statementWords (suc before) (at + 3) l ++ statementWords so-far (at + 3 + stmtWidth l) r)
+pair-words : (b : Bool) (code before at i so-far : ℕ) (l r : Stmt) → eqb code 2 ≡ b → 2 ≤ code → code < 4 → so-far ≡ suc before + statements l
+    → statementWords before at i (cond b (seq l r) (par l r))
+    ≡ statementWord (entry code 0 so-far 0 at) ∷ (statementWords (suc before) (at + 3) i l ++ statementWords so-far (at + 3 + stmtWidth l) (i + stmtTerms l) r)
 unfolding wordOf
-pair-words true code before at so-far l r t least most counted =
+pair-words true code before at i so-far l r t least most counted =
     let is : code ≡ 2 = eqb-true code 2 t in
     rw (is, counted)
-pair-words false code before at so-far l r t least most counted =
+pair-words false code before at i so-far l r t least most counted =
     let other = eqb-false code 2 t in
     let is : code ≡ 3 = omega arith in
     rw (is, counted)
 
-test-words : (t : Bool) (code before at after : ℕ) (e : Expr) (b : Stmt) → eqb code 4 ≡ t → 4 ≤ code → code < 6 → after ≡ suc before + statements b
-    → statementWords before at (cond t (if e b) (while e b)) ≡ statementWord (entry code 0 after (at + 3)) ∷ statementWords (suc before) (at + 3 + width e) b
+test-words : (t : Bool) (code before at i after : ℕ) (e : Expr) (b : Stmt) → eqb code 4 ≡ t → 4 ≤ code → code < 6 → after ≡ suc before + statements b
+    → statementWords before at i (cond t (if e b) (while e b)) ≡ statementWord (entry code 0 after i at) ∷ statementWords (suc before) (at + 3 + width e) (i + exprNodes e) b
 unfolding wordOf
-test-words true code before at after e b t least most counted =
+test-words true code before at i after e b t least most counted =
     let is : code ≡ 4 = eqb-true code 4 t in
     rw (is, counted)
-test-words false code before at after e b t least most counted =
+test-words false code before at i after e b t least most counted =
     let other = eqb-false code 4 t in
     let is : code ≡ 5 = omega arith in
     rw (is, counted)
 
 -- What reading a statement does to a table, from what reading its parts does.
-module _ (bytes : List ℕ) (count levels before at : ℕ) (more : 0 < levels) where
+module _ (bytes : List ℕ) (count levels before at i : ℕ) (more : 0 < levels) where
   abbrev here : StmtRead
   here = stmtAt levels bytes count before at
 
   abbrev below : ℕ → ℕ → StmtRead
   below = stmtAt (levels - 1) bytes count
 
-  pub fault-filled : (N k place : ℕ) (table₀ table₁ : List ℕ) → stmt.Fault k place ≡ stmtShape N at here → StatementsStored table₀ table₁ before at here
-  fault-filled N k place table₀ table₁ e = rw (stmt-faulted N at here k place (sym e)) tt
+  pub fault-filled : (N k place : ℕ) (table₀ table₁ : List ℕ) → stmt.Fault k place ≡ stmtShape N i at here → StatementsStored table₀ table₁ before at i here
+  fault-filled N k place table₀ table₁ e = rw (stmt-faulted N i at here k place (sym e)) tt
 
   pub nil-filled : (next : ℕ) → stmtHead bytes count (levels - 1) before at ≡ Nil next → (table₀ table₁ : List ℕ)
-      → table₁ ≡ set table₀ before (statementWord (entry 0 0 (before + 1) 0)) → StatementsStored table₀ table₁ before at here
+      → table₁ ≡ set table₀ before (statementWord (entry 0 0 (before + 1) 0 at)) → StatementsStored table₀ table₁ before at i here
   unfolding wordOf
   nil-filled next head table₀ table₁ own = rw (stmt-step bytes count levels before at _ more head) (rw (add-one before) at own)
 
   pub assign-filled : (v next : ℕ) → stmtHead bytes count (levels - 1) before at ≡ Assign v next → (table₀ table₁ : List ℕ)
-      → table₁ ≡ set table₀ before (statementWord (entry 1 v (before + 1) next)) → StatementsStored table₀ table₁ before at here
-  unfolding wordOf Marked
+      → table₁ ≡ set table₀ before (statementWord (entry 1 v (before + 1) i at)) → StatementsStored table₀ table₁ before at i here
+  unfolding wordOf
   assign-filled v next head table₀ table₁ own = rw (stmt-step bytes count levels before at _ more head) (by (wholeExpr bytes count next))
     where
-      by : (x : ExprRead) → StatementsStored table₀ table₁ before at (onAssigned v (suc before) x)
+      by : (x : ExprRead) → StatementsStored table₀ table₁ before at i (onAssigned v (suc before) x)
       by (bad k place) = tt
-      by (good e nodes behind) = own ∙ rw (add-one before, marked bytes count (levels - 1) before at _ head .2)
+      by (good e nodes behind) = own ∙ rw (add-one before)
 
   pub pair-filled : (code next : ℕ) → stmtHead bytes count (levels - 1) before at ≡ Pair code next
       → (l : Stmt) (so-far behind : ℕ) → below (before + 1) next ≡ whole l so-far behind → (table₀ table₁ table₂ table₃ : List ℕ)
-      → StatementsStored table₀ table₁ (before + 1) next (below (before + 1) next) → table₂ ≡ set table₁ before (statementWord (entry code 0 so-far 0))
-      → StatementsStored table₂ table₃ so-far behind (below so-far behind) → StatementsStored table₀ table₃ before at here
+      → StatementsStored table₀ table₁ (before + 1) next i (below (before + 1) next) → table₂ ≡ set table₁ before (statementWord (entry code 0 so-far 0 at))
+      → StatementsStored table₂ table₃ so-far behind (i + stmtTerms l) (below so-far behind) → StatementsStored table₀ table₃ before at i here
   unfolding Marked
   pair-filled code next head l so-far behind was table₀ table₁ table₂ table₃ first own second =
       rw (stmt-step bytes count levels before at _ more head, ← add-one before, was) (by (below so-far behind) second)
     where
-      by : (x : StmtRead) → StatementsStored table₂ table₃ so-far behind x → StatementsStored table₀ table₃ before at (onRight code l x)
+      by : (x : StmtRead) → StatementsStored table₂ table₃ so-far behind (i + stmtTerms l) x → StatementsStored table₀ table₃ before at i (onRight code l x)
       by (fault k place) f = tt
       by (whole r after end) f =
           let known = marked bytes count (levels - 1) before at _ head in
           let left = stmt-read (levels - 1) bytes count (before + 1) next l so-far behind was in
-          let words = statementWords (suc before) (at + 3) l in
-          let long : so-far ≡ suc before + length words = omega (arith, length-statementWords (suc before) (at + 3) l) in
+          let words = statementWords (suc before) (at + 3) i l in
+          let long : so-far ≡ suc before + length words = omega (arith, length-statementWords (suc before) (at + 3) i l) in
           let begun : table₁ ≡ sets table₀ (suc before) words = rw (was, add-one before, known .2) at first in
-          let ended : table₃ ≡ sets table₂ so-far (statementWords so-far (at + 3 + stmtWidth l) r) = rw (left .ends, known .2) at f in
+          let ended : table₃ ≡ sets table₂ so-far (statementWords so-far (at + 3 + stmtWidth l) (i + stmtTerms l) r) = rw (left .ends, known .2) at f in
           two-filled table₀ table₁ table₂ table₃ before so-far _ words _ long begun own ended
-          ∙ ap (sets table₀ before) (sym (pair-words (eqb code 2) code before at so-far l r refl (known .3) (known .4) (omega arith)))
+          ∙ ap (sets table₀ before) (sym (pair-words (eqb code 2) code before at i so-far l r refl (known .3) (known .4) (omega arith)))
 
   pub test-filled : (code next : ℕ) → stmtHead bytes count (levels - 1) before at ≡ Test code next
       → (e : Expr) (nodes behind : ℕ) → wholeExpr bytes count next ≡ good e nodes behind
       → (b : Stmt) (after end : ℕ) → below (before + 1) behind ≡ whole b after end → (table₀ table₁ table₂ : List ℕ)
-      → StatementsStored table₀ table₁ (before + 1) behind (below (before + 1) behind) → table₂ ≡ set table₁ before (statementWord (entry code 0 after next))
-      → StatementsStored table₀ table₂ before at here
+      → StatementsStored table₀ table₁ (before + 1) behind (i + nodes) (below (before + 1) behind) → table₂ ≡ set table₁ before (statementWord (entry code 0 after i at))
+      → StatementsStored table₀ table₂ before at i here
   unfolding Marked
   test-filled code next head e nodes behind test b after end was table₀ table₁ table₂ first own =
       let known = marked bytes count (levels - 1) before at _ head in
       let body = stmt-read (levels - 1) bytes count (before + 1) behind b after end was in
-      let words = statementWords (suc before) (at + 3 + width e) b in
-      let begun : table₁ ≡ sets table₀ (suc before) words = rw (was, add-one before, whole-read bytes count next e nodes behind test .ends, known .2) at first in
+      let tested = whole-read bytes count next e nodes behind test in
+      let words = statementWords (suc before) (at + 3 + width e) (i + exprNodes e) b in
+      let begun : table₁ ≡ sets table₀ (suc before) words = rw (was, add-one before, tested .ends, tested .counted, known .2) at first in
       rw (stmt-step bytes count levels before at _ more head, ← add-one before, test, was)
-      (one-filled table₀ table₁ table₂ before _ words begun (rw (known .2) at own)
-      ∙ ap (sets table₀ before) (sym (test-words (eqb code 4) code before at after e b refl (known .3) (known .4) (omega arith))))
+      (one-filled table₀ table₁ table₂ before _ words begun own
+      ∙ ap (sets table₀ before) (sym (test-words (eqb code 4) code before at i after e b refl (known .3) (known .4) (omega arith))))

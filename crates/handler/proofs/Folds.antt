@@ -18,15 +18,16 @@ use Rattle.bits.specs.declared.Field.{Field}
 use Rattle.bits.specs.declared.Field.the-variants.{Value, Missing}
 use Rattle.bits.proofs.Laws.{there}
 use Rattle.bits.proofs.Places.{either}
-use Rattle.semantics.specs.Language.{Expr, lit, var, op, rowOf}
+use Rattle.semantics.specs.Language.{int, truth, Expr, lit, var, rowOf}
 use Rattle.semantics.specs.declared.Row.the-variants.{Unused}
 use Rattle.semantics.specs.StepNumber.{E}
-use Rattle.semantics.specs.Conditions.{occurrences}
 use Rattle.handler.specs.declared.expressions.ExprHead.{ExprHead}
 use Rattle.handler.specs.declared.expressions.ExprHead.the-variants.{Integer, Truth, Variable, Operation, Fault}
 use Rattle.handler.proofs.expressions.ExprHead.{the-type}
 use Rattle.handler.specs.Expressions.{signed, integerHead, truthHead, variableHead, operationHead, payloadHead, tagHead, exprHead, ExprRead, good, bad, joined, operands, onExprHead, exprAt}
 use Rattle.handler.specs.Kinds.{width}
+use Rattle.handler.specs.Terms.{exprNodes}
+use Rattle.handler.proofs.TermTable.{ExprFits}
 
 -- One level of reading, with `levels - 1` below it as in the code.
 pub expr-step : (bytes : List ℕ) (count levels nodes at : ℕ) (head : ExprHead) → 0 < levels
@@ -126,13 +127,15 @@ module _ (bytes : List ℕ) (count nodes : ℕ) where
   pub headed-as : (at : ℕ) (head : ExprHead) → exprHead bytes count nodes at ≡ head → Headed count nodes at head
   headed-as at head e = rw e at (headed at)
 
--- What is known of an expression that was read: where it ends, that its E is at most the number of its nodes, and that these are at
--- most 31, of at most 10 bits each.
+-- What is known of an expression that was read: where it ends, that its E is at most the number of its nodes, that these are at
+-- most 31, of at most 10 bits each, and that its numbers fit the words of a table.
 pub record Read (nodes at : ℕ) (e : Expr) (after next : ℕ) : Type 0 where
   pub ends : next ≡ at + width e
   pub counted : nodes + E e ≤ after
+  pub added : after ≡ nodes + exprNodes e
   pub short : width e + 10 * nodes ≤ 10 * after
   pub room : after ≤ 31
+  pub fits : ExprFits e
 
 abbrev AllRead : ℕ → ℕ → ExprRead → Type 0
 AllRead nodes at (good e after next) = Read nodes at e after next
@@ -143,33 +146,37 @@ unfolding exprAt Headed
 all-read zero bytes count nodes at = tt
 all-read (suc levels) bytes count nodes at = by (exprHead bytes count nodes at) (headed bytes count nodes at) (all-read levels bytes count)
   where
-    right : (o next : ℕ) → nodes < 31 → next ≡ at + 5 → (l : Expr) (after behind : ℕ) → Read (suc nodes) next l after behind
+    right : (o next : ℕ) → nodes < 31 → next ≡ at + 5 → o < 7 → (l : Expr) (after behind : ℕ) → Read (suc nodes) next l after behind
         → (x : ExprRead) → AllRead after behind x → AllRead nodes at (joined o l x)
-    right o next room moved l after behind before (bad k place) known = tt
-    right o next room moved l after behind before (good r last end) known = omega (arith, before, known)
+    right o next room moved used l after behind before (bad k place) known = tt
+    right o next room moved used l after behind before (good r last end) known =
+        record {
+          ends = omega arith;
+          counted = omega arith;
+          added = omega arith;
+          short = omega arith;
+          room = known .room;
+          fits = (omega arith, before .fits, known .fits);
+        }
 
-    left : (o next : ℕ) → nodes < 31 → next ≡ at + 5 → (x : ExprRead) → AllRead (suc nodes) next x → (expr : ℕ → ℕ → ExprRead)
+    left : (o next : ℕ) → nodes < 31 → next ≡ at + 5 → o < 7 → (x : ExprRead) → AllRead (suc nodes) next x → (expr : ℕ → ℕ → ExprRead)
         → ((n i : ℕ) → AllRead n i (expr n i)) → AllRead nodes at (operands o x expr)
-    left o next room moved (bad k place) known expr later = tt
-    left o next room moved (good l after behind) known expr later = right o next room moved l after behind known (expr after behind) (later after behind)
+    left o next room moved used (bad k place) known expr later = tt
+    left o next room moved used (good l after behind) known expr later =
+        right o next room moved used l after behind known (expr after behind) (later after behind)
+
+    leaf : (e : Expr) (next : ℕ) → nodes < 31 → next ≡ at + width e → E e ≤ 1 → exprNodes e ≡ 1 → width e ≤ 10 → ExprFits e → Read nodes at e (suc nodes) next
+    leaf e next room ends reads one short fits =
+        record { ends = ends; counted = omega arith; added = omega arith; short = omega arith; room = omega arith; fits = fits }
 
     by : (h : ExprHead) → Headed count nodes at h → ((n i : ℕ) → AllRead n i (exprAt levels bytes count n i)) → AllRead nodes at (onExprHead h nodes (exprAt levels bytes count))
-    by (Integer z next) p later = omega arith
-    by (Truth b next) p later = omega arith
-    by (Variable v next) p later = omega arith
-    by (Operation o next) p later = left o next (p .0) (p .1) (exprAt levels bytes count (suc nodes) next) (later (suc nodes) next) (exprAt levels bytes count) later
+    by (Integer z next) p later = leaf (lit (int z)) next (p .0) (p .1) (omega arith) refl (omega arith) (omega (arith, p .2))
+    by (Truth b next) p later = leaf (lit (truth b)) next (p .0) (p .1) (omega arith) refl (omega arith) tt
+    by (Variable v next) p later = leaf (var v) next (p .0) (p .1) (omega arith) refl (omega arith) (omega (arith, p .3))
+    by (Operation o next) p later =
+        left o next (p .0) (p .1) (p .2) (exprAt levels bytes count (suc nodes) next) (later (suc nodes) next) (exprAt levels bytes count) later
     by (Fault k place) p later = tt
 
 pub expr-read : (levels : ℕ) (bytes : List ℕ) (count nodes at : ℕ) (e : Expr) (after next : ℕ)
     → exprAt levels bytes count nodes at ≡ good e after next → Read nodes at e after next
 expr-read levels bytes count nodes at e after next p = rw p at (all-read levels bytes count nodes at)
-
--- There are at most E occurrences.
-pub occurs-below : (p : ℕ → Bool) (e : Expr) → occurrences p e ≤ E e
-occurs-below p (lit v) = omega arith
-occurs-below p (var v) = by (p v)
-  where
-    by : (b : Bool) → cond b 1 0 ≤ 1
-    by true = omega arith
-    by false = omega arith
-occurs-below p (op o l r) = omega (arith, occurs-below p l, occurs-below p r)

@@ -17,24 +17,27 @@ use Rattle.handler.specs.declared.HandlerSummary.{HandlerSummary}
 use Rattle.handler.specs.declared.HandlerFound.the-variants as found
 use Rattle.handler.specs.Statements.{StmtRead, whole, fault, wholeStmt}
 use Rattle.handler.specs.Kinds.{stmtWidth, stmtKindError}
+use Rattle.handler.specs.Terms.{stmtTerms}
 use Rattle.handler.specs.StatementTable.{statements, stmtLevels}
 use Rattle.handler.specs.Reading.{HandlerRead, handler, refused, onKinds, onHandlerFill, onStmt, onHead, readHandler}
-use Rattle.handler.specs.Shapes.{handlerFile}
+use Rattle.handler.specs.Shapes.{handlerFile, termsAfter}
 use Rattle.handler.proofs.Heads.{head-read}
+use Rattle.handler.proofs.TermTable.{ExprsFit, ExprsIn, exprs-stored}
 use Rattle.handler.proofs.StmtFolds.{TargetsBelow, stmt-read}
 use Rattle.handler.proofs.Places.{statement-inside}
-use Rattle.handler.proofs.Parts.{Stands}
 
 -- What is known of a handler that was read.
 pub record KnownHandler (bytes sizes : List ℕ) (at : ℕ) (S : Stmt) : Type 0 where
   pub head : head.headAt bytes ≡ head.declared sizes at
   pub starts : at ≡ 3 + 5 * length sizes
-  pub stands : Stands bytes (length sizes) at S
+  pub read : wholeStmt bytes (length sizes) at ≡ whole S (statements S) (at + stmtWidth S)
   pub inside : at + stmtWidth S ≤ 8 * length bytes
   pub fits : stmtKindError at S ≡ none
   pub few : statements S ≤ 63
   pub high : stmtLevels S ≤ 16
   pub targets : TargetsBelow (length sizes) S
+  pub terms : stmtTerms S ≤ 1953
+  pub exprs : ExprsFit S
 
 module _ (bytes sizes : List ℕ) (at : ℕ) (S : Stmt) (read-all : readHandler bytes ≡ handler sizes at S) where
   by-kinds : (xs : List ℕ) (i : ℕ) (T : Stmt) (o : Option ℕ) → onKinds xs i T o ≡ handler sizes at S → (o ≡ none) × (handler xs i T ≡ handler sizes at S)
@@ -58,15 +61,18 @@ module _ (bytes sizes : List ℕ) (at : ℕ) (S : Stmt) (read-all : readHandler 
       let here : head.headAt bytes ≡ head.declared sizes at = rw (sizes-are, at-is) at h in
       let read : wholeStmt bytes (length sizes) at ≡ whole S after next = rw (sizes-are, at-is, S-is) at w in
       let known = stmt-read 17 bytes (length sizes) 0 at S after next read in
+      let counted : after ≡ statements S = omega arith in
       record {
         head = here;
         starts = head-read bytes sizes at here .starts;
-        stands = record { after = after; next = next; read = read };
+        read = rw (← counted, ← known .ends) read;
         inside = statement-inside bytes sizes at S read-all;
         fits = rw (at-is, S-is) at fit;
         few = omega arith;
         high = omega arith;
         targets = known .targets;
+        terms = omega arith;
+        exprs = known .exprs;
       }
 
   by-head : (h : head.HeadRead) → head.headAt bytes ≡ h → onHead bytes h ≡ handler sizes at S → KnownHandler bytes sizes at S
@@ -76,6 +82,14 @@ module _ (bytes sizes : List ℕ) (at : ℕ) (S : Stmt) (read-all : readHandler 
   pub known-handler : KnownHandler bytes sizes at S
   unfolding readHandler
   known-handler = by-head (head.headAt bytes) refl read-all
+
+-- A buffer of 1,953 words holds the expressions of the handler that was read.
+pub handler-exprs : (bytes sizes : List ℕ) (at : ℕ) (S : Stmt) (entry : List ℕ) → readHandler bytes ≡ handler sizes at S → 1953 ≤ length entry
+    → ExprsIn (termsAfter (readHandler bytes) entry) 0 S
+unfolding termsAfter
+handler-exprs bytes sizes at S entry read room =
+    let known = known-handler bytes sizes at S read in
+    rw read (exprs-stored entry S (known .terms) room (known .exprs))
 
 -- What is found in a file says what was read.
 pub found-refused : (r : HandlerRead) (k place : ℕ) → handlerFile r .found ≡ found.Fault k place → r ≡ refused k place

@@ -1,12 +1,14 @@
 -- Laws of reading that the proofs here and callers cite; each function's proof is in its own folder.
 pub mod Heads
+pub mod Stores
+pub mod TermTable
 pub mod Folds
 pub mod Shapes
 pub mod StmtFolds
 pub mod StmtShapes
 pub mod StatementTable
 pub mod Filling
-pub mod Parts
+pub mod TermFilling
 pub mod Handlers
 pub mod Places
 pub mod Fitting

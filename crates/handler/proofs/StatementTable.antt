@@ -2,92 +2,100 @@
 -- also holds those of its parts.
 use Prim.Native.Nat.{ℕ, zero, suc, _+_, _-_, _*_, _/_, _%_, _≤_, _<_}
 use mathlib.Core.List.{List, _∷_, _++_, append-assoc}
-use mathlib.Core.Path.{_≡_, refl, sym, ap, _∙_}
+use mathlib.Core.Path.{_≡_, refl, _∙_}
 use native.Mathlib.Omega.{arith}
 use lib.ListN.{length, getD, drop, replicate, length-append}
-use lib.Seq.{getD-drop, drop-at, drop-drop, sets, sets-eq}
-use Rattle.semantics.specs.Language.{Stmt, nil, assign, seq, par, if, while}
+use lib.Seq.{sets, sets-eq}
+use Rattle.semantics.specs.Language.{Expr, Stmt, nil, assign, seq, par, if, while}
 use Rattle.semantics.specs.Conditions.{statementCode, targetOf}
 use Rattle.handler.specs.declared.table.Statement.{Statement}
 use Rattle.handler.specs.Kinds.{width, stmtWidth}
-use Rattle.handler.specs.StatementTable.{statements, statementWord, statementOf, statementIn, afterFirst, statementRecord, wordOf, statementWords, statementTable}
+use Rattle.handler.specs.Terms.{exprNodes, stmtTerms}
+use Rattle.handler.specs.StatementTable.{statements, statementWord, statementOf, statementIn, afterFirst, exprNumber, statementRecord, wordOf, statementWords, statementTable}
+use Rattle.handler.proofs.Stores.{first-held, later-held, second-held}
 
 -- The fields of a word.
-word-code : (code target after expr : ℕ) → code < 8 → (code + 8 * (target + 4 * (after + 128 * expr))) % 8 ≡ code
-word-code code target after expr c = omega arith
+word-code : (code target rest : ℕ) → code < 8 → (code + 8 * (target + 4 * rest)) % 8 ≡ code
+word-code code target rest c = omega arith
 
-word-target : (code target after expr : ℕ) → code < 8 → target < 4 → (code + 8 * (target + 4 * (after + 128 * expr))) / 8 % 4 ≡ target
-word-target code target after expr c t = omega arith
+word-target : (code target rest : ℕ) → code < 8 → target < 4 → (code + 8 * (target + 4 * rest)) / 8 % 4 ≡ target
+word-target code target rest c t = omega arith
 
-word-after : (code target after expr : ℕ) → code < 8 → target < 4 → after < 128 → (code + 8 * (target + 4 * (after + 128 * expr))) / 32 % 128 ≡ after
-word-after code target after expr c t a = omega arith
+word-after : (code target after rest : ℕ) → code < 8 → target < 4 → after < 128 → (code + 8 * (target + 4 * (after + 128 * rest))) / 32 % 128 ≡ after
+word-after code target after rest c t a = omega arith
 
-word-expr : (code target after expr : ℕ) → code < 8 → target < 4 → after < 128 → (code + 8 * (target + 4 * (after + 128 * expr))) / 4096 ≡ expr
-word-expr code target after expr c t a = omega arith
+word-expr : (code target after expr bit : ℕ) → code < 8 → target < 4 → after < 128 → expr < 2048
+    → (code + 8 * (target + 4 * (after + 128 * (expr + 2048 * bit)))) / 4096 % 2048 ≡ expr
+word-expr code target after expr bit c t a e = omega arith
 
-word-back : (s : Statement) → s .code < 8 → s .target < 4 → s .after < 128 → statementOf (statementWord s) ≡ s
+word-bit : (code target after expr bit : ℕ) → code < 8 → target < 4 → after < 128 → expr < 2048
+    → (code + 8 * (target + 4 * (after + 128 * (expr + 2048 * bit)))) / 8388608 ≡ bit
+word-bit code target after expr bit c t a e = omega arith
+
+word-back : (s : Statement) → s .code < 8 → s .target < 4 → s .after < 128 → s .expr < 2048 → statementOf (statementWord s) ≡ s
 unfolding statementWord statementOf
-word-back s c t a =
+word-back s c t a e =
     rw (
-      word-code (s .code) (s .target) (s .after) (s .expr) c,
-      word-target (s .code) (s .target) (s .after) (s .expr) c t,
-      word-after (s .code) (s .target) (s .after) (s .expr) c t a,
-      word-expr (s .code) (s .target) (s .after) (s .expr) c t a,
+      word-code (s .code) (s .target) (s .after + 128 * (s .expr + 2048 * s .bit)) c,
+      word-target (s .code) (s .target) (s .after + 128 * (s .expr + 2048 * s .bit)) c t,
+      word-after (s .code) (s .target) (s .after) (s .expr + 2048 * s .bit) c t a,
+      word-expr (s .code) (s .target) (s .after) (s .expr) (s .bit) c t a e,
+      word-bit (s .code) (s .target) (s .after) (s .expr) (s .bit) c t a e,
     )
 
-pub length-statementWords : (j bit : ℕ) (S : Stmt) → length (statementWords j bit S) ≡ statements S
-length-statementWords j bit nil = refl
-length-statementWords j bit (assign v e) = refl
-length-statementWords j bit (seq l r) =
-    simp length-append (omega (arith, length-statementWords (suc j) (bit + 3) l, length-statementWords (suc j + statements l) (bit + 3 + stmtWidth l) r))
-length-statementWords j bit (par l r) =
-    simp length-append (omega (arith, length-statementWords (suc j) (bit + 3) l, length-statementWords (suc j + statements l) (bit + 3 + stmtWidth l) r))
-length-statementWords j bit (if e b) = omega (arith, length-statementWords (suc j) (bit + 3 + width e) b)
-length-statementWords j bit (while e b) = omega (arith, length-statementWords (suc j) (bit + 3 + width e) b)
+pub length-statementWords : (j bit i : ℕ) (S : Stmt) → length (statementWords j bit i S) ≡ statements S
+length-statementWords j bit i nil = refl
+length-statementWords j bit i (assign v e) = refl
+length-statementWords j bit i (seq l r) =
+    simp length-append (omega (arith, length-statementWords (suc j) (bit + 3) i l, length-statementWords (suc j + statements l) (bit + 3 + stmtWidth l) (i + stmtTerms l) r))
+length-statementWords j bit i (par l r) =
+    simp length-append (omega (arith, length-statementWords (suc j) (bit + 3) i l, length-statementWords (suc j + statements l) (bit + 3 + stmtWidth l) (i + stmtTerms l) r))
+length-statementWords j bit i (if e b) = omega (arith, length-statementWords (suc j) (bit + 3 + width e) (i + exprNodes e) b)
+length-statementWords j bit i (while e b) = omega (arith, length-statementWords (suc j) (bit + 3 + width e) (i + exprNodes e) b)
 
--- A table holds the words of a statement that is number j, at a bit.
-pub record StatementIn (table : List ℕ) (j bit : ℕ) (S : Stmt) : Type 0 where
+-- A table holds the words of a statement that is number j, at a bit, with i expression nodes before it.
+pub record StatementIn (table : List ℕ) (j bit i : ℕ) (S : Stmt) : Type 0 where
   pub rest : List ℕ
-  pub is : drop j table ≡ statementWords j bit S ++ rest
+  pub is : drop j table ≡ statementWords j bit i S ++ rest
 
 -- It also holds those of its parts.
-abbrev pub PartsHeld : List ℕ → ℕ → ℕ → Stmt → Type 0
-PartsHeld table j bit nil = Unit {0}
-PartsHeld table j bit (assign v e) = Unit {0}
-PartsHeld table j bit (seq l r) = StatementIn table (suc j) (bit + 3) l × StatementIn table (suc j + statements l) (bit + 3 + stmtWidth l) r
-PartsHeld table j bit (par l r) = StatementIn table (suc j) (bit + 3) l × StatementIn table (suc j + statements l) (bit + 3 + stmtWidth l) r
-PartsHeld table j bit (if e b) = StatementIn table (suc j) (bit + 3 + width e) b
-PartsHeld table j bit (while e b) = StatementIn table (suc j) (bit + 3 + width e) b
+abbrev BothHeld : List ℕ → ℕ → ℕ → ℕ → Stmt → Stmt → Type 0
+BothHeld table j bit i l r =
+    StatementIn table (suc j) (bit + 3) i l × StatementIn table (suc j + statements l) (bit + 3 + stmtWidth l) (i + stmtTerms l) r
 
-module _ (table : List ℕ) (j bit : ℕ) where
-  later : (word : ℕ) (rest : List ℕ) → drop j table ≡ word ∷ rest → drop (suc j) table ≡ rest
-  later word rest e =
-      let next : j + 1 ≡ suc j = omega arith in
-      ap (λ n. drop n table) (sym next) ∙ sym (drop-drop 1 j table) ∙ ap (drop 1) e
+abbrev pub PartsHeld : List ℕ → ℕ → ℕ → ℕ → Stmt → Type 0
+PartsHeld table j bit i nil = Unit {0}
+PartsHeld table j bit i (assign v e) = Unit {0}
+PartsHeld table j bit i (seq l r) = BothHeld table j bit i l r
+PartsHeld table j bit i (par l r) = BothHeld table j bit i l r
+PartsHeld table j bit i (if e b) = StatementIn table (suc j) (bit + 3 + width e) (i + exprNodes e) b
+PartsHeld table j bit i (while e b) = StatementIn table (suc j) (bit + 3 + width e) (i + exprNodes e) b
 
+module _ (table : List ℕ) (j bit i : ℕ) where
   two : (l r : Stmt) (word : ℕ) (rest : List ℕ)
-      → drop j table ≡ word ∷ (statementWords (suc j) (bit + 3) l ++ statementWords (suc j + statements l) (bit + 3 + stmtWidth l) r ++ rest)
-      → StatementIn table (suc j) (bit + 3) l × StatementIn table (suc j + statements l) (bit + 3 + stmtWidth l) r
+      → drop j table ≡ word ∷ (statementWords (suc j) (bit + 3) i l ++ statementWords (suc j + statements l) (bit + 3 + stmtWidth l) (i + stmtTerms l) r ++ rest)
+      → BothHeld table j bit i l r
   two l r word rest e =
-      let first = statementWords (suc j) (bit + 3) l in
-      let second = statementWords (suc j + statements l) (bit + 3 + stmtWidth l) r in
-      let left : drop (suc j) table ≡ first ++ (second ++ rest) = later word (first ++ second ++ rest) e ∙ append-assoc first second rest in (
+      let first = statementWords (suc j) (bit + 3) i l in
+      let second = statementWords (suc j + statements l) (bit + 3 + stmtWidth l) (i + stmtTerms l) r in
+      let left : drop (suc j) table ≡ first ++ (second ++ rest) = later-held table j word (first ++ second ++ rest) e ∙ append-assoc first second rest in (
         record { rest = second ++ rest; is = left },
-        record {
-          rest = rest;
-          is = sym (drop-drop (statements l) (suc j) table) ∙ ap (drop (statements l)) left ∙ drop-at first (second ++ rest) (statements l) (length-statementWords (suc j) (bit + 3) l);
-        },
+        record { rest = rest; is = second-held table (suc j) (statements l) first (second ++ rest) (length-statementWords (suc j) (bit + 3) i l) left },
       )
 
-  pub parts-held : (S : Stmt) → StatementIn table j bit S → PartsHeld table j bit S
+  one : (e : Expr) (b : Stmt) (word : ℕ) (rest : List ℕ) → drop j table ≡ word ∷ (statementWords (suc j) (bit + 3 + width e) (i + exprNodes e) b ++ rest)
+      → StatementIn table (suc j) (bit + 3 + width e) (i + exprNodes e) b
+  one e b word rest p = record { rest = rest; is = later-held table j word (statementWords (suc j) (bit + 3 + width e) (i + exprNodes e) b ++ rest) p }
+
+  pub parts-held : (S : Stmt) → StatementIn table j bit i S → PartsHeld table j bit i S
   parts-held nil h = tt
   parts-held (assign v e) h = tt
-  parts-held (seq l r) h = two l r (wordOf j bit (seq l r)) (h .rest) (h .is)
-  parts-held (par l r) h = two l r (wordOf j bit (par l r)) (h .rest) (h .is)
-  parts-held (if e b) h = record { rest = h .rest; is = later (wordOf j bit (if e b)) (statementWords (suc j) (bit + 3 + width e) b ++ h .rest) (h .is) }
-  parts-held (while e b) h = record { rest = h .rest; is = later (wordOf j bit (while e b)) (statementWords (suc j) (bit + 3 + width e) b ++ h .rest) (h .is) }
+  parts-held (seq l r) h = two l r (wordOf j bit i (seq l r)) (h .rest) (h .is)
+  parts-held (par l r) h = two l r (wordOf j bit i (par l r)) (h .rest) (h .is)
+  parts-held (if e b) h = one e b (wordOf j bit i (if e b)) (h .rest) (h .is)
+  parts-held (while e b) h = one e b (wordOf j bit i (while e b)) (h .rest) (h .is)
 
-  first-word : (S : Stmt) (rest : List ℕ) → getD (statementWords j bit S ++ rest) 0 0 ≡ wordOf j bit S
+  first-word : (S : Stmt) (rest : List ℕ) → getD (statementWords j bit i S ++ rest) 0 0 ≡ wordOf j bit i S
   first-word nil rest = refl
   first-word (assign v e) rest = refl
   first-word (seq l r) rest = refl
@@ -111,14 +119,21 @@ module _ (table : List ℕ) (j bit : ℕ) where
   after-small (if e b) = omega arith
   after-small (while e b) = omega arith
 
+  number-small : (S : Stmt) → exprNumber i S ≤ i
+  number-small nil = omega arith
+  number-small (assign v e) = omega arith
+  number-small (seq l r) = omega arith
+  number-small (par l r) = omega arith
+  number-small (if e b) = omega arith
+  number-small (while e b) = omega arith
+
   -- If a table holds the words of a statement, its entry j is the statement's record.
-  pub statement-held : (S : Stmt) → StatementIn table j bit S → targetOf S < 4 → j + statements S ≤ 63 → statementIn table j ≡ statementRecord j bit S
+  pub statement-held : (S : Stmt) → StatementIn table j bit i S → targetOf S < 4 → j + statements S ≤ 63 → i ≤ 1953
+      → statementIn table j ≡ statementRecord j bit i S
   unfolding statementIn wordOf
-  statement-held S h target few =
-      let here : j + 0 ≡ j = omega arith in
-      let word : getD table j 0 ≡ wordOf j bit S =
-      ap (λ n. getD table n 0) (sym here) ∙ sym (getD-drop j table 0 0) ∙ ap (λ l. getD l 0 0) (h .is) ∙ first-word S (h .rest) in
-      rw word (word-back (statementRecord j bit S) (code-small S) target (omega (arith, after-small S)))
+  statement-held S h target few room =
+      let word : getD table j 0 ≡ wordOf j bit i S = first-held table j _ (h .is) ∙ first-word S (h .rest) in
+      rw word (word-back (statementRecord j bit i S) (code-small S) target (omega (arith, after-small S)) (omega (arith, number-small S)))
 
 drop-replicate : (n m : ℕ) → drop {A = ℕ} n (replicate m 0) ≡ replicate (m - n) 0
 drop-replicate zero m = let same : m - 0 ≡ m = omega arith in rw same
@@ -126,14 +141,14 @@ drop-replicate (suc n) zero = let none : 0 - suc n ≡ 0 = omega arith in rw non
 drop-replicate (suc n) (suc m) = let same : suc m - suc n ≡ m - n = omega arith in rw same (drop-replicate n m)
 
 -- Stores into a table of zeros make the table of a handler.
-pub table-made : (bit : ℕ) (S : Stmt) → statements S ≤ 63 → sets (replicate 63 0) 0 (statementWords 0 bit S) ≡ statementTable bit S
+pub table-made : (bit : ℕ) (S : Stmt) → statements S ≤ 63 → sets (replicate 63 0) 0 (statementWords 0 bit 0 S) ≡ statementTable bit S
 unfolding statementTable
 table-made bit S few =
-    let words = statementWords 0 bit S in
-    let long : 0 + length words ≡ statements S = omega (arith, length-statementWords 0 bit S) in
+    let words = statementWords 0 bit 0 S in
+    let long : 0 + length words ≡ statements S = omega (arith, length-statementWords 0 bit 0 S) in
     sets-eq words (replicate 63 0) 0 (omega arith) ∙ rw (long, drop-replicate (statements S) 63)
 
 -- The table of a handler holds its statement.
-pub table-held : (bit : ℕ) (S : Stmt) → StatementIn (statementTable bit S) 0 bit S
+pub table-held : (bit : ℕ) (S : Stmt) → StatementIn (statementTable bit S) 0 bit 0 S
 unfolding statementTable
 table-held bit S = record { rest = replicate (63 - statements S) 0; is = refl }

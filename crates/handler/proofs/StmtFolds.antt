@@ -16,7 +16,9 @@ use Rattle.handler.specs.declared.StmtHead.the-variants.{Nil, Assign, Pa
 use Rattle.handler.specs.Expressions.{ExprRead, good, bad, wholeExpr}
 use Rattle.handler.specs.Statements.{targetHead, codeHead, markHead, stmtHead, StmtRead, whole, fault, onAssigned, onBody, onTest, onRight, onLeftSide, onStmtHead, stmtAt}
 use Rattle.handler.specs.Kinds.{width, stmtWidth}
+use Rattle.handler.specs.Terms.{exprNodes, stmtTerms}
 use Rattle.handler.specs.StatementTable.{statements, stmtLevels}
+use Rattle.handler.proofs.TermTable.{ExprFits, ExprsFit}
 use Rattle.handler.proofs.Folds.{expr-read}
 
 -- One level of reading, with `levels - 1` below it as in the code.
@@ -79,16 +81,19 @@ module _ (bytes : List ℕ) (count below before : ℕ) where
       by Missing e = tt
       by (Value code next) e = full (eqb below 0) (leb 63 before) refl refl code next (there bytes at 3 code next e .moved)
 
--- Where a whole expression ends. It has at most 31 nodes of 10 bits.
-pub record ReadExpr (at : ℕ) (e : Expr) (next : ℕ) : Type 0 where
+-- Where a whole expression ends. It has at most 31 nodes of 10 bits, and its numbers fit the words of a table.
+pub record ReadExpr (at : ℕ) (e : Expr) (nodes next : ℕ) : Type 0 where
   pub ends : next ≡ at + width e
   pub short : width e ≤ 310
+  pub counted : nodes ≡ exprNodes e
+  pub few : nodes ≤ 31
+  pub fits : ExprFits e
 
-pub whole-read : (bytes : List ℕ) (count at : ℕ) (e : Expr) (nodes next : ℕ) → wholeExpr bytes count at ≡ good e nodes next → ReadExpr at e next
+pub whole-read : (bytes : List ℕ) (count at : ℕ) (e : Expr) (nodes next : ℕ) → wholeExpr bytes count at ≡ good e nodes next → ReadExpr at e nodes next
 unfolding wholeExpr
 whole-read bytes count at e nodes next p =
     let known = expr-read 32 bytes count 0 at e nodes next p in
-    record { ends = known .ends; short = omega arith }
+    record { ends = known .ends; short = omega arith; counted = omega arith; few = known .room; fits = known .fits }
 
 -- The variables that a statement assigns are below a count.
 abbrev pub TargetsBelow : ℕ → Stmt → Type 0
@@ -100,7 +105,8 @@ TargetsBelow count (if e b) = TargetsBelow count b
 TargetsBelow count (while e b) = TargetsBelow count b
 
 -- What is known of a statement that was read: where it ends, that it counts among at most 63, that it has fewer levels than could
--- be read, and how long it is: a code and a variable of 5 bits, and an expression of at most 31 nodes of 10 bits.
+-- be read, how long it is: a code and a variable of 5 bits, and an expression of at most 31 nodes of 10 bits, and that the numbers of
+-- its expressions fit the words of a table.
 pub record ReadStmt (levels count before at : ℕ) (S : Stmt) (after next : ℕ) : Type 0 where
   pub ends : next ≡ at + stmtWidth S
   pub counted : after ≡ before + statements S
@@ -108,6 +114,8 @@ pub record ReadStmt (levels count before at : ℕ) (S : Stmt) (after next : ℕ)
   pub high : stmtLevels S < levels
   pub short : stmtWidth S ≤ 315 * statements S
   pub targets : TargetsBelow count S
+  pub terms : stmtTerms S ≤ 31 * statements S
+  pub exprs : ExprsFit S
 
 abbrev AllRead : ℕ → ℕ → ℕ → ℕ → StmtRead → Type 0
 AllRead levels count before at (whole S after next) = ReadStmt levels count before at S after next
@@ -118,16 +126,16 @@ pair-read : (b : Bool) (levels count before at next : ℕ) (l r : Stmt) (so-far 
     → ReadStmt levels count (suc before) next l so-far behind → ReadStmt levels count so-far behind r after end
     → ReadStmt (suc levels) count before at (cond b (seq l r) (par l r)) after end
 pair-read true levels count before at next l r so-far behind after end placed first second =
-    record { ends = omega arith; counted = omega arith; room = second .room; high = omega arith; short = omega arith; targets = (first .targets, second .targets) }
+    record { ends = omega arith; counted = omega arith; room = second .room; high = omega arith; short = omega arith; targets = (first .targets, second .targets); terms = omega arith; exprs = (first .exprs, second .exprs) }
 pair-read false levels count before at next l r so-far behind after end placed first second =
-    record { ends = omega arith; counted = omega arith; room = second .room; high = omega arith; short = omega arith; targets = (first .targets, second .targets) }
+    record { ends = omega arith; counted = omega arith; room = second .room; high = omega arith; short = omega arith; targets = (first .targets, second .targets); terms = omega arith; exprs = (first .exprs, second .exprs) }
 
-test-read : (t : Bool) (levels count before at next : ℕ) (e : Expr) (b : Stmt) (behind after end : ℕ) → next ≡ at + 3 → ReadExpr next e behind
+test-read : (t : Bool) (levels count before at next : ℕ) (e : Expr) (b : Stmt) (nodes behind after end : ℕ) → next ≡ at + 3 → ReadExpr next e nodes behind
     → ReadStmt levels count (suc before) behind b after end → ReadStmt (suc levels) count before at (cond t (if e b) (while e b)) after end
-test-read true levels count before at next e b behind after end placed first second =
-    record { ends = omega arith; counted = omega arith; room = second .room; high = omega arith; short = omega arith; targets = second .targets }
-test-read false levels count before at next e b behind after end placed first second =
-    record { ends = omega arith; counted = omega arith; room = second .room; high = omega arith; short = omega arith; targets = second .targets }
+test-read true levels count before at next e b nodes behind after end placed first second =
+    record { ends = omega arith; counted = omega arith; room = second .room; high = omega arith; short = omega arith; targets = second .targets; terms = omega arith; exprs = (omega arith, first .fits, second .exprs) }
+test-read false levels count before at next e b nodes behind after end placed first second =
+    record { ends = omega arith; counted = omega arith; room = second .room; high = omega arith; short = omega arith; targets = second .targets; terms = omega arith; exprs = (omega arith, first .fits, second .exprs) }
 
 all-read : (levels : ℕ) (bytes : List ℕ) (count before at : ℕ) → AllRead levels count before at (stmtAt levels bytes count before at)
 unfolding stmtAt Marked
@@ -147,27 +155,27 @@ all-read (suc levels) bytes count before at =
     left code next placed (whole l so-far behind) known stmt later =
         right code next placed l so-far behind known (stmt so-far behind) (later so-far behind)
 
-    body : (code next behind : ℕ) → next ≡ at + 3 → (e : Expr) → ReadExpr next e behind → (x : StmtRead) → AllRead levels count (suc before) behind x
+    body : (code next nodes behind : ℕ) → next ≡ at + 3 → (e : Expr) → ReadExpr next e nodes behind → (x : StmtRead) → AllRead levels count (suc before) behind x
         → AllRead (suc levels) count before at (onBody code e x)
-    body code next behind placed e first (fault k place) known = tt
-    body code next behind placed e first (whole b after end) known = test-read (eqb code 4) levels count before at next e b behind after end placed first known
+    body code next nodes behind placed e first (fault k place) known = tt
+    body code next nodes behind placed e first (whole b after end) known = test-read (eqb code 4) levels count before at next e b nodes behind after end placed first known
 
     test : (code next : ℕ) → next ≡ at + 3 → (x : ExprRead) → wholeExpr bytes count next ≡ x → (stmt : ℕ → ℕ → StmtRead)
         → ((n i : ℕ) → AllRead levels count n i (stmt n i)) → AllRead (suc levels) count before at (onTest code (suc before) x stmt)
     test code next placed (bad k place) read stmt later = tt
     test code next placed (good e nodes behind) read stmt later =
-        body code next behind placed e (whole-read bytes count next e nodes behind read) (stmt (suc before) behind) (later (suc before) behind)
+        body code next nodes behind placed e (whole-read bytes count next e nodes behind read) (stmt (suc before) behind) (later (suc before) behind)
 
     assigned : (v next : ℕ) → 0 < levels → before < 63 → next ≡ at + 5 → v < count → (x : ExprRead) → wholeExpr bytes count next ≡ x
         → AllRead (suc levels) count before at (onAssigned v (suc before) x)
     assigned v next deep room placed target (bad k place) read = tt
     assigned v next deep room placed target (good e nodes behind) read =
         let known = whole-read bytes count next e nodes behind read in
-        record { ends = omega arith; counted = omega arith; room = omega arith; high = omega arith; short = omega arith; targets = target }
+        record { ends = omega arith; counted = omega arith; room = omega arith; high = omega arith; short = omega arith; targets = target; terms = omega arith; exprs = (omega arith, known .fits) }
 
     by : (h : StmtHead) → Marked count levels before at h → ((n i : ℕ) → AllRead levels count n i (stmtAt levels bytes count n i))
         → AllRead (suc levels) count before at (onStmtHead h (wholeExpr bytes count) before (stmtAt levels bytes count))
-    by (Nil next) p later = record { ends = p .2; counted = omega arith; room = omega arith; high = omega arith; short = omega arith; targets = tt }
+    by (Nil next) p later = record { ends = p .2; counted = omega arith; room = omega arith; high = omega arith; short = omega arith; targets = tt; terms = omega arith; exprs = tt }
     by (Assign v next) p later = assigned v next (p .0) (p .1) (p .2) (p .3) (wholeExpr bytes count next) refl
     by (Pair code next) p later = left code next (p .2) (stmtAt levels bytes count (suc before) next) (later (suc before) next) (stmtAt levels bytes count) later
     by (Test code next) p later = test code next (p .2) (wholeExpr bytes count next) refl (stmtAt levels bytes count) later

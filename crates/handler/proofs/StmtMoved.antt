@@ -198,8 +198,8 @@ module _ (a b c sizes : List ℕ) (at at′ : ℕ) (S T : Stmt) (read-a : readHa
       let count = length sizes in
       let field = found c at 3 (omega arith) (omega arith) (omega (arith, left .inside)) (omega (arith, left .fits)) in
       let mark : stmtHead c count 16 0 at ≡ Pair 3 (at + 3) = rw (field, code) in
-      let one = moved-statement a c count 17 16 0 1 at (at + 3) S _ _ (first .stands .read) left (omega arith) (omega arith) in
-      let two = moved-statement b c count 17 16 0 (1 + statements S) at′ (at + 3 + stmtWidth S) T _ _ (second .stands .read) right (omega arith) (omega arith) in
+      let one = moved-statement a c count 17 16 0 1 at (at + 3) S _ _ (first .read) left (omega arith) (omega arith) in
+      let two = moved-statement b c count 17 16 0 (1 + statements S) at′ (at + 3 + stmtWidth S) T _ _ (second .read) right (omega arith) (omega arith) in
       let statement = stmt-step c count 17 0 at _ (omega arith) mark in
       rw (
         moved-head a c sizes at (first .head) head,

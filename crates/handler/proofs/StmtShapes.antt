@@ -27,6 +27,7 @@ use Rattle.handler.specs.declared.StmtHead.the-variants.{Assign, Pair, T
 use Rattle.handler.specs.Expressions.{ExprRead, good, bad, wholeExpr}
 use Rattle.handler.specs.Statements.{stmtHead, StmtRead, whole, fault, tested, onAssigned, onRight, stmtAt, wholeStmt}
 use Rattle.handler.specs.Kinds.{width, orPlace, kindError, stmtWidth, stmtKindError}
+use Rattle.handler.specs.Terms.{exprNodes, stmtTerms}
 use Rattle.handler.specs.StatementTable.{statements, stmtLevels}
 use Rattle.handler.specs.Shapes.{asKindError, exprSummary, exprShape, stmtSummary, stmtShape, assignedOf, pairOf, testedOf, fittingOf, filledOf, handlerFound, handlerFile}
 use Rattle.handler.specs.Reading.{onKinds, onHandlerFill, onStmt}
@@ -46,45 +47,46 @@ cap-part x y b = by (leb b (2 ^ 32)) refl y
         omega (arith, leb-false b (2 ^ 32) t, suc-mul y (min b (2 ^ 32) + 1), suc-mul y (b + 1))
 
 -- What a whole shape says of the statement that was read.
-pub record StmtShaped (N at : ℕ) (x : StmtRead) (w : StmtSummary) : Type 0 where
+pub record StmtShaped (N i at : ℕ) (x : StmtRead) (w : StmtSummary) : Type 0 where
   pub tree : Stmt
   pub was : x ≡ whole tree (w .statements) (w .next)
-  pub is : w ≡ stmtSummary N at tree (w .statements) (w .next)
+  pub is : w ≡ stmtSummary N i at tree (w .statements) (w .next)
 
-pub stmt-shaped : (N at : ℕ) (x : StmtRead) (w : StmtSummary) → stmtShape N at x ≡ stmt.Whole w → StmtShaped N at x w
+pub stmt-shaped : (N i at : ℕ) (x : StmtRead) (w : StmtSummary) → stmtShape N i at x ≡ stmt.Whole w → StmtShaped N i at x w
 unfolding stmtShape
-stmt-shaped N at (whole S a i) w p =
-    let same : stmtSummary N at S a i ≡ w = cc in
+stmt-shaped N i at (whole S a j) w p =
+    let same : stmtSummary N i at S a j ≡ w = cc in
     rw (← same) (record { tree = S; was = refl; is = refl })
-stmt-shaped N at (fault k place) w p = absurd (let z : _≡_ {A = ℕ} 0 1 = cc in omega arith)
+stmt-shaped N i at (fault k place) w p = absurd (let z : _≡_ {A = ℕ} 0 1 = cc in omega arith)
 
-pub stmt-faulted : (N at : ℕ) (x : StmtRead) (k place : ℕ) → stmtShape N at x ≡ stmt.Fault k place → x ≡ fault k place
+pub stmt-faulted : (N i at : ℕ) (x : StmtRead) (k place : ℕ) → stmtShape N i at x ≡ stmt.Fault k place → x ≡ fault k place
 unfolding stmtShape
-stmt-faulted N at (whole S a i) k place p = absurd (let z : _≡_ {A = ℕ} 0 1 = cc in omega arith)
-stmt-faulted N at (fault j i) k place p = cc
+stmt-faulted N i at (whole S a n) k place p = absurd (let z : _≡_ {A = ℕ} 0 1 = cc in omega arith)
+stmt-faulted N i at (fault j n) k place p = cc
 
 -- It has fewer levels than could be read.
-pub shape-high : (levels : ℕ) (bytes : List ℕ) (count before at N : ℕ) (w : StmtSummary)
-    → stmtShape N at (stmtAt levels bytes count before at) ≡ stmt.Whole w → w .levels < levels
-shape-high levels bytes count before at N w p =
-    let s = stmt-shaped N at _ w p in
+pub shape-high : (levels : ℕ) (bytes : List ℕ) (count before at N i : ℕ) (w : StmtSummary)
+    → stmtShape N i at (stmtAt levels bytes count before at) ≡ stmt.Whole w → w .levels < levels
+shape-high levels bytes count before at N i w p =
+    let s = stmt-shaped N i at _ w p in
     let same : w .levels ≡ stmtLevels (s .tree) = ap (λ x. x .levels) (s .is) in
     omega (arith, stmt-read levels bytes count before at (s .tree) (w .statements) (w .next) (s .was) .high)
 
 -- An assignment.
-assigned-made : (N at v next after : ℕ) (x : ExprRead) → next ≡ at + 5
-    → assignedOf after (exprShape Integer 0 next x) ≡ stmtShape N at (onAssigned v after x)
+assigned-made : (bytes : List ℕ) (count N i at v next after : ℕ) (x : ExprRead) → wholeExpr bytes count next ≡ x → next ≡ at + 5
+    → assignedOf after i (exprShape Integer next x) ≡ stmtShape N i at (onAssigned v after x)
 unfolding exprShape stmtShape
-assigned-made N at v next after (good e nodes behind) placed = rw placed
-assigned-made N at v next after (bad k place) placed = refl
+assigned-made bytes count N i at v next after (good e nodes behind) read placed = rw (whole-read bytes count next e nodes behind read .counted, placed)
+assigned-made bytes count N i at v next after (bad k place) read placed = refl
 
 -- A sequence or parallel whose left side was read.
-pair-made : (N at code next so-far behind : ℕ) (l : Stmt) (x : StmtRead) → next ≡ at + 3 → behind ≡ next + stmtWidth l
-    → pairOf (stmtSummary N next l so-far behind) (stmtShape N behind x) ≡ stmtShape N at (onRight code l x)
+pair-made : (N i at code next so-far behind : ℕ) (l : Stmt) (x : StmtRead) → next ≡ at + 3 → behind ≡ next + stmtWidth l
+    → pairOf (stmtSummary N i next l so-far behind) (stmtShape N (i + stmtTerms l) behind x) ≡ stmtShape N i at (onRight code l x)
 unfolding stmtShape
-pair-made N at code next so-far behind l (fault k place) placed ends = refl
-pair-made N at code next so-far behind l (whole r after end) placed ends =
-    rw (← or-earlier, ends, placed) (by (eqb code 2))
+pair-made N i at code next so-far behind l (fault k place) placed ends = refl
+pair-made N i at code next so-far behind l (whole r after end) placed ends =
+    let sum : i + stmtTerms l + stmtTerms r ≡ i + (stmtTerms l + stmtTerms r) = omega arith in
+    rw (← or-earlier, ends, placed, sum) (by (eqb code 2))
   where
     made : ℕ → StmtShape
     made s =
@@ -92,6 +94,7 @@ pair-made N at code next so-far behind l (whole r after end) placed ends =
           steps = s;
           error = asKindError (orPlace (stmtKindError (at + 3) l) (stmtKindError (at + 3 + stmtWidth l) r));
           statements = after;
+          terms = i + (stmtTerms l + stmtTerms r);
           levels = suc (max (stmtLevels l) (stmtLevels r));
           next = end;
         })
@@ -99,16 +102,17 @@ pair-made N at code next so-far behind l (whole r after end) placed ends =
     capped : min (min (steps N l) (2 ^ 32) + min (steps N r) (2 ^ 32) + 1) (2 ^ 32) ≡ min (steps N l + steps N r + 1) (2 ^ 32)
     capped = omega arith
 
-    by : (b : Bool) → made (min (min (steps N l) (2 ^ 32) + min (steps N r) (2 ^ 32) + 1) (2 ^ 32)) ≡ stmtShape N at (whole (cond b (seq l r) (par l r)) after end)
+    by : (b : Bool) → made (min (min (steps N l) (2 ^ 32) + min (steps N r) (2 ^ 32) + 1) (2 ^ 32)) ≡ stmtShape N i at (whole (cond b (seq l r) (par l r)) after end)
     by true = rw capped
     by false = rw capped
 
 -- An if or while whose test and body were read.
-tested-made : (N at code next nodes behind after end : ℕ) (e : Expr) (b : Stmt) → next ≡ at + 3 → behind ≡ next + width e
-    → stmt.Whole (testedOf N code (exprSummary Truth 0 next e nodes behind) (stmtSummary N behind b after end)) ≡ stmtShape N at (whole (tested code e b) after end)
+tested-made : (N i at code next nodes behind after end : ℕ) (e : Expr) (b : Stmt) → next ≡ at + 3 → behind ≡ next + width e → nodes ≡ exprNodes e
+    → stmt.Whole (testedOf N code (exprSummary Truth next e nodes behind) (stmtSummary N (i + nodes) behind b after end)) ≡ stmtShape N i at (whole (tested code e b) after end)
 unfolding stmtShape
-tested-made N at code next nodes behind after end e b placed ends =
-    rw (← or-earlier, ends, placed) (by (eqb code 4))
+tested-made N i at code next nodes behind after end e b placed ends counted =
+    let sum : i + exprNodes e + stmtTerms b ≡ i + (exprNodes e + stmtTerms b) = omega arith in
+    rw (← or-earlier, ends, counted, placed, sum) (by (eqb code 4))
   where
     made : ℕ → StmtShape
     made s =
@@ -116,6 +120,7 @@ tested-made N at code next nodes behind after end e b placed ends =
           steps = s;
           error = asKindError (orPlace (kindError Truth (at + 3) e) (stmtKindError (at + 3 + width e) b));
           statements = after;
+          terms = i + (exprNodes e + stmtTerms b);
           levels = suc (stmtLevels b);
           next = end;
         })
@@ -123,86 +128,87 @@ tested-made N at code next nodes behind after end e b placed ends =
     body : ℕ
     body = min (steps N b) (2 ^ 32)
 
-    by : (t : Bool) → made (min (cond t (E e + 1 + body) (N * (E e + 2) + (N - 1) * (body + 1))) (2 ^ 32)) ≡ stmtShape N at (whole (cond t (if e b) (while e b)) after end)
+    by : (t : Bool) → made (min (cond t (E e + 1 + body) (N * (E e + 2) + (N - 1) * (body + 1))) (2 ^ 32)) ≡ stmtShape N i at (whole (cond t (if e b) (while e b)) after end)
     by true = ap made (omega arith)
     by false = ap made (cap-part (N * (E e + 2)) (N - 1) (steps N b))
 
 -- What a walk answers at each head, from what the walks of the parts answer.
-module _ (bytes : List ℕ) (count levels before at N : ℕ) (more : 0 < levels) where
+module _ (bytes : List ℕ) (count levels before at N i : ℕ) (more : 0 < levels) where
   abbrev here : StmtShape
-  here = stmtShape N at (stmtAt levels bytes count before at)
+  here = stmtShape N i at (stmtAt levels bytes count before at)
 
   abbrev below : ℕ → ℕ → StmtRead
   below = stmtAt (levels - 1) bytes count
 
   pub assign-shape : (v next : ℕ) → stmtHead bytes count (levels - 1) before at ≡ Assign v next
-      → assignedOf (before + 1) (exprShape Integer 0 next (wholeExpr bytes count next)) ≡ here
+      → assignedOf (before + 1) i (exprShape Integer next (wholeExpr bytes count next)) ≡ here
   unfolding Marked
   assign-shape v next head =
       rw
       (stmt-step bytes count levels before at _ more head, add-one before)
-      (assigned-made N at v next (suc before) (wholeExpr bytes count next) (marked bytes count (levels - 1) before at _ head .2))
+      (assigned-made bytes count N i at v next (suc before) (wholeExpr bytes count next) refl (marked bytes count (levels - 1) before at _ head .2))
 
   module _ (code next : ℕ) where
     module _ (head : stmtHead bytes count (levels - 1) before at ≡ Pair code next) where
-      pub left-side-fault : (k place : ℕ) → stmtShape N next (below (before + 1) next) ≡ stmt.Fault k place → stmt.Fault k place ≡ here
+      pub left-side-fault : (k place : ℕ) → stmtShape N i next (below (before + 1) next) ≡ stmt.Fault k place → stmt.Fault k place ≡ here
       unfolding stmtShape
       left-side-fault k place p =
           rw (
             stmt-step bytes count levels before at _ more head,
             ← add-one before,
-            stmt-faulted N next (below (before + 1) next) k place p,
+            stmt-faulted N i next (below (before + 1) next) k place p,
           )
 
-      pub pair-shape : (l : StmtSummary) → stmtShape N next (below (before + 1) next) ≡ stmt.Whole l
-          → pairOf l (stmtShape N (l .next) (below (l .statements) (l .next))) ≡ here
+      pub pair-shape : (l : StmtSummary) → stmtShape N i next (below (before + 1) next) ≡ stmt.Whole l
+          → pairOf l (stmtShape N (l .terms) (l .next) (below (l .statements) (l .next))) ≡ here
       unfolding Marked
       pair-shape l p =
-          let left = stmt-shaped N next (below (before + 1) next) l p in
+          let left = stmt-shaped N i next (below (before + 1) next) l p in
           let right = below (l .statements) (l .next) in
           rw (stmt-step bytes count levels before at _ more head, ← add-one before, left .was)
-          (ap (λ x. pairOf x (stmtShape N (l .next) right)) (left .is)
-          ∙ pair-made N at code next (l .statements) (l .next) (left .tree) right (marked bytes count (levels - 1) before at _ head .2)
+          (ap₂ (λ x t. pairOf x (stmtShape N t (l .next) right)) (left .is) (ap (λ x. x .terms) (left .is))
+          ∙ pair-made N i at code next (l .statements) (l .next) (left .tree) right (marked bytes count (levels - 1) before at _ head .2)
           (stmt-read (levels - 1) bytes count (before + 1) next (left .tree) (l .statements) (l .next) (left .was) .ends))
 
     module _ (head : stmtHead bytes count (levels - 1) before at ≡ Test code next) where
-      pub test-fault : (k place : ℕ) → exprShape Truth 0 next (wholeExpr bytes count next) ≡ expr.Fault k place → stmt.Fault k place ≡ here
+      pub test-fault : (k place : ℕ) → exprShape Truth next (wholeExpr bytes count next) ≡ expr.Fault k place → stmt.Fault k place ≡ here
       unfolding stmtShape
       test-fault k place p =
-          rw (stmt-step bytes count levels before at _ more head, faulted Truth 0 next (wholeExpr bytes count next) k place p)
+          rw (stmt-step bytes count levels before at _ more head, faulted Truth next (wholeExpr bytes count next) k place p)
 
-      module _ (e : ExprSummary) (p : exprShape Truth 0 next (wholeExpr bytes count next) ≡ expr.Whole e) where
-        pub body-fault : (k place : ℕ) → stmtShape N (e .next) (below (before + 1) (e .next)) ≡ stmt.Fault k place → stmt.Fault k place ≡ here
+      module _ (e : ExprSummary) (p : exprShape Truth next (wholeExpr bytes count next) ≡ expr.Whole e) where
+        pub body-fault : (k place : ℕ) → stmtShape N (i + e .nodes) (e .next) (below (before + 1) (e .next)) ≡ stmt.Fault k place → stmt.Fault k place ≡ here
         unfolding stmtShape
         body-fault k place q =
             rw (
               stmt-step bytes count levels before at _ more head,
               ← add-one before,
-              shaped Truth 0 next (wholeExpr bytes count next) e p .was,
-              stmt-faulted N (e .next) (below (before + 1) (e .next)) k place q,
+              shaped Truth next (wholeExpr bytes count next) e p .was,
+              stmt-faulted N (i + e .nodes) (e .next) (below (before + 1) (e .next)) k place q,
             )
 
-        pub test-shape : (b : StmtSummary) → stmtShape N (e .next) (below (before + 1) (e .next)) ≡ stmt.Whole b
+        pub test-shape : (b : StmtSummary) → stmtShape N (i + e .nodes) (e .next) (below (before + 1) (e .next)) ≡ stmt.Whole b
             → stmt.Whole (testedOf N code e b) ≡ here
         unfolding Marked
         test-shape b q =
-            let test = shaped Truth 0 next (wholeExpr bytes count next) e p in
-            let body = stmt-shaped N (e .next) (below (before + 1) (e .next)) b q in
+            let test = shaped Truth next (wholeExpr bytes count next) e p in
+            let known = whole-read bytes count next (test .tree) (e .nodes) (e .next) (test .was) in
+            let body = stmt-shaped N (i + e .nodes) (e .next) (below (before + 1) (e .next)) b q in
             rw (stmt-step bytes count levels before at _ more head, ← add-one before, test .was, body .was)
             (ap₂ (λ x y. stmt.Whole (testedOf N code x y)) (test .is) (body .is)
-            ∙ tested-made N at code next (e .nodes) (e .next) (b .statements) (b .next) (test .tree) (body .tree)
+            ∙ tested-made N i at code next (e .nodes) (e .next) (b .statements) (b .next) (test .tree) (body .tree)
             (marked bytes count (levels - 1) before at _ head .2)
-            (whole-read bytes count next (test .tree) (e .nodes) (e .next) (test .was) .ends))
+            (known .ends) (known .counted))
 
 -- What is found in a file is what is read.
 found-made : (bytes sizes : List ℕ) (at : ℕ) (x : StmtRead) → wholeStmt bytes (length sizes) at ≡ x
-    → handlerFound bytes at (stmtShape (product sizes) at x) ≡ handlerFile (onStmt bytes sizes at x) .found
+    → handlerFound bytes at (stmtShape (product sizes) 0 at x) ≡ handlerFile (onStmt bytes sizes at x) .found
 unfolding stmtShape handlerFile wholeStmt
 found-made bytes sizes at (fault k place) read = refl
 found-made bytes sizes at (whole S after next) read = by (fillAt bytes next)
   where
     w : StmtSummary
-    w = stmtSummary (product sizes) at S after next
+    w = stmtSummary (product sizes) 0 at S after next
 
     known : ReadStmt 17 (length sizes) 0 at S after next
     known = stmt-read 17 bytes (length sizes) 0 at S after next read
@@ -219,6 +225,6 @@ found-made bytes sizes at (whole S after next) read = by (fillAt bytes next)
     by (Wrong place) = refl
 
 pub found-read : (bytes sizes : List ℕ) (at : ℕ)
-    → handlerFound bytes at (stmtShape (product sizes) at (stmtAt 17 bytes (length sizes) 0 at)) ≡ handlerFile (onStmt bytes sizes at (wholeStmt bytes (length sizes) at)) .found
+    → handlerFound bytes at (stmtShape (product sizes) 0 at (stmtAt 17 bytes (length sizes) 0 at)) ≡ handlerFile (onStmt bytes sizes at (wholeStmt bytes (length sizes) at)) .found
 unfolding wholeStmt
 found-read bytes sizes at = found-made bytes sizes at (stmtAt 17 bytes (length sizes) 0 at) refl

@@ -3,6 +3,8 @@ pub mod Header
 pub mod Expressions
 pub mod Statements
 pub mod Kinds
+pub mod Terms
 pub mod StatementTable
 pub mod Reading
 pub mod Shapes
+pub mod Refinement

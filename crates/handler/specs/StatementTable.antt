@@ -9,6 +9,7 @@ use Rattle.semantics.specs.Conditions.{statementCode, targetOf}
 use Rattle.handler.specs.declared.table.Statement.{Statement}
 use Rattle.handler.specs.Kinds.{width, stmtWidth}
 use Rattle.handler.specs.Statements.{StmtRead, whole, fault}
+use Rattle.handler.specs.Terms.{exprNodes, stmtTerms}
 
 -- The number of statements in a statement, itself included.
 abbrev pub statements : Stmt → ℕ
@@ -28,12 +29,13 @@ stmtLevels (par l r) = suc (max (stmtLevels l) (stmtLevels r))
 stmtLevels (if e b) = suc (stmtLevels b)
 stmtLevels (while e b) = suc (stmtLevels b)
 
--- A statement as one word, and back: 3 bits for its code, 2 for its variable, 7 for `after`, then the first bit of its expression.
+-- A statement as one word, and back: 3 bits for its code, 2 for its variable, 7 for `after`, 11 for its expression, then its first bit.
 unfoldable pub statementWord : Statement → ℕ
-statementWord s = s .code + 8 * (s .target + 4 * (s .after + 128 * s .expr))
+statementWord s = s .code + 8 * (s .target + 4 * (s .after + 128 * (s .expr + 2048 * s .bit)))
 
 unfoldable pub statementOf : ℕ → Statement
-statementOf word = record { code = word % 8; target = word / 8 % 4; after = word / 32 % 128; expr = word / 4096 }
+statementOf word =
+    record { code = word % 8; target = word / 8 % 4; after = word / 32 % 128; expr = word / 4096 % 2048; bit = word / 8388608 }
 
 -- Statement j of a table. Past the end the word is 0.
 unfoldable pub statementIn : List ℕ → ℕ → Statement
@@ -48,40 +50,43 @@ afterFirst j (par l r) = suc j + statements l
 afterFirst j (if e b) = suc j + statements b
 afterFirst j (while e b) = suc j + statements b
 
--- The first bit of the expression of a statement at a bit; 0 if it has none.
-abbrev pub exprBit : ℕ → Stmt → ℕ
-exprBit bit nil = 0
-exprBit bit (assign v e) = bit + 5
-exprBit bit (seq l r) = 0
-exprBit bit (par l r) = 0
-exprBit bit (if e b) = bit + 3
-exprBit bit (while e b) = bit + 3
+-- The number of the first node of a statement's expression, where the nodes of the statement begin at number i; 0 if it has none.
+abbrev pub exprNumber : ℕ → Stmt → ℕ
+exprNumber i nil = 0
+exprNumber i (assign v e) = i
+exprNumber i (seq l r) = 0
+exprNumber i (par l r) = 0
+exprNumber i (if e b) = i
+exprNumber i (while e b) = i
 
--- The record of a statement that is number j, at a bit.
-abbrev pub statementRecord : ℕ → ℕ → Stmt → Statement
-statementRecord j bit S = record { code = statementCode S; target = targetOf S; after = afterFirst j S; expr = exprBit bit S }
+-- The record of a statement that is number j, at a bit; the nodes of its expressions begin at number i.
+abbrev pub statementRecord : ℕ → ℕ → ℕ → Stmt → Statement
+statementRecord j bit i S =
+    record { code = statementCode S; target = targetOf S; after = afterFirst j S; expr = exprNumber i S; bit = bit }
 
--- The word of a statement that is number j, at a bit.
-unfoldable pub wordOf : ℕ → ℕ → Stmt → ℕ
-wordOf j bit S = statementWord (statementRecord j bit S)
+-- Its word.
+unfoldable pub wordOf : ℕ → ℕ → ℕ → Stmt → ℕ
+wordOf j bit i S = statementWord (statementRecord j bit i S)
 
--- The words of a statement that is number j, at a bit: its own, then those of its parts.
-abbrev pub statementWords : ℕ → ℕ → Stmt → List ℕ
-statementWords j bit nil = wordOf j bit nil ∷ []
-statementWords j bit (assign v e) = wordOf j bit (assign v e) ∷ []
-statementWords j bit (seq l r) =
-    wordOf j bit (seq l r) ∷ (statementWords (suc j) (bit + 3) l ++ statementWords (suc j + statements l) (bit + 3 + stmtWidth l) r)
-statementWords j bit (par l r) =
-    wordOf j bit (par l r) ∷ (statementWords (suc j) (bit + 3) l ++ statementWords (suc j + statements l) (bit + 3 + stmtWidth l) r)
-statementWords j bit (if e b) = wordOf j bit (if e b) ∷ statementWords (suc j) (bit + 3 + width e) b
-statementWords j bit (while e b) = wordOf j bit (while e b) ∷ statementWords (suc j) (bit + 3 + width e) b
+-- Its words: its own, then those of its parts.
+abbrev pub statementWords : ℕ → ℕ → ℕ → Stmt → List ℕ
+statementWords j bit i nil = wordOf j bit i nil ∷ []
+statementWords j bit i (assign v e) = wordOf j bit i (assign v e) ∷ []
+statementWords j bit i (seq l r) =
+    wordOf j bit i (seq l r)
+    ∷ (statementWords (suc j) (bit + 3) i l ++ statementWords (suc j + statements l) (bit + 3 + stmtWidth l) (i + stmtTerms l) r)
+statementWords j bit i (par l r) =
+    wordOf j bit i (par l r)
+    ∷ (statementWords (suc j) (bit + 3) i l ++ statementWords (suc j + statements l) (bit + 3 + stmtWidth l) (i + stmtTerms l) r)
+statementWords j bit i (if e b) = wordOf j bit i (if e b) ∷ statementWords (suc j) (bit + 3 + width e) (i + exprNodes e) b
+statementWords j bit i (while e b) = wordOf j bit i (while e b) ∷ statementWords (suc j) (bit + 3 + width e) (i + exprNodes e) b
 
--- What reading the statement at a bit does to a table, with `before` statements before it: the words of the statement are stored one
+-- What reading the statement at a bit does to a table, with `before` statements and i expression nodes before it: the words of the statement are stored one
 -- after the other. Nothing is said if reading finds a fault.
-abbrev pub StatementsStored : List ℕ → List ℕ → ℕ → ℕ → StmtRead → Type 0
-StatementsStored entry exit before bit (whole S after next) = exit ≡ sets entry before (statementWords before bit S)
-StatementsStored entry exit before bit (fault k place) = Unit {0}
+abbrev pub StatementsStored : List ℕ → List ℕ → ℕ → ℕ → ℕ → StmtRead → Type 0
+StatementsStored entry exit before bit i (whole S after next) = exit ≡ sets entry before (statementWords before bit i S)
+StatementsStored entry exit before bit i (fault k place) = Unit {0}
 
 -- The table of a handler whose statement is at a bit: 63 words, 0 past the last statement.
 unfoldable pub statementTable : ℕ → Stmt → List ℕ
-statementTable bit S = statementWords 0 bit S ++ replicate (63 - statements S) 0
+statementTable bit S = statementWords 0 bit 0 S ++ replicate (63 - statements S) 0

@@ -3,21 +3,27 @@ use crate::codes::MISSING;
 use crate::codes::NO_VARIABLE;
 use crate::codes::TOO_MANY;
 use crate::codes::UNUSED;
+use crate::terms;
+use crate::terms::Term;
+use crate::terms::store_term;
 use bits::Field;
 use semantics::Kind;
 use semantics::Row;
 ghost use mathlib.Core.Bool.{cond};
 ghost use mathlib.Core.Path.{_≡_};
-ghost use Prim.Native.Nat.{_≤_, _<_};
+ghost use Prim.Native.Nat.{_+_, _≤_, _<_};
+ghost use lib.Signed.{mag};
 ghost use Rattle.bits.specs.Fields.{fieldAt};
 ghost use Rattle.semantics.specs.Language.{sameKind};
 ghost use Rattle.handler.specs.Expressions.{signed, integerHead, truthHead, variableHead, operationHead, payloadHead, exprHead, bad, onExprHead, exprAt, wholeExpr};
-ghost use Rattle.handler.specs.Shapes.{inMask, earlierOf, exprShape};
+ghost use Rattle.handler.specs.Shapes.{earlierOf, exprShape};
+ghost use Rattle.handler.specs.Terms.{bits16, TermsStored};
+ghost use Rattle.handler.specs.Refinement.{TermFits, HeadFits, leafTerm};
 
 // An expression has at most 31 nodes. One level more than that is read.
 const MOST_EXPR_NODES: u32 = 31;
 
-pub const EXPR_LEVELS: u32 = MOST_EXPR_NODES + 1;
+const EXPR_LEVELS: u32 = MOST_EXPR_NODES + 1;
 
 // The widths in bits of a node's tag and of what follows each tag.
 const TAG_BITS: usize = 2;
@@ -55,12 +61,10 @@ pub enum KindError {
     At(usize),
 }
 
-// A summary of a whole expression: its kind error, its E, how often given variables occur in it, the number of nodes so far and the
-// cursor after it.
+// A summary of a whole expression: its kind error, its E, the number of nodes so far and the cursor after it.
 pub struct ExprSummary {
     pub error: KindError,
     pub e: u32,
-    pub occurs: u32,
     pub nodes: u32,
     pub next: usize,
 }
@@ -143,7 +147,7 @@ fn payload_at(src: &[u8], count: u32, at: usize, tag: u64) -> ExprHead
 }
 
 // Reads the head of the node at a cursor, with `nodes` nodes of its expression before it.
-pub fn expr_head_at(src: &[u8], count: u32, nodes: u32, at: usize) -> ExprHead
+pub(crate) fn expr_head_at(src: &[u8], count: u32, nodes: u32, at: usize) -> ExprHead
     ensures { λ r. ⌜ r ≡ exprHead (now (src .entry)) count nodes at ⌝ }
 {
     let Field::Value(tag, next) = bits::read(src, at, TAG_BITS) else {
@@ -172,7 +176,7 @@ fn wanted_of(result: Kind, wanted: Kind, at: usize, below: KindError) -> KindErr
 }
 
 // The first kind error of two parts, in file order.
-pub fn earlier_of(first: KindError, second: KindError) -> KindError
+pub(crate) fn earlier_of(first: KindError, second: KindError) -> KindError
     ensures { λ r. ⌜ r ≡ earlierOf first second ⌝ }
 {
     match first {
@@ -181,20 +185,52 @@ pub fn earlier_of(first: KindError, second: KindError) -> KindError
     }
 }
 
-// 1 if variable v is in the mask, otherwise 0. A mask has 32 bits.
-fn occurs_in(mask: u32, v: u32) -> u32
-    ensures { λ r. ⌜ r ≡ cond (inMask mask v) 1 0 ⌝ }
+// An integer as 16 bits in two's complement: the remainder, from 0 up, by 65,536.
+fn bits_of(z: i64) -> u32
+    requires { ⌜ mag z < 32768 ⌝ }
+    ensures { λ r. ⌜ r ≡ bits16 z ⌝ }
 {
-    if v >= 32 {
-        return 0;
+    (z + 65536) as u32 % 65536
+}
+
+// The node of the table for a node without operands, from its head. That of an operation is not made here.
+fn leaf_term(head: ExprHead) -> Term
+    requires { ⌜ HeadFits head ⌝ }
+    ensures { λ r. ⌜ (r ≡ leafTerm head) × TermFits r ⌝ }
+{
+    match head {
+        ExprHead::Integer(z, _) => Term {
+            tag: terms::INTEGER,
+            value: bits_of(z),
+            right: 0,
+        },
+        ExprHead::Truth(b, _) => Term {
+            tag: terms::TRUTH,
+            value: if b { 1 } else { 0 },
+            right: 0,
+        },
+        ExprHead::Variable(v, _) => Term {
+            tag: terms::VARIABLE,
+            value: v,
+            right: 0,
+        },
+        ExprHead::Operation(_, _) => Term {
+            tag: 0,
+            value: 0,
+            right: 0,
+        },
+        ExprHead::Fault(_, _) => Term {
+            tag: 0,
+            value: 0,
+            right: 0,
+        },
     }
-    (mask >> v) % 2
 }
 
 // The shape of a node without operands, from its head. The operands of an operation are not read here.
-fn leaf_of(head: ExprHead, wanted: Kind, moved: u32, nodes: u32, at: usize) -> ExprShape
+fn leaf_of(head: ExprHead, wanted: Kind, nodes: u32, at: usize) -> ExprShape
     requires { ⌜ nodes ≤ 31 ⌝ }
-    ensures { λ r. ⌜ r ≡ exprShape wanted moved at (onExprHead head nodes (λ _ place. bad 14 place)) ⌝ }
+    ensures { λ r. ⌜ r ≡ exprShape wanted at (onExprHead head nodes (λ _ place. bad 14 place)) ⌝ }
 {
     match head {
         ExprHead::Integer(_, next) => {
@@ -202,7 +238,6 @@ fn leaf_of(head: ExprHead, wanted: Kind, moved: u32, nodes: u32, at: usize) -> E
             ExprShape::Whole(ExprSummary {
                 error,
                 e: 0,
-                occurs: 0,
                 nodes: nodes + 1,
                 next,
             })
@@ -212,17 +247,15 @@ fn leaf_of(head: ExprHead, wanted: Kind, moved: u32, nodes: u32, at: usize) -> E
             ExprShape::Whole(ExprSummary {
                 error,
                 e: 0,
-                occurs: 0,
                 nodes: nodes + 1,
                 next,
             })
         }
-        ExprHead::Variable(v, next) => {
+        ExprHead::Variable(_, next) => {
             let error = wanted_of(Kind::Integer, wanted, at, KindError::Nowhere);
             ExprShape::Whole(ExprSummary {
                 error,
                 e: 1,
-                occurs: occurs_in(moved, v),
                 nodes: nodes + 1,
                 next,
             })
@@ -232,36 +265,48 @@ fn leaf_of(head: ExprHead, wanted: Kind, moved: u32, nodes: u32, at: usize) -> E
     }
 }
 
-// The shape of the expression at a cursor, with `levels` levels to read. An operation that was read always has a row.
+// The shape of the expression at a cursor, with `levels` levels to read. Its nodes are stored in the table: the expression's first
+// node as number `base`, and `nodes` of its nodes are stored before. An operation that was read always has a row.
 fn expr_walk(
     src: &[u8],
+    table: &mut [u32],
     count: u32,
     wanted: Kind,
-    moved: u32,
     levels: u32,
+    base: u32,
     nodes: u32,
     at: usize,
 ) -> ExprShape
-    requires { ⌜ nodes ≤ 31 ⌝ }
-    ensures { λ r. ⌜ r ≡ exprShape wanted moved at (exprAt levels (now (src .entry)) count nodes at) ⌝ }
+    requires { ⌜ (nodes ≤ 31) × (base ≤ 1953) ⌝ }
+    ensures { λ r. ⌜ r ≡ exprShape wanted at (exprAt levels (now (src .entry)) count nodes at) ⌝ }
+    ensures { λ r.
+        ⌜ TermsStored (now (table .entry)) (now (table .exit)) (base + nodes) (exprAt levels (now (src .entry)) count nodes at) ⌝ }
 {
     if levels == 0 {
         return ExprShape::Fault(TOO_MANY, at);
     }
     let head = expr_head_at(src, count, nodes, at);
     let ExprHead::Operation(o, next) = head else {
-        return leaf_of(head, wanted, moved, nodes, at);
+        store_term(table, base + nodes, leaf_term(head));
+        return leaf_of(head, wanted, nodes, at);
     };
     let Row::Kinds(a, b, result) = semantics::row_of(o as usize) else {
         return ExprShape::Fault(UNUSED, at);
     };
-    let first = expr_walk(src, count, a, moved, levels - 1, nodes + 1, next);
-    let ExprShape::Whole(left) = first else {
-        return first;
+    let below = levels - 1;
+    let left_shape = expr_walk(src, table, count, a, below, base, nodes + 1, next);
+    let ExprShape::Whole(left) = left_shape else {
+        return left_shape;
     };
-    let second = expr_walk(src, count, b, moved, levels - 1, left.nodes, left.next);
-    let ExprShape::Whole(right) = second else {
-        return second;
+    let term = Term {
+        tag: terms::OPERATION,
+        value: o,
+        right: base + left.nodes,
+    };
+    store_term(table, base + nodes, term);
+    let right_shape = expr_walk(src, table, count, b, below, base, left.nodes, left.next);
+    let ExprShape::Whole(right) = right_shape else {
+        return right_shape;
     };
     let left_error = left.error;
     let right_error = right.error;
@@ -269,15 +314,23 @@ fn expr_walk(
     ExprShape::Whole(ExprSummary {
         error,
         e: left.e + right.e + 1,
-        occurs: left.occurs + right.occurs,
         nodes: right.nodes,
         next: right.next,
     })
 }
 
-// The shape of the whole expression at a cursor.
-pub fn expr_shape(src: &[u8], count: u32, wanted: Kind, moved: u32, at: usize) -> ExprShape
-    ensures { λ r. ⌜ r ≡ exprShape wanted moved at (wholeExpr (now (src .entry)) count at) ⌝ }
+// The shape of the whole expression at a cursor. Its nodes are stored in the table from number `base` on.
+pub(crate) fn expr_shape(
+    src: &[u8],
+    table: &mut [u32],
+    count: u32,
+    wanted: Kind,
+    base: u32,
+    at: usize,
+) -> ExprShape
+    requires { ⌜ base ≤ 1953 ⌝ }
+    ensures { λ r. ⌜ r ≡ exprShape wanted at (wholeExpr (now (src .entry)) count at) ⌝ }
+    ensures { λ r. ⌜ TermsStored (now (table .entry)) (now (table .exit)) base (wholeExpr (now (src .entry)) count at) ⌝ }
 {
-    expr_walk(src, count, wanted, moved, EXPR_LEVELS, 0, at)
+    expr_walk(src, table, count, wanted, EXPR_LEVELS, base, 0, at)
 }

@@ -8,6 +8,7 @@ pub mod head;
 pub mod reading;
 pub mod statements;
 pub mod table;
+pub mod terms;
 
 // The codes of statements.
 pub const NIL: u32 = 0;
@@ -35,12 +36,13 @@ pub enum StmtHead {
     Fault(u32, usize),
 }
 
-// A summary of a whole statement: its step number, capped at 2 ^ 32, its kind error, the number of statements so far, the number of
-// its levels and the cursor after it.
+// A summary of a whole statement: its step number, capped at 2 ^ 32, its kind error, the number of statements and of expression nodes
+// so far, the number of its levels and the cursor after it.
 pub struct StmtSummary {
     pub steps: u64,
     pub error: KindError,
     pub statements: u32,
+    pub terms: u32,
     pub levels: u32,
     pub next: usize,
 }

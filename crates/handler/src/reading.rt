@@ -14,13 +14,25 @@ use crate::statements::STMT_LEVELS;
 use crate::statements::stmt_walk;
 use bits::Fill;
 ghost use mathlib.Core.Path.{_≡_};
+ghost use lib.ListN.{length, replicate};
 ghost use Rattle.handler.specs.Reading.{refused, readHandler};
-ghost use Rattle.handler.specs.Shapes.{handlerFound, handlerFile};
+ghost use Rattle.handler.specs.Shapes.{handlerFound, handlerFile, termsAfter};
+
+// Sets all words to 0.
+fn clear(words: &mut [u32])
+    ensures { λ _. ⌜ now (words .exit) ≡ replicate (length (now (words .entry))) 0 ⌝ }
+{
+    for i in 0..words.len() {
+        words[i] = 0;
+    }
+}
 
 // A file with a fault.
-fn faulty(code: u32, place: usize) -> HandlerFile
+fn faulty(exprs: &mut [u32], code: u32, place: usize) -> HandlerFile
     ensures { λ r. ⌜ r ≡ handlerFile (refused code place) ⌝ }
+    ensures { λ r. ⌜ now (exprs .exit) ≡ termsAfter (refused code place) (now (exprs .entry)) ⌝ }
 {
+    clear(exprs);
     let head = no_head();
     HandlerFile {
         found: HandlerFound::Fault(code, place),
@@ -54,29 +66,33 @@ fn found_of(src: &[u8], at: usize, read: StmtShape) -> HandlerFound
     }
 }
 
-// Reads the handler file, or finds its first fault.
-pub fn read_handler(src: &[u8]) -> HandlerFile
-    ensures { λ r. ⌜ r ≡ handlerFile (readHandler (now (src .entry))) ⌝ }
+// Reads the handler file, or finds its first fault. The nodes of its expressions are stored in `exprs`, as far as it goes; after a
+// fault all its words are 0.
+pub fn read_handler(src: &[u8], exprs: &mut [u32]) -> HandlerFile
+    ensures file { λ r. ⌜ r ≡ handlerFile (readHandler (now (src .entry))) ⌝ }
+    ensures terms { λ r. ⌜ now (exprs .exit) ≡ termsAfter (readHandler (now (src .entry))) (now (exprs .entry)) ⌝ }
 {
     let file = read_head(src);
     let head = file.head;
     let end = file.end;
     match end {
-        HeadEnd::Fault(code, place) => faulty(code, place),
+        HeadEnd::Fault(code, place) => faulty(exprs, code, place),
         HeadEnd::Statement(at) => {
             let mut statements = [0u64; MOST_STATEMENTS];
             let read = stmt_walk(
                 src,
                 &mut statements,
+                exprs,
                 head.count,
                 head.states,
                 STMT_LEVELS,
+                0,
                 0,
                 at,
             );
             let found = found_of(src, at, read);
             match found {
-                HandlerFound::Fault(code, place) => faulty(code, place),
+                HandlerFound::Fault(code, place) => faulty(exprs, code, place),
                 HandlerFound::Handler(_) => HandlerFile {
                     found,
                     head,

@@ -25,9 +25,10 @@ ghost use Prim.Native.Nat.{suc, _+_, _*_, _^_, _≤_, _<_, min, max};
 ghost use lib.ListN.{length};
 ghost use Rattle.bits.specs.Fields.{fieldAt};
 ghost use Rattle.states.specs.Sets.{capacity};
-ghost use Rattle.handler.specs.Shapes.{stmtShape, assignedOf, pairOf, testSteps, testedOf};
+ghost use Rattle.handler.specs.Shapes.{stmtShape, nilOf, assignedOf, pairOf, testSteps, testedOf};
 ghost use Rattle.handler.specs.Statements.{targetHead, codeHead, stmtHead, stmtAt};
 ghost use Rattle.handler.specs.StatementTable.{StatementsStored};
+ghost use Rattle.handler.specs.Terms.{ExprsStored};
 
 // A handler has at most 63 statements on at most 16 levels. One level more than that is read.
 const MOST_COUNT: u32 = MOST_STATEMENTS as u32;
@@ -76,7 +77,7 @@ fn code_at(src: &[u8], count: u32, at: usize, code: u32, next: usize) -> StmtHea
 }
 
 // Reads the head of the statement at a cursor, with `before` statements before it and `below` levels left below it.
-pub fn stmt_head_at(src: &[u8], count: u32, below: u32, before: u32, at: usize) -> StmtHead
+pub(crate) fn stmt_head_at(src: &[u8], count: u32, below: u32, before: u32, at: usize) -> StmtHead
     ensures { λ r. ⌜ r ≡ stmtHead (now (src .entry)) count below before at ⌝ }
 {
     let Field::Value(code, next) = bits::read(src, at, CODE_BITS) else {
@@ -95,9 +96,24 @@ fn capped(steps: u64) -> u64
     if steps < PAST { steps } else { PAST }
 }
 
+// The shape of nil.
+fn nil_of(statements: u32, terms: u32, next: usize) -> StmtShape
+    ensures { λ r. ⌜ r ≡ nilOf statements terms next ⌝ }
+{
+    StmtShape::Whole(StmtSummary {
+        steps: 0,
+        error: KindError::Nowhere,
+        statements,
+        terms,
+        levels: 1,
+        next,
+    })
+}
+
 // The shape of an assignment, from that of its expression.
-fn assigned_of(after: u32, assigned: ExprShape) -> StmtShape
-    ensures { λ r. ⌜ r ≡ assignedOf after assigned ⌝ }
+fn assigned_of(after: u32, terms: u32, assigned: ExprShape) -> StmtShape
+    requires { ⌜ (terms ≤ 1953) × ((e : ExprSummary) → assigned ≡ ExprShape.Whole e → e .nodes ≤ 31) ⌝ }
+    ensures { λ r. ⌜ r ≡ assignedOf after terms assigned ⌝ }
 {
     match assigned {
         ExprShape::Whole(expr) => {
@@ -106,6 +122,7 @@ fn assigned_of(after: u32, assigned: ExprShape) -> StmtShape
                 steps: expr.e as u64 + 1,
                 error,
                 statements: after,
+                terms: terms + expr.nodes,
                 levels: 1,
                 next: expr.next,
             })
@@ -144,6 +161,7 @@ fn pair_of(left: StmtSummary, right: StmtShape) -> StmtShape
         steps: pair_steps(left.steps, second.steps),
         error,
         statements: second.statements,
+        terms: second.terms,
         levels: pair_levels(left.levels, second.levels),
         next: second.next,
     })
@@ -175,65 +193,74 @@ fn tested_of(n: u32, code: u32, test: ExprSummary, body: StmtSummary) -> StmtSha
         steps: test_steps(n, code, test.e, body.steps),
         error,
         statements: body.statements,
+        terms: body.terms,
         levels: body.levels + 1,
         next: body.next,
     })
 }
 
-// The shape of the statement at a cursor over n states, with `levels` levels to read and `before` statements of at most 315 bits each
-// before it. Its word and those of its parts are stored in the table.
+// The shape of the statement at a cursor over n states, with `levels` levels to read. There are `before` statements of at most 315
+// bits each before it, with `terms` expression nodes. Its word and those of its parts are stored in the table of statements, and the
+// nodes of its expressions in the other.
 pub(crate) fn stmt_walk(
     src: &[u8],
     table: &mut [u64],
+    exprs: &mut [u32],
     count: u32,
     n: u32,
     levels: u32,
     before: u32,
+    terms: u32,
     at: usize,
 ) -> StmtShape
-    requires { ⌜ (1 ≤ n) × (n ≤ capacity) × (before ≤ 63) × (at ≤ 23 + 315 * before) × (63 ≤ length (now table)) ⌝ }
-    ensures { λ r. ⌜ r ≡ stmtShape n at (stmtAt levels (now (src .entry)) count before at) ⌝ }
+    requires { ⌜ (1 ≤ n) × (n ≤ capacity) × (before ≤ 63) × (terms ≤ 31 * before) × (at ≤ 23 + 315 * before) × (63 ≤ length (now table)) ⌝ }
+    ensures { λ r. ⌜ r ≡ stmtShape n terms at (stmtAt levels (now (src .entry)) count before at) ⌝ }
     ensures { λ r.
-        ⌜ StatementsStored (now (table .entry)) (now (table .exit)) before at (stmtAt levels (now (src .entry)) count before at) ⌝ }
+        ⌜ StatementsStored (now (table .entry)) (now (table .exit)) before at terms (stmtAt levels (now (src .entry)) count before at) ⌝ }
+    ensures { λ r. ⌜ ExprsStored (now (exprs .entry)) (now (exprs .exit)) terms (stmtAt levels (now (src .entry)) count before at) ⌝ }
 {
     if levels == 0 {
         return StmtShape::Fault(TOO_MANY, at);
     }
-    match stmt_head_at(src, count, levels - 1, before, at) {
+    let below = levels - 1;
+    let after = before + 1;
+    match stmt_head_at(src, count, below, before, at) {
         StmtHead::Nil(next) => {
-            store_statement(table, before, NIL, 0, before + 1, 0);
-            StmtShape::Whole(StmtSummary {
-                steps: 0,
-                error: KindError::Nowhere,
-                statements: before + 1,
-                levels: 1,
-                next,
-            })
+            store_statement(table, before, NIL, 0, after, 0, at);
+            nil_of(after, terms, next)
         }
         StmtHead::Assign(v, next) => {
-            store_statement(table, before, ASSIGNMENT, v, before + 1, next);
-            assigned_of(before + 1, expr_shape(src, count, Kind::Integer, 0, next))
+            store_statement(table, before, ASSIGNMENT, v, after, terms, at);
+            let assigned = expr_shape(src, exprs, count, Kind::Integer, terms, next);
+            assigned_of(after, terms, assigned)
         }
         StmtHead::Pair(code, next) => {
-            let first = stmt_walk(src, table, count, n, levels - 1, before + 1, next);
+            let first = stmt_walk(src, table, exprs, count, n, below, after, terms, next);
             let StmtShape::Whole(left) = first else {
                 return first;
             };
-            store_statement(table, before, code, 0, left.statements, 0);
-            let second = stmt_walk(src, table, count, n, levels - 1, left.statements, left.next);
+            store_statement(table, before, code, 0, left.statements, 0, at);
+            let so_far = left.statements;
+            let used = left.terms;
+            let then = left.next;
+            let second = stmt_walk(src, table, exprs, count, n, below, so_far, used, then);
             pair_of(left, second)
         }
-        StmtHead::Test(code, next) => match expr_shape(src, count, Kind::Truth, 0, next) {
-            ExprShape::Fault(fault, place) => StmtShape::Fault(fault, place),
-            ExprShape::Whole(test) => {
-                let second = stmt_walk(src, table, count, n, levels - 1, before + 1, test.next);
-                let StmtShape::Whole(body) = second else {
-                    return second;
-                };
-                store_statement(table, before, code, 0, body.statements, next);
-                tested_of(n, code, test, body)
+        StmtHead::Test(code, next) => {
+            match expr_shape(src, exprs, count, Kind::Truth, terms, next) {
+                ExprShape::Fault(fault, place) => StmtShape::Fault(fault, place),
+                ExprShape::Whole(test) => {
+                    let inner = terms + test.nodes;
+                    let then = test.next;
+                    let second = stmt_walk(src, table, exprs, count, n, below, after, inner, then);
+                    let StmtShape::Whole(body) = second else {
+                        return second;
+                    };
+                    store_statement(table, before, code, 0, body.statements, terms, at);
+                    tested_of(n, code, test, body)
+                }
             }
-        },
+        }
         StmtHead::Fault(fault, place) => StmtShape::Fault(fault, place),
     }
 }

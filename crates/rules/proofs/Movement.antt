@@ -22,9 +22,8 @@ use Rattle.semantics.specs.Derivations.{Spec}
 use Rattle.semantics.specs.Conditions.{occurrences, inSet, moves, unmoved, c50}
 use Rattle.handler.specs.declared.head.Head.{Head}
 use Rattle.handler.specs.Header.{machineIn}
-use Rattle.handler.specs.Shapes.{inMask}
+use Rattle.evaluation.specs.Values.{inMask, agree, valueBy, isSmall, agreeIn}
 use Rattle.evaluation.specs.declared.Variable.{Variable}
-use Rattle.evaluation.specs.Values.{agree, valueBy, isSmall, agreeIn}
 use Rattle.evaluation.proofs.Laws.{get-past}
 use Rattle.rules.specs.Words.{wordSet, wordRelation, wordSpec}
 use Rattle.rules.proofs.Searches.{holds-inSet, within-holds, part-within}

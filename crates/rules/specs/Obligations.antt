@@ -1,4 +1,5 @@
--- The conditions on a node of the table over a statement of the table, by the node's rule, with the tables in the work words.
+-- The conditions on a node of the table over a statement of the table, by the node's rule, with the tables in the work words and the
+-- expressions in a table of nodes.
 use Prim.Native.Nat.{ℕ}
 use mathlib.Core.Bool.{cond}
 use mathlib.Core.List.{List}
@@ -8,12 +9,12 @@ use Rattle.semantics.specs.Derivations.{Spec}
 use Rattle.semantics.specs.Checking.{Condition, skipObligations, assignmentObligations, sequenceObligations, parallelObligations, ifObligations, whileObligations, weakenObligations}
 use Rattle.handler.specs.declared.head.Head.{Head}
 use Rattle.handler.specs.Header.{machineIn}
-use Rattle.evaluation.specs.Values.{exprIn}
+use Rattle.handler.specs.Terms.{exprIn}
 use Rattle.handler.specs.declared.table.Statement.{Statement}
 use Rattle.derivation.specs.declared.Node.{Node}
 use Rattle.rules.specs.Words.{wordSet, wordRelation, wordSpec}
 
-module _ (bytes : List ℕ) (head : Head) (work : List ℕ) where
+module _ (exprs : List ℕ) (head : Head) (work : List ℕ) where
   abbrev states : ℕ
   states = machineIn head .states
 
@@ -22,7 +23,7 @@ module _ (bytes : List ℕ) (head : Head) (work : List ℕ) where
   specIn node = wordSpec states work (node .names)
 
   abbrev exprOfStatement : Statement → Expr
-  exprOfStatement statement = exprIn bytes (head .count) (statement .expr)
+  exprOfStatement statement = exprIn exprs (statement .expr)
 
   -- The rules by their codes; `first` and `second` are the node's children, as far as its rule has them.
   unfoldable pub obligationsIn : Node → Statement → Node → Node → List Condition

@@ -27,7 +27,7 @@ ghost use Rattle.rules.specs.declared.NodeVerdict.the-variants.{Holds};
 ghost use Rattle.rules.specs.Asking.{askedAll, statesFor};
 ghost use Rattle.search.specs.Named.{naming};
 ghost use Rattle.handler.specs.Header.{machineIn};
-ghost use Rattle.evaluation.specs.Values.{exprIn};
+ghost use Rattle.handler.specs.Terms.{exprIn};
 ghost use Rattle.semantics.specs.Checking.{assignmentObligations};
 
 // 42, from the rows that say where a store leads: s in P, s′ its end: (s,s′) in Q.
@@ -65,42 +65,42 @@ pub fn store_in_guarantee(n: u32, work: &[u64], own: Names, after: &[u64]) -> bo
 }
 
 pub fn assignment_fault(
-    handler: &[u8],
+    exprs: &[u32],
     head: Head,
     work: &[u64],
     own: Names,
     fits: bool,
     v: u32,
-    expr: usize,
+    expr: u32,
 ) -> NodeVerdict
     ensures { λ r.
         ⌜ r ≡ askedAll Holds (assignmentObligations (machineIn head) fits (wordSpec (machineIn head .states) (now (work .entry)) own) v
-        (exprIn (now (handler .entry)) (head .count) expr)) ⌝ }
+        (exprIn (now (exprs .entry)) expr)) ⌝ }
 {
     let n = states_in(head);
-    let after = successors(handler, head, v, expr);
-    let found = common_reading(handler, head, work, own, fits, 41, expr);
+    let after = successors(exprs, head, v, expr);
+    let found = common_reading(exprs, head, work, own, fits, 41, expr);
     let found = ask(found, 42, store_in_post(n, work, own, &after));
     ask(found, 43, store_in_guarantee(n, work, own, &after))
 }
 
 // The states that the condition with this number names: s, s′ for 42 and 43.
 pub fn assignment_states(
-    handler: &[u8],
+    exprs: &[u32],
     head: Head,
     work: &[u64],
     own: Names,
     v: u32,
-    expr: usize,
+    expr: u32,
     number: u32,
 ) -> Named
     ensures { λ r.
         ⌜ ((fits : Bool) → r ≡ naming (statesFor number (assignmentObligations (machineIn head) fits
-        (wordSpec (machineIn head .states) (now (work .entry)) own) v (exprIn (now (handler .entry)) (head .count) expr)))) ⌝ }
+        (wordSpec (machineIn head .states) (now (work .entry)) own) v (exprIn (now (exprs .entry)) expr)))) ⌝ }
 {
     let n = states_in(head);
     let p = set_at(n, work, own.p);
-    let after = successors(handler, head, v, expr);
+    let after = successors(exprs, head, v, expr);
     match number {
         42 => least_pair(n, p, &after, rows_of(work, own.q)),
         43 => least_pair(n, p, &after, &with_same(n, rows_of(work, own.g))),

@@ -27,7 +27,7 @@ ghost use Rattle.rules.specs.declared.NodeVerdict.the-variants.{Holds};
 ghost use Rattle.rules.specs.Asking.{askedAll, statesFor};
 ghost use Rattle.search.specs.Named.{naming};
 ghost use Rattle.handler.specs.Header.{machineIn};
-ghost use Rattle.evaluation.specs.Values.{exprIn};
+ghost use Rattle.handler.specs.Terms.{exprIn};
 ghost use Rattle.semantics.specs.Checking.{bodyTables, ifObligations};
 
 // 34 and 36 to 38: P and the test true; same R, G, Q. The states where the test is true are given.
@@ -57,36 +57,36 @@ pub fn skip_satisfies_post(n: u32, work: &[u64], own: Names, falsity: StateSet) 
 }
 
 pub fn if_fault(
-    handler: &[u8],
+    exprs: &[u32],
     head: Head,
     work: &[u64],
     own: Names,
     child: Names,
     fits: bool,
-    expr: usize,
+    expr: u32,
 ) -> NodeVerdict
     ensures { λ r.
         ⌜ r ≡ askedAll Holds (ifObligations (machineIn head) fits (wordSpec (machineIn head .states) (now (work .entry)) own)
-        (exprIn (now (handler .entry)) (head .count) expr) (wordSpec (machineIn head .states) (now (work .entry)) child)) ⌝ }
+        (exprIn (now (exprs .entry)) expr) (wordSpec (machineIn head .states) (now (work .entry)) child)) ⌝ }
 {
     let n = states_in(head);
-    let test = truths_at(handler, head, expr);
+    let test = truths_at(exprs, head, expr);
     let truth = test.holds;
     let falsity = test.fails;
-    let found = common_reading(handler, head, work, own, fits, 45, expr);
+    let found = common_reading(exprs, head, work, own, fits, 45, expr);
     let found = if_tables(found, n, work, own, truth, child);
     ask(found, 46, skip_satisfies_post(n, work, own, falsity))
 }
 
 // The states that the condition with this number names: s for 46.
-pub fn if_states(handler: &[u8], head: Head, work: &[u64], own: Names, expr: usize, number: u32) -> Named
+pub fn if_states(exprs: &[u32], head: Head, work: &[u64], own: Names, expr: u32, number: u32) -> Named
     ensures { λ r.
         ⌜ ((fits : Bool) (child : Spec) → r ≡ naming (statesFor number (ifObligations (machineIn head) fits
-        (wordSpec (machineIn head .states) (now (work .entry)) own) (exprIn (now (handler .entry)) (head .count) expr) child))) ⌝ }
+        (wordSpec (machineIn head .states) (now (work .entry)) own) (exprIn (now (exprs .entry)) expr) child))) ⌝ }
 {
     let n = states_in(head);
     if number == 46 {
-        let test = truths_at(handler, head, expr);
+        let test = truths_at(exprs, head, expr);
         let from = set_at(n, work, own.p).meet(test.fails);
         least_state(n, from, diagonal(n, rows_of(work, own.q)))
     } else {

@@ -40,7 +40,7 @@ ghost use Rattle.rules.specs.declared.NodeVerdict.the-variants.{Holds};
 ghost use Rattle.rules.specs.Asking.{askedAll, statesFor};
 ghost use Rattle.search.specs.Named.{naming};
 ghost use Rattle.handler.specs.Header.{machineIn};
-ghost use Rattle.evaluation.specs.Values.{exprIn};
+ghost use Rattle.handler.specs.Terms.{exprIn};
 ghost use Rattle.semantics.specs.Checking.{bodyTables, whileObligations};
 
 // 34 and 36 to 38: P met with K; same R, G; Q the pairs of W that end in P.
@@ -188,7 +188,7 @@ fn exits(n: u32, order: &[u64], into: StateSet) -> [u64; RELATION_WORDS]
 }
 
 pub fn while_fault(
-    handler: &[u8],
+    exprs: &[u32],
     head: Head,
     work: &[u64],
     own: Names,
@@ -196,15 +196,15 @@ pub fn while_fault(
     w: u32,
     child: Names,
     fits: bool,
-    expr: usize,
+    expr: u32,
 ) -> NodeVerdict
     ensures { λ r.
         ⌜ r ≡ askedAll Holds (whileObligations (machineIn head) fits (wordSpec (machineIn head .states) (now (work .entry)) own)
-        (exprIn (now (handler .entry)) (head .count) expr) (wordSet (machineIn head .states) (now (work .entry)) k)
+        (exprIn (now (exprs .entry)) expr) (wordSet (machineIn head .states) (now (work .entry)) k)
         (wordRelation (machineIn head .states) (now (work .entry)) w) (wordSpec (machineIn head .states) (now (work .entry)) child)) ⌝ }
 {
     let n = states_in(head);
-    let test = truths_at(handler, head, expr);
+    let test = truths_at(exprs, head, expr);
     let truth = test.holds;
     let falsity = test.fails;
     let found = common(n, work, own, fits);
@@ -212,7 +212,7 @@ pub fn while_fault(
     let found = ask(
         found,
         50,
-        read_once(handler, head, moved(head, work, own), expr),
+        read_once(exprs, moved(head, work, own), expr),
     );
     let order = order_of(n, work, w);
     let found = ask(found, 51, order.apart);
@@ -226,22 +226,22 @@ pub fn while_fault(
 
 // The states that the condition with this number names: s for 51 and 52; s, t for 53 to 56; s, t, u for 57.
 pub fn while_states(
-    handler: &[u8],
+    exprs: &[u32],
     head: Head,
     work: &[u64],
     own: Names,
     k: u32,
     w: u32,
-    expr: usize,
+    expr: u32,
     number: u32,
 ) -> Named
     ensures { λ r.
         ⌜ ((fits : Bool) (child : Spec) → r ≡ naming (statesFor number (whileObligations (machineIn head) fits
-        (wordSpec (machineIn head .states) (now (work .entry)) own) (exprIn (now (handler .entry)) (head .count) expr)
+        (wordSpec (machineIn head .states) (now (work .entry)) own) (exprIn (now (exprs .entry)) expr)
         (wordSet (machineIn head .states) (now (work .entry)) k) (wordRelation (machineIn head .states) (now (work .entry)) w) child))) ⌝ }
 {
     let n = states_in(head);
-    let test = truths_at(handler, head, expr);
+    let test = truths_at(exprs, head, expr);
     let truth = test.holds;
     let falsity = test.fails;
     let p = set_at(n, work, own.p);

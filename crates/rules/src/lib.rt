@@ -42,7 +42,7 @@ ghost use Rattle.states.specs.Search.{must};
 ghost use Rattle.semantics.specs.Conditions.{unmoved as movesNothing};
 ghost use Rattle.semantics.specs.Checking.{numbered, firstBroken, stability as stabilityObligations, common as commonObligations, commonReading};
 ghost use Rattle.handler.specs.Header.{machineIn};
-ghost use Rattle.evaluation.specs.Values.{exprIn};
+ghost use Rattle.handler.specs.Terms.{exprIn};
 ghost use Rattle.rules.specs.declared.NodeVerdict.the-variants.{Holds};
 ghost use Rattle.rules.specs.Asking.{asked, askedAll, statesFor, faultOf};
 ghost use Rattle.search.specs.Named.{naming};
@@ -99,22 +99,22 @@ pub fn ask_stability(found: NodeVerdict, n: u32, work: &[u64], own: Names) -> No
 
 // How assignment and if begin: 30, then 41 or 45 by its number (R moves no variable of the expression), then 31 to 33.
 pub fn common_reading(
-    handler: &[u8],
+    exprs: &[u32],
     head: Head,
     work: &[u64],
     own: Names,
     fits: bool,
     number: u32,
-    expr: usize,
+    expr: u32,
 ) -> NodeVerdict
     ensures { λ r.
         ⌜ r ≡ askedAll Holds (commonReading (machineIn head .states) fits
         (numbered number (must (movesNothing (machineIn head) (wordSpec (machineIn head .states) (now (work .entry)) own)
-        (exprIn (now (handler .entry)) (head .count) expr))) ∷ [])
+        (exprIn (now (exprs .entry)) expr))) ∷ [])
         (wordSpec (machineIn head .states) (now (work .entry)) own)) ⌝ }
 {
     let found = ask(NodeVerdict::Holds, 30, fits);
-    let still = unmoved(handler, head, moved(head, work, own), expr);
+    let still = unmoved(exprs, moved(head, work, own), expr);
     ask_stability(ask(found, number, still), states_in(head), work, own)
 }
 
@@ -143,7 +143,7 @@ pub fn common_states(n: u32, work: &[u64], own: Names, number: u32) -> Named
 // The verdict of a node's conditions over a statement, by the node's rule. `first` and `second` are its children, as far as the rule
 // has them; a weaken fits every statement.
 fn node_verdict(
-    handler: &[u8],
+    exprs: &[u32],
     head: Head,
     work: &[u64],
     node: Node,
@@ -152,7 +152,7 @@ fn node_verdict(
     second: Node,
 ) -> NodeVerdict
     ensures { λ r.
-        ⌜ r ≡ askedAll Holds (obligationsIn (now (handler .entry)) head (now (work .entry)) node statement first second) ⌝ }
+        ⌜ r ≡ askedAll Holds (obligationsIn (now (exprs .entry)) head (now (work .entry)) node statement first second) ⌝ }
 {
     let n = states_in(head);
     let own = node.names;
@@ -165,7 +165,7 @@ fn node_verdict(
         SKIP => skip_fault(n, work, own, code == SKIP),
         ASSIGNMENT => {
             assignment_fault(
-                handler,
+                exprs,
                 head,
                 work,
                 own,
@@ -176,9 +176,9 @@ fn node_verdict(
         }
         SEQUENCE => sequence_fault(n, work, own, left, right, code == SEQUENCE),
         PARALLEL => parallel_fault(n, work, own, left, right, code == PARALLEL),
-        IF => if_fault(handler, head, work, own, left, code == IF, expr),
+        IF => if_fault(exprs, head, work, own, left, code == IF, expr),
         WHILE => while_fault(
-            handler,
+            exprs,
             head,
             work,
             own,
@@ -195,7 +195,7 @@ fn node_verdict(
 // The states that the condition with this number names, where it is the first of a node's conditions that failed; by the node's rule, as
 // above. A weaken names none of its own.
 fn node_states(
-    handler: &[u8],
+    exprs: &[u32],
     head: Head,
     work: &[u64],
     node: Node,
@@ -205,7 +205,7 @@ fn node_states(
     number: u32,
 ) -> Named
     ensures { λ r.
-        ⌜ r ≡ naming (statesFor number (obligationsIn (now (handler .entry)) head (now (work .entry)) node statement first second)) ⌝ }
+        ⌜ r ≡ naming (statesFor number (obligationsIn (now (exprs .entry)) head (now (work .entry)) node statement first second)) ⌝ }
 {
     let n = states_in(head);
     let own = node.names;
@@ -215,18 +215,18 @@ fn node_states(
     let rule = node.rule;
     match rule {
         SKIP => skip_states(n, work, own, number),
-        ASSIGNMENT => assignment_states(handler, head, work, own, statement.target, expr, number),
+        ASSIGNMENT => assignment_states(exprs, head, work, own, statement.target, expr, number),
         SEQUENCE => sequence_states(n, work, own, left, right, number),
         PARALLEL => parallel_states(n, work, own, left, right, number),
-        IF => if_states(handler, head, work, own, expr, number),
-        WHILE => while_states(handler, head, work, own, node.k, node.w, expr, number),
+        IF => if_states(exprs, head, work, own, expr, number),
+        WHILE => while_states(exprs, head, work, own, node.k, node.w, expr, number),
         _ => common_states(n, work, own, number),
     }
 }
 
 // The first of a node's conditions over a statement that failed, with the states that it names.
 pub fn node_fault(
-    handler: &[u8],
+    exprs: &[u32],
     head: Head,
     work: &[u64],
     node: Node,
@@ -235,12 +235,12 @@ pub fn node_fault(
     second: Node,
 ) -> NodeFault
     ensures { λ r.
-        ⌜ r ≡ faultOf (firstBroken (obligationsIn (now (handler .entry)) head (now (work .entry)) node statement first second)) ⌝ }
+        ⌜ r ≡ faultOf (firstBroken (obligationsIn (now (exprs .entry)) head (now (work .entry)) node statement first second)) ⌝ }
 {
-    match node_verdict(handler, head, work, node, statement, first, second) {
+    match node_verdict(exprs, head, work, node, statement, first, second) {
         NodeVerdict::Holds => NodeFault::Nothing,
         NodeVerdict::Breaks(number) => {
-            let states = node_states(handler, head, work, node, statement, first, second, number);
+            let states = node_states(exprs, head, work, node, statement, first, second, number);
             NodeFault::Broken(number, states)
         }
     }

@@ -18,8 +18,8 @@ ghost use Rattle.states.specs.Search.{any};
 ghost use Rattle.states.specs.Sets.{has};
 ghost use Rattle.semantics.specs.Conditions.{occurrences, moves};
 ghost use Rattle.handler.specs.Header.{machineIn};
-ghost use Rattle.handler.specs.Shapes.{inMask};
-ghost use Rattle.evaluation.specs.Values.{agree, exprIn};
+ghost use Rattle.evaluation.specs.Values.{inMask, agree};
+ghost use Rattle.handler.specs.Terms.{exprIn};
 ghost use Rattle.rules.specs.Words.{wordRelation, wordSpec};
 
 // Whether relation r leads from some state of the set to one that differs in variable v. The states that agree with the least are taken
@@ -75,15 +75,15 @@ pub fn moved(head: Head, work: &[u64], own: Names) -> u32
 }
 
 // 41 and 45, from the mask of the variables that R moves: the expression has none of them.
-pub fn unmoved(src: &[u8], head: Head, mask: u32, at: usize) -> bool
-    ensures { λ out. ⌜ out ≡ eqb (occurrences (inMask mask) (exprIn (now (src .entry)) (head .count) at)) 0 ⌝ }
+pub fn unmoved(exprs: &[u32], mask: u32, expr: u32) -> bool
+    ensures { λ out. ⌜ out ≡ eqb (occurrences (inMask mask) (exprIn (now (exprs .entry)) expr)) 0 ⌝ }
 {
-    occurrences_at(src, head, mask, at) == 0
+    occurrences_at(exprs, mask, expr) == 0
 }
 
 // 50, from the same mask: at most one variable occurrence in the test is of one of them.
-pub fn read_once(src: &[u8], head: Head, mask: u32, at: usize) -> bool
-    ensures { λ out. ⌜ out ≡ leb (occurrences (inMask mask) (exprIn (now (src .entry)) (head .count) at)) 1 ⌝ }
+pub fn read_once(exprs: &[u32], mask: u32, expr: u32) -> bool
+    ensures { λ out. ⌜ out ≡ leb (occurrences (inMask mask) (exprIn (now (exprs .entry)) expr)) 1 ⌝ }
 {
-    occurrences_at(src, head, mask, at) <= 1
+    occurrences_at(exprs, mask, expr) <= 1
 }

@@ -32,7 +32,7 @@ returns c =
     let a = c .before .before .before .before .before .before .args in
     let left : a .left .kind ≡ integersKind = c .before .if2 .taken in
     let right : a .right .kind ≡ integersKind = sym (c .before .before .before .if1 .taken) ∙ left in
-    (made .0, made .1, λ s l. (made .2 s l .0 ∙ rw (left, right), made .2 s l .1))
+    λ s l. (made s l .0 ∙ rw (left, right), made s l .1)
 
 returns-2 : tie.Need-returns-2
 returns-2 c =
@@ -40,20 +40,17 @@ returns-2 c =
     let a = c .before .before .before .before .before .before .args in
     let left : a .left .kind ≡ truthsKind = omega arith in
     let right : a .right .kind ≡ truthsKind = sym (c .before .before .before .if1 .taken) ∙ left in
-    (made .0, made .1, λ s l. (made .2 s l .0 ∙ rw (left, right), made .2 s l .1))
+    λ s l. (made s l .0 ∙ rw (left, right), made s l .1)
 
 returns-3 : tie.Need-returns-3
 returns-3 c =
     let made = c .nothing .ensures in
     let k = c .before .before .before .before in
-    let a = k .args in (
-      made .1,
-      made .2,
-      λ s l. (
-        rw (made .0) (mixed-kinds (a .o) (a .left .kind) (a .right .kind) (integerIn (a .left) s) (integerIn (a .right) s)
-            (has (a .left .truths) s) (has (a .right .truths) s) (c .before .if1 .left) (k .pre .1) (k .pre .2)),
-        rw (made .3 s) (omega arith),
-      ),
+    let a = k .args in
+    λ s l. (
+      rw (made .0) (mixed-kinds (a .o) (a .left .kind) (a .right .kind) (integerIn (a .left) s) (integerIn (a .right) s)
+          (has (a .left .truths) s) (has (a .right .truths) s) (c .before .if1 .left) (k .pre .1) (k .pre .2)),
+      rw (made .1 s) (omega arith),
     )
 
 pub apply-op-spec : {M : Type 1} → statement M

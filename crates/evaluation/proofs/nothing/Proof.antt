@@ -7,7 +7,7 @@ use Rattle.evaluation.proofs.nothing.Statement.{statement}
 use Rattle.evaluation.proofs.nothing.Tie as tie
 
 returns : tie.Need-returns
-returns c = (refl, refl, refl, cell-none (pos 0))
+returns c = (refl, cell-none (pos 0))
 
 pub nothing-spec : {M : Type 1} → statement M
 nothing-spec = tie.close (tie.spec (λ c κs. search needs) returns)

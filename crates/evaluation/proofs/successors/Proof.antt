@@ -24,7 +24,8 @@ use Rattle.handler.specs.declared.head.Head.{Head}
 use Rattle.handler.specs.Header.{machineIn}
 use Rattle.evaluation.specs.declared.Values.{Values}
 use Rattle.evaluation.specs.declared.Variable.{Variable}
-use Rattle.evaluation.specs.Values.{exprIn, leadsTo, variableIn, isSmall}
+use Rattle.handler.specs.Terms.{exprIn}
+use Rattle.evaluation.specs.Values.{leadsTo, variableIn, isSmall}
 use Rattle.evaluation.specs.Refinement.{integersKind, integerIn, valueIn, Evaluated, storedBy}
 use Rattle.evaluation.proofs.Laws.{states-most, after-below, small, variable-small, variable-states, store-variable}
 use Rattle.evaluation.proofs.successors.Statement.{statement}
@@ -35,10 +36,10 @@ abbrev ends : Variable → List ℤ → ℕ → ℕ → Bool
 ends x integers s t = ltb t capacity && eqb (storedBy x s (getD integers s (pos 0))) t
 
 abbrev Inv-loop : tie.InvT-loop
-Inv-loop src v at rows₀ integers x present s₀ end rows s = (s ≤ end) × RowsFilled (ends x integers) s rows
+Inv-loop exprs v expr rows₀ integers x present s₀ end rows s = (s ≤ end) × RowsFilled (ends x integers) s rows
 
 abbrev μ-loop : tie.MeasureT-loop
-μ-loop src v at rows₀ integers x present s₀ end rows s = end - s
+μ-loop exprs v expr rows₀ integers x present s₀ end rows s = end - s
 
 no-integer : (m : Machine) (s v t k : ℕ) (z : ℤ) (b : Bool) → (k ≡ integersKind → ⊥)
     → false ≡ leadsTo (storeOf m s v (getD (some (int z) ∷ some (truth b) ∷ []) k none)) t
@@ -46,9 +47,9 @@ no-integer m s v t zero z b other = absurd (other refl)
 no-integer m s v t (suc zero) z b other = refl
 no-integer m s v t (suc (suc k)) z b other = refl
 
-module _ (head : Head) (bytes : List ℕ) (at : ℕ) (row : Values) (known : Evaluated head bytes at row) (v : ℕ) where
+module _ (head : Head) (table : List ℕ) (expr : ℕ) (row : Values) (known : Evaluated head table expr row) (v : ℕ) where
   unfoldable after : ℕ → ℕ → Bool
-  after s t = leadsTo (afterStore (machineIn head) v (exprIn bytes (head .count) at) s) t
+  after s t = leadsTo (afterStore (machineIn head) v (exprIn table expr) s) t
 
   nowhere : (row .kind ≡ integersKind → ⊥) → (s : ℕ) → s < machineIn head .states → (t : ℕ) → false ≡ after s t
   unfolding after afterStore
@@ -60,11 +61,11 @@ module _ (head : Head) (bytes : List ℕ) (at : ℕ) (row : Values) (known : Eva
   unfolding after afterStore
   stores is x same s l t =
       let integer : valueIn row s ≡ some (int (integerIn row s)) = rw is in
-      let here : afterStore (machineIn head) v (exprIn bytes (head .count) at) s ≡ some (storedBy x s (integerIn row s))
+      let here : afterStore (machineIn head) v (exprIn table expr) s ≡ some (storedBy x s (integerIn row s))
       = ap (storeOf (machineIn head) s v) (sym (known .each s l) ∙ integer) ∙ rw same (ap some (store-variable head v s l (integerIn row s))) in
       rw here
       (bool-ext _ _ (and-right (ltb t capacity) _) (λ h. and-both _ _ (lt-ltb t capacity
-      (omega (arith, after-below head v (exprIn bytes (head .count) at) s t l (ap (λ o. leadsTo o t) here ∙ h), states-most head))) h))
+      (omega (arith, after-below head v (exprIn table expr) s t l (ap (λ o. leadsTo o t) here ∙ h), states-most head))) h))
 
   -- Rows that hold the states after the stores below N and are empty from N on.
   filled : (rows : List ℕ) → ((s : ℕ) → s < machineIn head .states → (t : ℕ) → mem (entryAt rows s) t ≡ after s t)
@@ -101,7 +102,7 @@ store-requires c κs =
       omega (arith, small _ h),
       toZ-ofZ {w = w64} {z = getD (present .result) s (pos 0)} (sfits-of (c .before .store-arg .given)) ∙ present .ensures s (omega arith),
       rw (toZ-ofZ {w = w64} {z = getD (row .result .integers) s (pos 0)} (sfits-of (c .store-arg2 .given)))
-          (row .ensures .small (rw (l .before .before .before .before .if1 .left) (omega arith)) s (rw (← all) (omega arith))),
+          (row .ensures .small s (rw (← all) (omega arith))),
     )
 
 loop-again : tie.Need-loop-again Inv-loop μ-loop

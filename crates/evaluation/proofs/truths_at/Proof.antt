@@ -19,7 +19,7 @@ use Rattle.semantics.specs.Conditions.{isTrue, isFalse}
 use Rattle.handler.specs.declared.head.Head.{Head}
 use Rattle.handler.specs.Header.{machineIn}
 use Rattle.evaluation.specs.declared.Values.{Values}
-use Rattle.evaluation.specs.Values.{exprIn}
+use Rattle.handler.specs.Terms.{exprIn}
 use Rattle.evaluation.specs.Refinement.{truthsKind, integerIn, valueIn, Evaluated}
 use Rattle.evaluation.proofs.Laws.{states-most}
 use Rattle.evaluation.proofs.truths_at.Statement.{statement}
@@ -35,9 +35,9 @@ not-as true = refl
 not-as false = refl
 
 -- What a row says about the test at each state.
-module _ (head : Head) (bytes : List ℕ) (at : ℕ) (row : Values) (known : Evaluated head bytes at row) where
+module _ (head : Head) (table : List ℕ) (expr : ℕ) (row : Values) (known : Evaluated head table expr row) where
   unfoldable test : Bool → ℕ → Bool
-  test wanted s = ltb s (machineIn head .states) && isTruth wanted (value (machineIn head) (exprIn bytes (head .count) at) s)
+  test wanted s = ltb s (machineIn head .states) && isTruth wanted (value (machineIn head) (exprIn table expr) s)
 
   tested : (wanted : Bool) (s n : ℕ) (b : Bool) → n ≡ machineIn head .states → b ≡ isTruth wanted (valueIn row s)
       → (ltb s capacity && ltb s n && b) ≡ test wanted s

@@ -6,7 +6,7 @@ use Rattle.evaluation.proofs.truths_of.Statement.{statement}
 use Rattle.evaluation.proofs.truths_of.Tie as tie
 
 returns : tie.Need-returns
-returns c = (refl, refl, refl, refl, cell-none (pos 0))
+returns c = (refl, refl, cell-none (pos 0))
 
 pub truths-of-spec : {M : Type 1} → statement M
 truths-of-spec = tie.close (tie.spec returns)

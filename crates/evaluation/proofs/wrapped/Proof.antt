@@ -1,5 +1,6 @@
 -- A value and `valueBound` sizes together are a number that is not negative and fits, and its remainder is the value's.
 use Prim.Native.Nat.{ℕ, suc, _+_, _-_, _*_, _≤_, _<_}
+use native.Mathlib.Nat.{mod-lt}
 use native.Mathlib.Omega.{arith}
 use mathlib.Core.Path.{_≡_, refl, sym, _∙_, subst}
 use borrow.Author.Needs.{needs}
@@ -46,6 +47,9 @@ cast-result c = rw (held c) (tt, fits-below tt (sum-of c .small))
 returns : tie.Need-returns
 returns c = rw (held c) (remainder-lifted (c .args .z) (c .args .size) valueBound _ (c .pre .0) (sum-of c .is))
 
+-- The remainder is below the size.
+cast-back : tie.Need-cast-result-2
+cast-back c = rw (held c) (omega (arith, c .pre .1, mod-lt (sum-of c .sum) (c .pre .0)))
+
 pub wrapped-spec : {M : Type 1} → statement M
-wrapped-spec =
-    tie.close (tie.spec (λ c. search needs) (λ c. search needs) add-lifted cast-result (λ c. search needs) returns)
+wrapped-spec = tie.close (tie.spec (λ c. search needs) (λ c. search needs) add-lifted cast-result (λ c. search needs) cast-back returns)

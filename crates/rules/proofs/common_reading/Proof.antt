@@ -2,7 +2,7 @@
 use mathlib.Core.Path.{_∙_, refl, sym}
 use borrow.Author.Needs.{needs}
 use Rattle.states.proofs.Search.{holds-must}
-use Rattle.evaluation.specs.Values.{exprIn}
+use Rattle.handler.specs.Terms.{exprIn}
 use Rattle.rules.proofs.Asking.{asked-then}
 use Rattle.rules.proofs.Movement.{unmoved-41-45}
 use Rattle.rules.proofs.common_reading.Statement.{statement}
@@ -14,7 +14,7 @@ returns c =
     let moving = reads .before .before in
     let a = moving .before .before .before .before .args in
     let fits = asked-then 30 _ refl (moving .before .ask .ensures) (sym (holds-must _)) in
-    let still = reads .before .unmoved .ensures ∙ unmoved-41-45 _ _ _ (moving .moved .ensures) (exprIn (a .handler .now) (a .head .count) (a .expr)) in
+    let still = reads .before .unmoved .ensures ∙ unmoved-41-45 _ _ _ (moving .moved .ensures) (exprIn (a .exprs .now) (a .expr)) in
     rw (asked-then _ _ fits (reads .ask2 .ensures) still, c .before .states-in .ensures) at (c .ask-stability .ensures)
 
 pub common-reading-spec : {M : Type 1} → statement M

@@ -9,7 +9,7 @@ use Rattle.rules.proofs.node_fault.Tie as tie
 returns : tie.Need-returns
 returns c =
     let a = c .before .before .before .before .before .args in
-    no-fault (obligationsIn (a .handler .now) (a .head) (a .work .now) (a .node) (a .statement) (a .first) (a .second)) (sym (c .before .before .node-verdict .ensures) ∙ c .enum-told .given .1)
+    no-fault (obligationsIn (a .exprs .now) (a .head) (a .work .now) (a .node) (a .statement) (a .first) (a .second)) (sym (c .before .before .node-verdict .ensures) ∙ c .enum-told .given .1)
 
 returns-2 : tie.Need-returns-2
 returns-2 c = one-fault _ _ (sym (c .before .before .before .before .node-verdict .ensures) ∙ c .before .before .number .given .1) (c .node-states .ensures)

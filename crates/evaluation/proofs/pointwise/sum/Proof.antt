@@ -7,15 +7,15 @@ use lib.Signed.{mag}
 use mir.Syntax.{w64}
 use mir.Val.{SFits}
 use mir.Facts.{toZ-ofZ}
-use Rattle.evaluation.specs.Refinement.{operandsBound}
+use Rattle.evaluation.specs.Refinement.{valueBound}
 use Rattle.evaluation.proofs.Integers.{mag-add, mag-minus}
 use Rattle.evaluation.proofs.pointwise.sum.Statement.{statement}
 use Rattle.evaluation.proofs.pointwise.sum.Tie as tie
 
-sum-fits : (a b : ℤ) → mag a + mag b < operandsBound → SFits w64 (a +ℤ b)
+sum-fits : (a b : ℤ) → mag a + mag b < valueBound → SFits w64 (a +ℤ b)
 sum-fits a b small = record { sfits = omega (arith, mag-add a b) }
 
-difference-fits : (a b : ℤ) → mag a + mag b < operandsBound → SFits w64 (a -ℤ b)
+difference-fits : (a b : ℤ) → mag a + mag b < valueBound → SFits w64 (a -ℤ b)
 difference-fits a b small = record { sfits = omega (arith, mag-minus a b) }
 
 add-result : tie.Need-add-result

@@ -1,4 +1,7 @@
 -- The whole expression is read with 32 levels and no node before it.
+use Prim.Native.Nat.{_+_}
+use mathlib.Core.Path.{_≡_}
+use native.Mathlib.Omega.{arith}
 use borrow.Author.Needs.{needs}
 use Rattle.handler.specs.Expressions.{wholeExpr}
 use Rattle.handler.proofs.expressions.expr_shape.Statement.{statement}
@@ -6,7 +9,11 @@ use Rattle.handler.proofs.expressions.expr_shape.Tie as tie
 
 returns : tie.Need-returns
 unfolding wholeExpr
-returns c = c .expr-walk .ensures
+returns c =
+    let w = c .before .before in
+    let a = w .before .before .before .before .args in
+    let here : a .base + 0 ≡ a .base = omega arith in
+    (w .expr-walk .ensures .0, rw here at (w .expr-walk .ensures .1))
 
 pub expr-shape-spec : {M : Type 1} → statement M
-expr-shape-spec = tie.close (tie.spec (λ c κs. search needs) returns)
+expr-shape-spec = tie.close (tie.spec (λ c κs. search needs) (λ c. search needs) returns)

@@ -16,7 +16,7 @@ returns-2 c = rw (c .before .before .head2 .given .1, add-one, c .wanted-of2 .en
 
 returns-3 : tie.Need-returns-3
 unfolding exprShape
-returns-3 c = rw (c .before .before .before .head3 .given .1, add-one, c .before .wanted-of3 .ensures, c .occurs-in .ensures, ← node-kind-error)
+returns-3 c = rw (c .before .before .head3 .given .1, add-one, c .wanted-of3 .ensures, ← node-kind-error)
 
 returns-4 : tie.Need-returns-4
 unfolding exprShape
@@ -31,7 +31,7 @@ leaf-of-spec =
     tie.close
     (tie.spec
     (λ c. search needs) (λ c κs. search needs) (λ c. search needs) (λ c. search needs) (λ c κs. search needs)
-    (λ c. search needs) (λ c. search needs) (λ c κs. search needs) (λ c κs. search needs) (λ c. search needs)
+    (λ c. search needs) (λ c. search needs) (λ c κs. search needs) (λ c. search needs)
     (λ c. search needs) (λ c. search needs)
     returns
     returns-2

@@ -1,6 +1,6 @@
 -- The head says which case of `onHead` holds, N is 1 to the capacity, and the statement begins within 23 bits. What is found is what is read,
--- and the table that the walk fills is that of the handler.
-use Prim.Native.Nat.{ℕ}
+-- and the tables that the walk fills are those of the handler.
+use Prim.Native.Nat.{ℕ, _+_}
 use mathlib.Core.List.{List}
 use mathlib.Core.Path.{_≡_, sym, ap, _∙_}
 use native.Mathlib.Omega.{arith}
@@ -13,13 +13,15 @@ use Rattle.handler.specs.declared.HandlerFile.{HandlerFile}
 use Rattle.handler.specs.declared.HandlerFound.{HandlerFound}
 use Rattle.handler.specs.declared.HandlerFound.the-variants as found
 use Rattle.handler.specs.declared.HandlerSummary.{HandlerSummary}
-use Rattle.handler.specs.Statements.{stmtAt, wholeStmt}
-use Rattle.handler.specs.StatementTable.{StatementsStored}
+use Rattle.handler.specs.Statements.{whole, stmtAt, wholeStmt}
+use Rattle.handler.specs.Kinds.{stmtWidth}
+use Rattle.handler.specs.Terms.{ExprsStored}
+use Rattle.handler.specs.StatementTable.{statements, StatementsStored}
 use Rattle.handler.specs.Reading.{readHandler}
-use Rattle.handler.specs.Shapes.{stmtShape, handlerFound, handlerFile}
+use Rattle.handler.specs.Shapes.{stmtShape, handlerFound, handlerFile, termsAfter}
 use Rattle.handler.proofs.StatementTable.{table-made}
 use Rattle.handler.proofs.StmtShapes.{found-read}
-use Rattle.handler.proofs.Handlers.{known-handler, found-refused, found-handler}
+use Rattle.handler.proofs.Handlers.{KnownHandler, known-handler, found-refused, FoundHandler, found-handler}
 use Rattle.handler.proofs.reading.read_handler.Statement.{statement}
 use Rattle.handler.proofs.reading.read_handler.Tie as tie
 
@@ -29,40 +31,61 @@ same-file p q r = rw (p, q, r)
 
 -- If a head was read and h is that head as the code passes it on.
 module _ (bytes sizes : List ℕ) (h : Head) (at : ℕ) (read : headAt bytes ≡ declared sizes at) (is : h ≡ headOf sizes) where
-  found-is : handlerFound bytes at (stmtShape (h .states) at (stmtAt 17 bytes (h .count) 0 at)) ≡ handlerFile (readHandler bytes) .found
+  found-is : handlerFound bytes at (stmtShape (h .states) 0 at (stmtAt 17 bytes (h .count) 0 at)) ≡ handlerFile (readHandler bytes) .found
   unfolding readHandler headOf
   found-is = rw (is, read) (found-read bytes sizes at)
 
-  file-is : (x : HandlerFound) (w : HandlerSummary) (table : List ℕ) → x ≡ handlerFile (readHandler bytes) .found → x ≡ found.Handler w
-      → StatementsStored (replicate 63 0) table 0 at (stmtAt 17 bytes (h .count) 0 at)
-      → _≡_ {A = HandlerFile} (record { found = x; head = h; statements = table }) (handlerFile (readHandler bytes))
-  unfolding handlerFile headOf wholeStmt
-  file-is x w table e is-handler filled =
-      let g = found-handler (readHandler bytes) w (sym e ∙ is-handler) in
-      let known = known-handler bytes (g .sizes) (w .at) (g .S) (g .read) in
-      let both : declared sizes at ≡ declared (g .sizes) (w .at) = sym read ∙ known .head in
-      let sizes-are : g .sizes ≡ sizes = cc in
-      let at-is : w .at ≡ at = cc in
-      let words = rw (is, ← sizes-are, ← at-is, known .stands .read) at filled in
-      same-file (e ∙ ap (λ r. handlerFile r .found) (g .read)) (is ∙ ap headOf (sym sizes-are)) (words ∙ table-made (w .at) (g .S) (known .few))
-      ∙ sym (ap handlerFile (g .read))
+  -- If a handler is found.
+  module _ (x : HandlerFound) (w : HandlerSummary) (e : x ≡ handlerFile (readHandler bytes) .found) (is-handler : x ≡ found.Handler w) where
+    abbrev g : FoundHandler (readHandler bytes) w
+    g = found-handler (readHandler bytes) w (sym e ∙ is-handler)
+
+    abbrev known : KnownHandler bytes (g .sizes) (w .at) (g .S)
+    known = known-handler bytes (g .sizes) (w .at) (g .S) (g .read)
+
+    same : declared sizes at ≡ declared (g .sizes) (w .at)
+    same = sym read ∙ known .head
+
+    sizes-are : sizes ≡ g .sizes
+    sizes-are = let both = same in cc
+
+    walked-is : (at ≡ w .at) × (stmtAt 17 bytes (h .count) 0 at ≡ whole (g .S) (statements (g .S)) (w .at + stmtWidth (g .S)))
+    unfolding wholeStmt headOf
+    walked-is =
+        let both = same in
+        let at-is : at ≡ w .at = cc in
+        (at-is, rw (is, sizes-are, at-is) (known .read))
+
+    file-is : (table : List ℕ) → StatementsStored (replicate 63 0) table 0 at 0 (stmtAt 17 bytes (h .count) 0 at)
+        → _≡_ {A = HandlerFile} (record { found = x; head = h; statements = table }) (handlerFile (readHandler bytes))
+    unfolding handlerFile
+    file-is table filled =
+        let words = rw (walked-is .1, walked-is .0) at filled in
+        same-file (e ∙ ap (λ r. handlerFile r .found) (g .read)) (is ∙ ap headOf sizes-are) (words ∙ table-made (w .at) (g .S) (known .few))
+        ∙ sym (ap handlerFile (g .read))
+
+    terms-are : (entry exit : List ℕ) → ExprsStored entry exit 0 (stmtAt 17 bytes (h .count) 0 at) → exit ≡ termsAfter (readHandler bytes) entry
+    unfolding termsAfter
+    terms-are entry exit filled = rw (g .read) (rw (walked-is .1) at filled)
 
 -- What is known once the head is read.
-head-found : (c : tie.After-known-told2) → let r = c .before .before .before .before in
-    FoundHead (headAt (r .before .before .args .src .now)) (r .read-head .result) (c .before .end2 .given .0 .0)
+abbrev HeadKnown : tie.After-known-told2 → Type 0
+HeadKnown c = FoundHead (headAt (c .before .before .before .before .before .before .before .args .src .now)) (c .before .before .before .before .read-head .result) (c .before .end2 .given .0 .0)
+
+head-found : (c : tie.After-known-told2) → HeadKnown c
 head-found c = found-head _ _ _ (c .before .before .before .before .read-head .ensures) (c .before .end2 .given .1)
 
--- What the walk answers: all 17 levels are read.
-walked : (c : tie.After-stmt-walk) → let h = c .before .before .before .before .before .before in
-    let a = h .before .before .args in
-    let at = c .before .before .before .end2 .given .0 .0 in
-    c .stmt-walk .result ≡ stmtShape (h .read-head .result .head .states) at (stmtAt 17 (a .src .now) (h .read-head .result .head .count) 0 at)
-walked c = c .stmt-walk .ensures .0
+-- What is found, from what the walk answers: all 17 levels are read.
+found-by : (c : tie.After-found-of) → c .found-of .result ≡ handlerFile (readHandler (c .before .before .before .before .before .before .before .before .before .before .before .before .before .before .args .src .now)) .found
+found-by c =
+    let k = c .before .before .before .before .before .before .before in
+    let f = head-found k in
+    rw (c .before .before .before .before .stmt-walk .ensures .0) at (c .found-of .ensures) ∙ found-is _ (f .sizes) (k .before .before .before .before .read-head .result .head) _ (f .read) (f .is)
 
 stmt-walk-requires : tie.Need-stmt-walk-requires
 unfolding headOf
 stmt-walk-requires c κs =
-    let f = head-found (c .before) in
+    let f = head-found (c .before .before) in
     let states = ap (λ h. h .states) (f .is) in
     let known = head-read _ _ _ (f .read) in
     omega (arith, states, known)
@@ -70,22 +93,25 @@ stmt-walk-requires c κs =
 returns : tie.Need-returns
 unfolding readHandler
 returns c =
-    let r = c .before .before .before .before .before in
-    rw (c .faulty .ensures, found-fault (headAt (r .before .before .args .src .now)) _ _ _ (r .read-head .ensures) (c .before .before .end .given .1))
+    let fault = found-fault (headAt (c .before .before .before .before .before .before .before .before .before .before .before .args .src .now)) _ _ _ (c .before .before .before .before .before .before .before .before .read-head .ensures) (c .before .before .before .before .before .end .given .1) in
+    (rw (c .before .before .faulty .ensures .0, fault), rw fault (c .before .before .faulty .ensures .1))
 
 returns-2 : tie.Need-returns-2
+unfolding termsAfter
 returns-2 c =
-    let f = head-found (c .before .before .before .before .before .before .before .before) in
-    let w = c .before .before .before .before in
-    let e = rw (walked (w .before .before)) at (w .found-of .ensures) in
-    c .faulty2 .ensures ∙ sym (ap handlerFile (found-refused _ _ _ (sym (e ∙ found-is _ (f .sizes) _ _ (f .read) (f .is)) ∙ c .before .before .found .given .1)))
+    let fault = found-refused _ _ _ (sym (found-by (c .before .before .before .before .before .before .before)) ∙ c .before .before .before .before .before .found .given .1) in (
+      c .before .before .faulty2 .ensures .0 ∙ sym (ap handlerFile fault),
+      rw fault (c .before .before .faulty2 .ensures .1 ∙ ap (λ n. replicate n 0) (c .before .before .before .before .before .before .before .before .before .exprs2 .given)),
+    )
 
 returns-3 : tie.Need-returns-3
 returns-3 c =
-    let f = head-found (c .before .before .before .before .before .before) in
-    let w = c .before .before in
-    let e = rw (walked (w .before .before)) at (w .found-of .ensures) in
-    file-is _ (f .sizes) _ _ (f .read) (f .is) _ _ _ (e ∙ found-is _ (f .sizes) _ _ (f .read) (f .is)) (c .enum-told .given .1) (w .before .before .stmt-walk .ensures .1)
+    let f = head-found (c .before .before .before .before .before .before .before .before .before) in
+    let walk = c .before .before .before .before .before .before .stmt-walk in
+    let e = found-by (c .before .before) in (
+      file-is _ (f .sizes) _ _ (f .read) (f .is) _ _ e (c .enum-told .given .1) _ (walk .ensures .1 .0),
+      terms-are _ (f .sizes) _ _ (f .read) (f .is) _ _ e (c .enum-told .given .1) _ _ (walk .ensures .1 .1),
+    )
 
 pub read-handler-spec : {M : Type 1} → statement M
 read-handler-spec =
@@ -94,6 +120,9 @@ read-handler-spec =
     (λ c κs. search needs) (λ c. search needs) (λ c κs. search needs) (λ c. search needs) (λ c. search needs)
     stmt-walk-requires
     (λ c κs. search needs) (λ c. search needs) (λ c κs. search needs) (λ c. search needs)
+    (λ c. search needs)
     returns
+    (λ c. search needs)
     returns-2
+    (λ c. search needs)
     returns-3)

@@ -1,6 +1,6 @@
--- Each arm is one law of StmtShapes and one of Filling, applied to what the head and the walks of the parts ensure.
+-- Each arm is one law of StmtShapes, one of Filling and one of TermFilling, applied to what the head and the walks of the parts ensure.
 use Prim.Native.Nat.{ℕ, _+_, _-_, _*_, _≤_, _<_}
-use mathlib.Core.Path.{_≡_, sym, _∙_}
+use mathlib.Core.Path.{_≡_, sym, ap, _∙_}
 use native.Mathlib.Nat.{pos-of-ne-zero}
 use native.Mathlib.Numerals.{add-one}
 use native.Mathlib.Omega.{arith}
@@ -14,15 +14,17 @@ use Rattle.handler.specs.declared.expressions.ExprShape.the-variants as 
 use Rattle.handler.specs.Expressions.{wholeExpr}
 use Rattle.handler.specs.Statements.{stmtHead, stmtAt}
 use Rattle.handler.specs.Shapes.{exprShape, stmtShape}
-use Rattle.handler.proofs.Shapes.{shaped}
+use Rattle.handler.proofs.Shapes.{shaped, shape-small}
 use Rattle.handler.proofs.StmtFolds.{stmt-step, Marked, marked, whole-read, stmt-read}
 use Rattle.handler.proofs.StmtShapes.{stmt-shaped, shape-high, assign-shape, left-side-fault, pair-shape, test-fault, body-fault, test-shape}
 use Rattle.handler.proofs.Filling.{fault-filled, nil-filled, assign-filled, pair-filled, test-filled}
+use Rattle.handler.proofs.TermFilling.{exprs-fault, nil-exprs, assign-exprs, pair-exprs, test-exprs}
 use Rattle.handler.proofs.statements.stmt_walk.Reads as stmt-walk
 use Rattle.handler.proofs.statements.stmt_walk.Kinds as stmt-walk-kinds
 use Rattle.handler.proofs.statements.+stmt_walk.Lts-stmt_walk as lts
 use Rattle.handler.proofs.expressions.expr_shape.Reads as expr-shape-reads
 use Rattle.handler.proofs.statements.assigned_of.Reads as assigned-of-reads
+use Rattle.handler.proofs.statements.nil_of.Reads as nil-of-reads
 use Rattle.handler.proofs.statements.pair_of.Reads as pair-of-reads
 use Rattle.handler.proofs.statements.stmt_head_at.Reads as stmt-head-at-reads
 use Rattle.handler.proofs.statements.tested_of.Reads as tested-of-reads
@@ -30,15 +32,11 @@ use Rattle.handler.proofs.table.store_statement.Reads as store-reads
 use Rattle.handler.proofs.statements.+stmt_walk.{statement}
 use Rattle.handler.proofs.statements.+stmt_walk.Tie.{close}
 
-abbrev μ-stmt-walk : Measures 2 stmt-walk-kinds.ps ℕ
-μ-stmt-walk κs a = a .1 .1 .1 .1 .0
+abbrev μ-stmt-walk : Measures 3 stmt-walk-kinds.ps ℕ
+μ-stmt-walk κs a = a .1 .1 .1 .1 .1 .0
 
-abbrev stmt-walk-at : ℕ → In 2 stmt-walk-kinds.ps
-stmt-walk-at t = and 2 stmt-walk-kinds.ps (is 2 stmt-walk-kinds.ps μ-stmt-walk t) stmt-walk.Pre
-
-abbrev stmt-walk-below : ℕ → In 2 stmt-walk-kinds.ps
-stmt-walk-below t =
-    and 2 stmt-walk-kinds.ps (falls 2 stmt-walk-kinds.ps _<_ μ-stmt-walk t) stmt-walk.Pre
+abbrev stmt-walk-at : ℕ → In 3 stmt-walk-kinds.ps
+stmt-walk-at t = and 3 stmt-walk-kinds.ps (is 3 stmt-walk-kinds.ps μ-stmt-walk t) stmt-walk.Pre
 
 -- What the calls require and ensure; the recursive ones at a smaller measure.
 abbrev callees : ℕ → lts.Claims
@@ -47,11 +45,13 @@ callees t = (
   stmt-head-at-reads.Learnt,
   store-reads.Asked,
   store-reads.Learnt,
+  nil-of-reads.Asked,
+  nil-of-reads.Learnt,
   expr-shape-reads.Asked,
   expr-shape-reads.Learnt,
   assigned-of-reads.Asked,
   assigned-of-reads.Learnt,
-  stmt-walk-below t,
+  and 3 stmt-walk-kinds.ps (falls 3 stmt-walk-kinds.ps _<_ μ-stmt-walk t) stmt-walk.Pre,
   stmt-walk.Post,
   pair-of-reads.Asked,
   pair-of-reads.Learnt,
@@ -78,180 +78,218 @@ TestRead t = lts.After-known-told7 (callees t) (stmt-walk-at t) stmt-walk.Post
 abbrev BodyRead : ℕ → Type 0
 BodyRead t = lts.After-known-told8 (callees t) (stmt-walk-at t) stmt-walk.Post
 
+-- Earlier points, from later ones.
+abbrev start : (t : ℕ) → StmtHeadRead t → lts.Start (callees t) (stmt-walk-at t) stmt-walk.Post
+start t c = c .before .before .before .before .before
+
+abbrev head-of-pair : (t : ℕ) → PairRead t → StmtHeadRead t
+head-of-pair t c = c .before .before .before
+
+abbrev pair-of-left : (t : ℕ) → LeftRead t → PairRead t
+pair-of-left t c = c .before .before .before .before .before .before .before .before .before .before
+
+abbrev head-of-test : (t : ℕ) → TestHead t → StmtHeadRead t
+head-of-test t c = c .before .before .before
+
+abbrev test-of-expr : (t : ℕ) → TestRead t → TestHead t
+test-of-expr t c = c .before .before .before .before .before .before .before
+
+abbrev expr-of-body : (t : ℕ) → BodyRead t → TestRead t
+expr-of-body t c = c .before .before .before .before .before .before .before .before .before .before .before
+
 -- The head that the function takes apart.
 head-is : (t : ℕ) (c : StmtHeadRead t) (head : StmtHead) → c .stmt-head-at .result ≡ head
-    → let a = c .before .before .before .before .args in stmtHead (a .src .now) (a .count) (a .levels - 1) (a .before) (a .at) ≡ head
+    → let a = start t c .args in stmtHead (a .src .now) (a .count) (a .levels - 1) (a .before) (a .at) ≡ head
 head-is t c head e = sym (c .stmt-head-at .ensures) ∙ e
 
-more : (t : ℕ) (c : StmtHeadRead t) → 0 < c .before .before .before .before .args .levels
+more : (t : ℕ) (c : StmtHeadRead t) → 0 < start t c .args .levels
 more t c = pos-of-ne-zero (c .before .if1 .left)
 
 nil-store : (t : ℕ) → lts.Need-store-statement-requires (callees t) (stmt-walk-at t) stmt-walk.Post
 unfolding Marked
 nil-store t c κs =
     let h = c .before .before .before .before in
-    omega (arith, marked _ _ _ _ _ _ (head-is t h _ (c .before .before .next .given .1)))
+    omega (arith, start t h .pre, marked _ _ _ _ _ _ (head-is t h _ (c .before .before .next .given .1)))
 
 assign-store : (t : ℕ) → lts.Need-store-statement-requires-2 (callees t) (stmt-walk-at t) stmt-walk.Post
 unfolding Marked
 assign-store t c κs =
     let h = c .before .before .before .before in
-    omega (arith, marked _ _ _ _ _ _ (head-is t h _ (c .before .before .v .given .1)))
+    omega (arith, start t h .pre, marked _ _ _ _ _ _ (head-is t h _ (c .before .before .v .given .1)))
+
+assign-expr : (t : ℕ) → lts.Need-expr-shape-requires (callees t) (stmt-walk-at t) stmt-walk.Post
+assign-expr t c κs = omega (arith, start t (c .before .before .before .before .before .before .before .before) .pre)
+
+assigned-requires : (t : ℕ) → lts.Need-assigned-of-requires (callees t) (stmt-walk-at t) stmt-walk.Post
+unfolding wholeExpr
+assigned-requires t c κs =
+    let shape = c .before .before .expr-shape in
+    (omega (arith, start t (c .before .before .before .before .before .before .before .before .before .before .before) .pre), λ e is. shape-small 32 _ _ _ _ _ e (sym (shape .ensures .0) ∙ is) .room)
 
 -- There is room for the parts: what the head says, and what the left side leaves.
-pair-room : (t : ℕ) (c : PairRead t) → (c .before .before .before .before .before .before .before .args .before < 63)
-    × (c .before .code .given .0 .1 .0 ≡ c .before .before .before .before .before .before .before .args .at + 3)
+pair-room : (t : ℕ) (c : PairRead t) → let a = start t (head-of-pair t c) .args in (a .before < 63) × (c .before .code .given .0 .1 .0 ≡ a .at + 3)
 unfolding Marked
-pair-room t c = let m = marked _ _ _ _ _ _ (head-is t (c .before .before .before) _ (c .before .code .given .1)) in (m .1, m .2)
+pair-room t c = let m = marked _ _ _ _ _ _ (head-is t (head-of-pair t c) _ (c .before .code .given .1)) in (m .1, m .2)
 
--- The point where the left side begins, from the one where it is read.
-abbrev pair-of-left : (t : ℕ) → LeftRead t → PairRead t
-pair-of-left t c = c .before .before .before .before .before .before .before
-
-left-is : (t : ℕ) (c : LeftRead t) → let p = pair-of-left t c in let a = p .before .before .before .before .before .before .before .args in
+left-is : (t : ℕ) (c : LeftRead t) → let p = pair-of-left t c in let a = start t (head-of-pair t p) .args in
     let next = p .before .code .given .0 .1 .0 in
-    stmtShape (a .n) next (stmtAt (a .levels - 1) (a .src .now) (a .count) (a .before + 1) next) ≡ Whole (c .before .first .given .0 .0)
-left-is t c = sym (c .before .before .before .before .before .stmt-walk .ensures .0) ∙ c .before .first .given .1
+    stmtShape (a .n) (a .terms) next (stmtAt (a .levels - 1) (a .src .now) (a .count) (a .before + 1) next) ≡ Whole (c .before .first .given .0 .0)
+left-is t c = sym (c .before .before .before .before .before .before .before .stmt-walk .ensures .0) ∙ c .before .first .given .1
 
-left-room : (t : ℕ) (c : LeftRead t) → let l = c .before .first .given .0 .0 in (l .statements ≤ 63) × (l .next ≤ 23 + 315 * l .statements)
+left-room : (t : ℕ) (c : LeftRead t) → let l = c .before .first .given .0 .0 in
+    (l .statements ≤ 63) × (l .terms ≤ 31 * l .statements) × (l .next ≤ 23 + 315 * l .statements)
 left-room t c =
     let p = pair-of-left t c in
-    let l = stmt-shaped _ _ _ _ (left-is t c) in
+    let l = stmt-shaped _ _ _ _ _ (left-is t c) in
     let known = stmt-read _ _ _ _ _ _ _ _ (l .was) in
+    let terms = ap (λ x. x .terms) (l .is) in
     let room = pair-room t p in
-    let begun = p .before .before .before .before .before .before .before .pre .1 .3 in
-    (known .room, omega (arith, known, room, begun))
+    let begun = start t (head-of-pair t p) .pre .1 in
+    (known .room, omega (arith, known, terms, begun .3), omega (arith, known, room, begun .4))
 
-test-room : (t : ℕ) (c : TestHead t) → (c .before .before .before .before .before .before .before .args .before < 63)
-    × (c .before .code2 .given .0 .1 .0 ≡ c .before .before .before .before .before .before .before .args .at + 3)
+test-room : (t : ℕ) (c : TestHead t) → let a = start t (head-of-test t c) .args in (a .before < 63) × (c .before .code2 .given .0 .1 .0 ≡ a .at + 3)
 unfolding Marked
-test-room t c = let m = marked _ _ _ _ _ _ (head-is t (c .before .before .before) _ (c .before .code2 .given .1)) in (m .1, m .2)
+test-room t c = let m = marked _ _ _ _ _ _ (head-is t (head-of-test t c) _ (c .before .code2 .given .1)) in (m .1, m .2)
 
--- The point where the head of a test is read, from those where the test and the body are.
-abbrev head-of-test : (t : ℕ) → TestRead t → TestHead t
-head-of-test t c = c .before .before .before .before
-
-abbrev test-of-body : (t : ℕ) → BodyRead t → TestRead t
-test-of-body t c = c .before .before .before .before .before .before .before
-
-test-is : (t : ℕ) (c : TestRead t) → let h = head-of-test t c in let a = h .before .before .before .before .before .before .before .args in
+test-is : (t : ℕ) (c : TestRead t) → let h = test-of-expr t c in let a = start t (head-of-test t h) .args in
     let next = h .before .code2 .given .0 .1 .0 in
-    exprShape Truth 0 next (wholeExpr (a .src .now) (a .count) next) ≡ expr.Whole (c .before .test .given .0 .0)
-test-is t c = sym (c .before .before .before .expr-shape2 .ensures) ∙ c .before .test .given .1
+    exprShape Truth next (wholeExpr (a .src .now) (a .count) next) ≡ expr.Whole (c .before .test .given .0 .0)
+test-is t c = sym (c .before .before .before .before .before .expr-shape2 .ensures .0) ∙ c .before .test .given .1
 
-body-is : (t : ℕ) (c : BodyRead t) → let r = test-of-body t c in let a = head-of-test t r .before .before .before .before .before .before .before .args in
-    let next = r .before .test .given .0 .0 .next in
-    stmtShape (a .n) next (stmtAt (a .levels - 1) (a .src .now) (a .count) (a .before + 1) next) ≡ Whole (c .before .second .given .0 .0)
-body-is t c = sym (c .before .before .before .before .before .stmt-walk3 .ensures .0) ∙ c .before .second .given .1
+body-is : (t : ℕ) (c : BodyRead t) → let r = expr-of-body t c in let a = start t (head-of-test t (test-of-expr t r)) .args in
+    let e = r .before .test .given .0 .0 in
+    stmtShape (a .n) (a .terms + e .nodes) (e .next) (stmtAt (a .levels - 1) (a .src .now) (a .count) (a .before + 1) (e .next)) ≡ Whole (c .before .second .given .0 .0)
+body-is t c = sym (c .before .before .before .before .before .before .before .stmt-walk3 .ensures .0) ∙ c .before .second .given .1
 
-body-room : (t : ℕ) (c : TestRead t) → let a = head-of-test t c .before .before .before .before .before .before .before .args in
-    (a .before < 63) × (c .before .test .given .0 .0 .next ≤ 23 + 315 * (a .before + 1))
+body-room : (t : ℕ) (c : TestRead t) → let a = start t (head-of-test t (test-of-expr t c)) .args in let e = c .before .test .given .0 .0 in
+    (a .before < 63) × (a .terms + e .nodes ≤ 31 * (a .before + 1)) × (e .next ≤ 23 + 315 * (a .before + 1))
 body-room t c =
-    let h = head-of-test t c in
-    let e = shaped _ _ _ _ _ (test-is t c) in
+    let h = test-of-expr t c in
+    let e = shaped _ _ _ _ (test-is t c) in
     let known = whole-read _ _ _ _ _ _ (e .was) in
     let room = test-room t h in
-    let begun = h .before .before .before .before .before .before .before .pre .1 .3 in
-    (room .0, omega (arith, known, room, begun))
+    let begun = start t (head-of-test t h) .pre .1 in
+    (room .0, omega (arith, known .few, begun .3), omega (arith, known .ends, known .short, room, begun .4))
 
-stmt-walk-requires-2 : (t : ℕ) → lts.Need-stmt-walk-requires-2 (callees t) (stmt-walk-at t) stmt-walk.Post
-stmt-walk-requires-2 t c κs =
-    let l = c .before .before .before .before .before in
-    let pre = pair-of-left t l .before .before .before .before .before .before .before .pre in
-    omega (arith, left-room t l, c .before .before .table4 .given, l .before .before .before .before .table3 .given, pre)
+pair-store : (t : ℕ) → lts.Need-store-statement-requires-3 (callees t) (stmt-walk-at t) stmt-walk.Post
+pair-store t c κs =
+    let l = c .before in
+    let p = pair-of-left t l in
+    omega (arith, pair-room t p, l .before .before .before .before .before .before .table3 .given, start t (head-of-pair t p) .pre)
+
+right-requires : (t : ℕ) → lts.Need-stmt-walk-requires-2 (callees t) (stmt-walk-at t) stmt-walk.Post
+right-requires t c κs =
+    let l = c .before .before .before .before .before .before in
+    let h = head-of-pair t (pair-of-left t l) in
+    omega (arith, more t h, left-room t l, c .before .before .before .table4 .given, l .before .before .before .before .before .before .table3 .given, start t h .pre)
 
 -- A part has fewer levels than were left for it, so there is room for one more.
 pair-requires : (t : ℕ) → lts.Need-pair-of-requires (callees t) (stmt-walk-at t) stmt-walk.Post
 pair-requires t c κs =
-    let l = c .before .before .before .before .before .before .before .before in
-    let fits = pair-of-left t l .before .before .before .before .before .before .before .fits .levels in (
-      omega (arith, fits, shape-high _ _ _ _ _ _ _ (left-is t l)),
-      λ w e. omega (arith, fits, shape-high _ _ _ _ _ _ w (sym (c .before .before .stmt-walk2 .ensures .0) ∙ e)),
+    let l = c .before .before .before .before .before .before .before .before .before .before .before in
+    let fits = start t (head-of-pair t (pair-of-left t l)) .fits .levels in (
+      omega (arith, fits, shape-high _ _ _ _ _ _ _ _ (left-is t l)),
+      λ w e. omega (arith, fits, shape-high _ _ _ _ _ _ _ w (sym (c .before .before .before .before .stmt-walk2 .ensures .0) ∙ e)),
     )
 
 test-store : (t : ℕ) → lts.Need-store-statement-requires-4 (callees t) (stmt-walk-at t) stmt-walk.Post
 test-store t c κs =
-    let k = head-of-test t (test-of-body t (c .before)) in
-    omega (arith, test-room t k, c .before .before .before .before .before .table6 .given, k .before .before .before .before .before .before .before .pre)
+    let k = test-of-expr t (expr-of-body t (c .before)) in
+    omega (arith, test-room t k, c .before .before .before .before .before .before .before .table6 .given, start t (head-of-test t k) .pre)
 
 tested-requires : (t : ℕ) → lts.Need-tested-of-requires (callees t) (stmt-walk-at t) stmt-walk.Post
 tested-requires t c κs =
     let b = c .before .before .before .before in
-    let start = head-of-test t (test-of-body t b) .before .before .before .before .before .before .before in
-    (start .pre .1 .0, start .pre .1 .1, omega (arith, start .fits .levels, shape-high _ _ _ _ _ _ _ (body-is t b)))
+    let s = start t (head-of-test t (test-of-expr t (expr-of-body t b))) in
+    (s .pre .1 .0, s .pre .1 .1, omega (arith, s .fits .levels, shape-high _ _ _ _ _ _ _ _ (body-is t b)))
 
 stmt-walk-returns : (t : ℕ) → lts.Need-returns (callees t) (stmt-walk-at t) stmt-walk.Post
 unfolding stmtAt stmtShape
-stmt-walk-returns t c = (rw (c .if1 .taken), rw (c .if1 .taken) tt)
+stmt-walk-returns t c = (rw (c .if1 .taken), (rw (c .if1 .taken) tt, rw (c .if1 .taken) tt))
 
 left-returns : (t : ℕ) → lts.Need-returns-2 (callees t) (stmt-walk-at t) stmt-walk.Post
 left-returns t c =
-    let p = c .before .before .before .before .before .before in
-    let h = p .before .before .before in
-    let e = left-side-fault _ _ _ _ _ _ (more t h) _ _ (head-is t h _ (p .before .code .given .1)) _ _
-    (sym (c .before .before .before .before .stmt-walk .ensures .0) ∙ c .enum-told .given .1) in
-    (c .enum-told .given .1 ∙ e, fault-filled _ _ _ _ _ (more t h) _ _ _ _ _ e)
+    let p = c .before .before .before .before .before .before .before .before .before in
+    let h = head-of-pair t p in
+    let e = left-side-fault _ _ _ _ _ _ _ (more t h) _ _ (head-is t h _ (p .before .code .given .1)) _ _
+    (sym (c .before .before .before .before .before .before .stmt-walk .ensures .0) ∙ c .enum-told .given .1) in
+    (c .enum-told .given .1 ∙ e, (fault-filled _ _ _ _ _ _ (more t h) _ _ _ _ _ e, exprs-fault _ _ _ _ _ _ (more t h) _ _ _ _ _ e))
 
 body-returns : (t : ℕ) → lts.Need-returns-3 (callees t) (stmt-walk-at t) stmt-walk.Post
 body-returns t c =
-    let r = c .before .before .before .before .before .before in
-    let k = head-of-test t r in
-    let h = k .before .before .before in
-    let e = body-fault _ _ _ _ _ _ (more t h) _ _ (head-is t h _ (k .before .code2 .given .1)) _ (test-is t r) _ _
-    (sym (c .before .before .before .before .stmt-walk3 .ensures .0) ∙ c .enum-told2 .given .1) in
-    (c .enum-told2 .given .1 ∙ e, fault-filled _ _ _ _ _ (more t h) _ _ _ _ _ e)
+    let r = c .before .before .before .before .before .before .before .before .before .before in
+    let k = test-of-expr t r in
+    let h = head-of-test t k in
+    let e = body-fault _ _ _ _ _ _ _ (more t h) _ _ (head-is t h _ (k .before .code2 .given .1)) _ (test-is t r) _ _
+    (sym (c .before .before .before .before .before .before .stmt-walk3 .ensures .0) ∙ c .enum-told2 .given .1) in
+    (c .enum-told2 .given .1 ∙ e, (fault-filled _ _ _ _ _ _ (more t h) _ _ _ _ _ e, exprs-fault _ _ _ _ _ _ (more t h) _ _ _ _ _ e))
 
 nil-returns : (t : ℕ) → lts.Need-returns-4 (callees t) (stmt-walk-at t) stmt-walk.Post
 unfolding stmtShape
 nil-returns t c =
-    let k = c .before .before .before .before in
+    let k = c .before .before .before .before .before in
     let h = k .before .before .before in
     let head = head-is t h _ (k .before .next .given .1) in
-    (rw (stmt-step _ _ _ _ _ _ (more t h) head, add-one), nil-filled _ _ _ _ _ (more t h) _ head _ _ (c .before .before .store-statement .ensures))
+    let terms : start t h .args .terms + 0 ≡ start t h .args .terms = omega arith in (
+      c .nil-of .ensures ∙ rw (stmt-step _ _ _ _ _ _ (more t h) head, add-one, terms),
+      (nil-filled _ _ _ _ _ _ (more t h) _ head _ _ (c .before .before .before .store-statement .ensures), nil-exprs _ _ _ _ _ _ (more t h) _ head _),
+    )
 
 assign-returns : (t : ℕ) → lts.Need-returns-5 (callees t) (stmt-walk-at t) stmt-walk.Post
 assign-returns t c =
-    let k = c .before .before .before .before .before .before in
+    let k = c .before .before .before .before .before .before .before .before .before in
     let h = k .before .before .before in
-    let head = head-is t h _ (k .before .v .given .1) in (
-      rw (c .assigned-of .ensures, c .before .expr-shape .ensures) (assign-shape _ _ _ _ _ _ (more t h) _ _ head),
-      assign-filled _ _ _ _ _ (more t h) _ _ head _ _ (c .before .before .before .before .store-statement2 .ensures),
+    let head = head-is t h _ (k .before .v .given .1) in
+    let assigned = c .before .before .before .expr-shape in (
+      rw (c .assigned-of .ensures, assigned .ensures .0) (assign-shape _ _ _ _ _ _ _ (more t h) _ _ head),
+      (
+        assign-filled _ _ _ _ _ _ (more t h) _ _ head _ _ (c .before .before .before .before .before .before .before .store-statement2 .ensures),
+        assign-exprs _ _ _ _ _ _ (more t h) _ _ head _ _ (assigned .ensures .1),
+      ),
     )
 
 pair-returns : (t : ℕ) → lts.Need-returns-6 (callees t) (stmt-walk-at t) stmt-walk.Post
 pair-returns t c =
-    let l = c .before .before .before .before .before .before .before .before .before in
+    let l = c .before .before .before .before .before .before .before .before .before .before .before .before in
     let p = pair-of-left t l in
-    let h = p .before .before .before in
+    let h = head-of-pair t p in
     let head = head-is t h _ (p .before .code .given .1) in
-    let left = stmt-shaped _ _ _ _ (left-is t l) in
-    let second = c .before .before .before .stmt-walk2 in (
-      rw (c .pair-of .ensures, second .ensures .0) (pair-shape _ _ _ _ _ _ (more t h) _ _ head _ (left-is t l)),
-      pair-filled _ _ _ _ _ (more t h) _ _ head (left .tree) _ _ (left .was) _ _ _ _
-          (l .before .before .before .before .before .stmt-walk .ensures .1) (c .before .before .before .before .before .before .before .store-statement3 .ensures)
-          (second .ensures .1),
+    let left = stmt-shaped _ _ _ _ _ (left-is t l) in
+    let first = l .before .before .before .before .before .before .before .stmt-walk in
+    let second = c .before .before .before .before .before .stmt-walk2 in
+    let terms = ap (λ x. x .terms) (left .is) in (
+      rw (c .pair-of .ensures, second .ensures .0) (pair-shape _ _ _ _ _ _ _ (more t h) _ _ head _ (left-is t l)),
+      (
+        pair-filled _ _ _ _ _ _ (more t h) _ _ head (left .tree) _ _ (left .was) _ _ _ _
+            (first .ensures .1 .0) (c .before .before .before .before .before .before .before .before .before .before .store-statement3 .ensures) (rw terms at (second .ensures .1 .0)),
+        pair-exprs _ _ _ _ _ _ (more t h) _ _ head (left .tree) _ _ (left .was) _ _ _ (first .ensures .1 .1) (rw terms at (second .ensures .1 .1)),
+      ),
     )
 
 test-returns : (t : ℕ) → lts.Need-returns-7 (callees t) (stmt-walk-at t) stmt-walk.Post
 test-returns t c =
-    let k = c .before .before .before .before in
-    let h = k .before .before .before in
-    let e = test-fault _ _ _ _ _ _ (more t h) _ _ (head-is t h _ (k .before .code2 .given .1)) _ _
-    (sym (c .before .before .before .expr-shape2 .ensures) ∙ c .before .fault .given .1) in
-    (e, fault-filled _ _ _ _ _ (more t h) _ _ _ _ _ e)
+    let k = c .before .before .before .before .before .before .before in
+    let h = head-of-test t k in
+    let e = test-fault _ _ _ _ _ _ _ (more t h) _ _ (head-is t h _ (k .before .code2 .given .1)) _ _
+    (sym (c .before .before .before .before .before .expr-shape2 .ensures .0) ∙ c .before .fault .given .1) in
+    (e, (fault-filled _ _ _ _ _ _ (more t h) _ _ _ _ _ e, exprs-fault _ _ _ _ _ _ (more t h) _ _ _ _ _ e))
 
 tested-returns : (t : ℕ) → lts.Need-returns-8 (callees t) (stmt-walk-at t) stmt-walk.Post
 tested-returns t c =
     let b = c .before .before .before .before .before in
-    let r = test-of-body t b in
-    let k = head-of-test t r in
-    let h = k .before .before .before in
+    let r = expr-of-body t b in
+    let k = test-of-expr t r in
+    let h = head-of-test t k in
     let head = head-is t h _ (k .before .code2 .given .1) in
-    let test = shaped _ _ _ _ _ (test-is t r) in
-    let body = stmt-shaped _ _ _ _ (body-is t b) in (
-      c .tested-of .ensures ∙ test-shape _ _ _ _ _ _ (more t h) _ _ head _ (test-is t r) _ (body-is t b),
-      test-filled _ _ _ _ _ (more t h) _ _ head (test .tree) _ _ (test .was) (body .tree) _ _ (body .was) _ _ _
-          (b .before .before .before .before .before .stmt-walk3 .ensures .1) (c .before .before .before .store-statement4 .ensures),
+    let test = shaped _ _ _ _ (test-is t r) in
+    let body = stmt-shaped _ _ _ _ _ (body-is t b) in
+    let second = b .before .before .before .before .before .before .before .stmt-walk3 in (
+      c .tested-of .ensures ∙ test-shape _ _ _ _ _ _ _ (more t h) _ _ head _ (test-is t r) _ (body-is t b),
+      (
+        test-filled _ _ _ _ _ _ (more t h) _ _ head (test .tree) _ _ (test .was) (body .tree) _ _ (body .was) _ _ _
+            (second .ensures .1 .0) (c .before .before .before .store-statement4 .ensures),
+        test-exprs _ _ _ _ _ _ (more t h) _ _ head (test .tree) _ _ (test .was) _ _ _ (r .before .before .before .before .before .expr-shape2 .ensures .1) (second .ensures .1 .1),
+      ),
     )
 
 fault-returns : (t : ℕ) → lts.Need-returns-9 (callees t) (stmt-walk-at t) stmt-walk.Post
@@ -259,40 +297,42 @@ unfolding stmtShape
 fault-returns t c =
     let h = c .before .before .before in
     let e = stmt-step _ _ _ _ _ _ (more t h) (head-is t h _ (c .before .fault2 .given .1)) in
-    (rw e, rw e tt)
+    (rw e, (rw e tt, rw e tt))
 
 pub +stmt-walk-spec : {M : Type 1} → statement M
-+stmt-walk-spec = close μ-stmt-walk λ t. lts.spec (callees t)
-    (stmt-walk-at t)
-    stmt-walk.Post
++stmt-walk-spec = close μ-stmt-walk λ t. lts.spec (callees t) (stmt-walk-at t) stmt-walk.Post
     (stmt-walk-returns t)
-    (λ c. search needs) (λ c κs. search needs) (λ c. search needs) (λ c. search needs)
+    (λ c. search needs) (λ c. search needs) (λ c κs. search needs) (λ c. search needs)
     (nil-store t)
-    (λ c. search needs) (λ c. search needs) (λ c. search needs)
+    (λ c κs. search needs) (λ c. search needs)
     (assign-store t)
-    (λ c. search needs) (λ c κs. search needs) (λ c κs. search needs) (λ c. search needs) (λ c. search needs) (λ c. search needs)
-    (λ c κs. omega (arith, pair-room t (c .before)))
-    (λ c. search needs) (λ c. search needs) (λ c. search needs)
+    (assign-expr t)
+    (assigned-requires t)
+    (λ c. search needs)
+    (λ c κs. let h = head-of-pair t (c .before .before) in omega (arith, more t h, pair-room t (c .before .before), start t h .pre))
+    (λ c. search needs) (λ c. search needs) (λ c. search needs) (λ c. search needs)
     (left-returns t)
-    (λ c κs. omega (arith, pair-room t (pair-of-left t (c .before)), c .before .before .before .before .before .table3 .given))
-    (λ c. search needs)
-    (stmt-walk-requires-2 t)
+    (pair-store t)
+    (right-requires t)
     (pair-requires t)
-    (λ c. search needs) (λ c κs. search needs) (λ c. search needs) (λ c. search needs) (λ c. search needs)
     (λ c. search needs)
-    (λ c κs. omega (arith, body-room t (c .before)))
-    (λ c. search needs) (λ c. search needs) (λ c. search needs)
+    (λ c κs. omega (arith, start t (c .before .before .before .before) .pre))
+    (λ c. search needs) (λ c. search needs)
+    (λ c. omega (arith, body-room t (c .before)))
+    (λ c κs. let h = head-of-test t (test-of-expr t (c .before .before .before)) in omega (arith, more t h, body-room t (c .before .before .before), start t h .pre))
+    (λ c. search needs) (λ c. search needs) (λ c. search needs) (λ c. search needs)
     (body-returns t)
     (test-store t)
     (tested-requires t)
     (λ c. search needs)
     (λ c. search needs)
     (nil-returns t)
-    (λ c. search needs)
+    (λ c. search needs) (λ c. search needs)
     (assign-returns t)
-    (λ c. search needs)
+    (λ c. search needs) (λ c. search needs)
     (pair-returns t)
-    (test-returns t)
     (λ c. search needs)
+    (test-returns t)
+    (λ c. search needs) (λ c. search needs)
     (tested-returns t)
     (fault-returns t)

@@ -19,4 +19,4 @@ returns c = ap statementOf (word-is c)
 pub statement-at-spec : {M : Type 1} → statement M
 statement-at-spec =
     tie.close
-    (tie.spec (λ c. search needs) (λ c. search needs) (λ c. search needs) (λ c. search needs) (λ c. search needs) returns)
+    (tie.spec (λ c. search needs) (λ c. search needs) (λ c. search needs) (λ c. search needs) (λ c. search needs) (λ c. search needs) returns)

@@ -4,7 +4,7 @@ use borrow.Author.Needs.{needs}
 use Rattle.states.specs.Search.{holds}
 use Rattle.semantics.specs.Conditions.{c41}
 use Rattle.handler.specs.Header.{machineIn}
-use Rattle.evaluation.specs.Values.{exprIn}
+use Rattle.handler.specs.Terms.{exprIn}
 use Rattle.rules.specs.Words.{wordSpec}
 use Rattle.rules.proofs.Asking.{asked-then}
 use Rattle.rules.proofs.Stores.{store-in-post-42, store-in-guarantee-43}
@@ -18,7 +18,7 @@ returns c =
     let stores = reading .before in
     let a = stores .before .before .before .before .args in
     let n = stores .before .states-in .ensures in
-    let e = exprIn (a .handler .now) (a .head .count) (a .expr) in
+    let e = exprIn (a .exprs .now) (a .expr) in
     let own = wordSpec (machineIn (a .head) .states) (a .work .now) (a .own) in
     let rows = stores .successors .ensures in
     asked-then 43 _

@@ -6,7 +6,7 @@ use borrow.Author.Tests.{ne-eqb}
 use Rattle.states.specs.Search.{given}
 use Rattle.semantics.specs.Conditions.{c41}
 use Rattle.handler.specs.Header.{machineIn}
-use Rattle.evaluation.specs.Values.{exprIn}
+use Rattle.handler.specs.Terms.{exprIn}
 use Rattle.search.specs.Named.{naming}
 use Rattle.rules.specs.Asking.{statesFor}
 use Rattle.rules.specs.Words.{wordRelation, wordSpec}
@@ -25,7 +25,7 @@ returns c fits =
     rw (d .match .keys1)
     (found-as _ _ (rw n at (c .least-pair .ensures))
     (within-same _ _ _ (rw n at (d .before .before .set-at .ensures)) refl (c .before .rows-of .ensures)
-    ∙ store-in-post-42 (a .head) (a .v) (exprIn (a .handler .now) (a .head .count) (a .expr)) _ (d .before .successors .ensures) (wordSpec (machineIn (a .head) .states) (a .work .now) (a .own))))
+    ∙ store-in-post-42 (a .head) (a .v) (exprIn (a .exprs .now) (a .expr)) _ (d .before .successors .ensures) (wordSpec (machineIn (a .head) .states) (a .work .now) (a .own))))
 
 returns-2 : tie.Need-returns-2
 unfolding statesFor given wordRelation
@@ -37,7 +37,7 @@ returns-2 c fits =
     (found-as _ _ (rw n at (c .least-pair2 .ensures))
     (or-same _ _ _ _ (λ s t. eqb t s) eqb-turned (rw n at (d .before .before .set-at .ensures)) refl (c .before .before .before .rows-of2 .ensures)
     (rw n at (c .before .before .with-same .ensures))
-    ∙ store-in-guarantee-43 (a .head) (a .v) (exprIn (a .handler .now) (a .head .count) (a .expr)) _ (d .before .successors .ensures) (wordSpec (machineIn (a .head) .states) (a .work .now) (a .own))))
+    ∙ store-in-guarantee-43 (a .head) (a .v) (exprIn (a .exprs .now) (a .expr)) _ (d .before .successors .ensures) (wordSpec (machineIn (a .head) .states) (a .work .now) (a .own))))
 
 returns-3 : tie.Need-returns-3
 unfolding c41

@@ -2,7 +2,7 @@
 -- false.
 use mathlib.Core.Path.{_∙_, fun-ext}
 use borrow.Author.Needs.{needs}
-use Rattle.evaluation.specs.Values.{exprIn}
+use Rattle.handler.specs.Terms.{exprIn}
 use Rattle.rules.proofs.Asking.{asked-then}
 use Rattle.rules.proofs.Movement.{read-once-50}
 use Rattle.rules.proofs.iteration.while_fault.Statement.{statement}
@@ -14,7 +14,7 @@ returns c =
     let from-50 = c .before .before .before .before .before .before .before .before .before .before .before .before .before in
     let test = from-50 .before .before .before .before .before .before .before in
     let a = test .before .before .before .before .args in
-    let e = exprIn (a .handler .now) (a .head .count) (a .expr) in
+    let e = exprIn (a .exprs .now) (a .expr) in
     let once = from-50 .before .read-once .ensures ∙ read-once-50 _ _ _ (from-50 .before .before .moved .ensures) e in
     rw (test .before .states-in .ensures, fun-ext (test .truths-at .ensures .0), fun-ext (test .truths-at .ensures .1)) at
     (asked-then 56 _

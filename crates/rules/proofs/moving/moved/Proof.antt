@@ -10,9 +10,8 @@ use Rattle.states.proofs.Search.{any-none, any-more, any-done}
 use Rattle.states.specs.Sets.{has}
 use Rattle.states.proofs.Members.{none-in}
 use Rattle.handler.specs.Header.{machineIn}
-use Rattle.handler.specs.Shapes.{inMask}
+use Rattle.evaluation.specs.Values.{inMask, agree}
 use Rattle.handler.proofs.Heads.{known-head}
-use Rattle.evaluation.specs.Values.{agree}
 use Rattle.evaluation.proofs.Laws.{state-head}
 use Rattle.rules.specs.Words.{wordRelation}
 use Rattle.rules.proofs.Movement.{movedFrom, mask-moves, mask-none, moves-none, none-start, starts-moved}

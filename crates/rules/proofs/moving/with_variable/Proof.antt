@@ -8,7 +8,7 @@ use lib.Dec.{eqb}
 use lib.Pow.{shl-exact}
 use borrow.Author.Needs.{needs}
 use Rattle.states.proofs.Bits.{or-bits, bit-power}
-use Rattle.handler.specs.Shapes.{inMask}
+use Rattle.evaluation.specs.Values.{inMask}
 use Rattle.rules.proofs.moving.with_variable.Statement.{statement}
 use Rattle.rules.proofs.moving.with_variable.Tie as tie
 

@@ -7,8 +7,8 @@ use native.Mathlib.Omega.{arith}
 use borrow.Author.Needs.{needs}
 use lib.Dec.{eqb}
 use lib.Pow.{pow-mono}
-use Rattle.handler.proofs.expressions.occurs_in.Statement.{statement}
-use Rattle.handler.proofs.expressions.occurs_in.Tie as tie
+use Rattle.evaluation.proofs.occurs_in.Statement.{statement}
+use Rattle.evaluation.proofs.occurs_in.Tie as tie
 
 binary : (b : ℕ) → b < 2 → b ≡ cond (eqb b 1) 1 0
 binary zero h = refl

@@ -1,0 +1,197 @@
+-- Laws of the table of expression nodes: a word gives its node back, and a table that holds the words of an expression from number i
+-- on gives the expression back.
+use Prim.Native.Nat.{ℕ, zero, suc, _+_, _-_, _*_, _/_, _%_, _≤_, _<_}
+use mathlib.Core.Bool.{true, false}
+use mathlib.Core.List.{List, _++_, append-assoc}
+use mathlib.Core.Path.{_≡_, refl, ap, _∙_}
+use native.Mathlib.Omega.{arith}
+use borrow.Author.Tests.{lt-ltb, le-ltb}
+use lib.IntN.{ℤ, pos, negsuc}
+use lib.ListN.{length, getD, drop, length-append}
+use lib.Seq.{sets, sets-eq}
+use lib.Signed.{mag}
+use Rattle.semantics.specs.Language.{Val, int, truth, Expr, lit, var, op, Stmt, nil, assign, seq, par, if, while}
+use Rattle.handler.specs.declared.terms.Term.{Term}
+use Rattle.handler.specs.Terms.{bits16, signed16, exprNodes, exprTerm, termWord, termOf, termIn, firstWord, termWords, stmtTerms, handlerTerms, exprFrom, exprIn}
+use Rattle.handler.proofs.Stores.{first-held, later-held, second-held}
+
+-- The fields of a word.
+word-tag : (tag value right : ℕ) → tag < 4 → (tag + 4 * (value + 65536 * right)) % 4 ≡ tag
+word-tag tag value right t = omega arith
+
+word-value : (tag value right : ℕ) → tag < 4 → value < 65536 → (tag + 4 * (value + 65536 * right)) / 4 % 65536 ≡ value
+word-value tag value right t v = omega arith
+
+word-right : (tag value right : ℕ) → tag < 4 → value < 65536 → (tag + 4 * (value + 65536 * right)) / 262144 ≡ right
+word-right tag value right t v = omega arith
+
+term-back : (x : Term) → x .tag < 4 → x .value < 65536 → termOf (termWord x) ≡ x
+unfolding termWord termOf
+term-back x t v =
+    rw (word-tag (x .tag) (x .value) (x .right) t, word-value (x .tag) (x .value) (x .right) t v, word-right (x .tag) (x .value) (x .right) t v)
+
+-- An integer of 16 bits.
+pub bits-small : (z : ℤ) → mag z < 32768 → bits16 z < 65536
+unfolding bits16
+bits-small (pos n) h = omega arith
+bits-small (negsuc n) h = omega arith
+
+signed-back : (z : ℤ) → mag z < 32768 → signed16 (bits16 z) ≡ z
+unfolding bits16 signed16
+signed-back (pos n) h = rw (lt-ltb n 32768 h)
+signed-back (negsuc n) h =
+    let back : 65535 - (65535 - n) ≡ n = omega arith in
+    rw (le-ltb (65535 - n) 32768 (omega arith), back)
+
+-- The numbers of an expression fit their fields, as those of an expression of a file do.
+abbrev pub ValFits : Val → Type 0
+ValFits (int z) = mag z < 32768
+ValFits (truth b) = Unit {0}
+
+abbrev pub ExprFits : Expr → Type 0
+ExprFits (lit v) = ValFits v
+ExprFits (var v) = v < 65536
+ExprFits (op o l r) = (o < 65536) × ExprFits l × ExprFits r
+
+pub length-termWords : (i : ℕ) (e : Expr) → length (termWords i e) ≡ exprNodes e
+length-termWords i (lit v) = refl
+length-termWords i (var v) = refl
+length-termWords i (op o l r) =
+    simp length-append (omega (arith, length-termWords (suc i) l, length-termWords (suc i + exprNodes l) r))
+
+-- A table holds the words of an expression whose first node is number i.
+pub record TermsIn (table : List ℕ) (i : ℕ) (e : Expr) : Type 0 where
+  pub rest : List ℕ
+  pub is : drop i table ≡ termWords i e ++ rest
+
+module _ (table : List ℕ) where
+  operands-held : (i o : ℕ) (l r : Expr) → TermsIn table i (op o l r) → TermsIn table (suc i) l × TermsIn table (suc i + exprNodes l) r
+  operands-held i o l r h =
+      let first = termWords (suc i) l in
+      let second = termWords (suc i + exprNodes l) r in
+      let left : drop (suc i) table ≡ first ++ (second ++ h .rest)
+      = later-held table i (firstWord i (op o l r)) (first ++ second ++ h .rest) (h .is) ∙ append-assoc first second (h .rest) in (
+        record { rest = second ++ h .rest; is = left },
+        record { rest = h .rest; is = second-held table (suc i) (exprNodes l) first (second ++ h .rest) (length-termWords (suc i) l) left },
+      )
+
+  -- The first node of an expression.
+  word-first : (i : ℕ) (e : Expr) (rest : List ℕ) → getD (termWords i e ++ rest) 0 0 ≡ firstWord i e
+  word-first i (lit v) rest = refl
+  word-first i (var v) rest = refl
+  word-first i (op o l r) rest = refl
+
+  first-back : (i : ℕ) (e : Expr) → ExprFits e → termOf (firstWord i e) ≡ exprTerm i e
+  unfolding firstWord
+  first-back i (lit (int z)) fits = term-back (exprTerm i (lit (int z))) (omega arith) (bits-small z fits)
+  first-back i (lit (truth true)) fits = term-back (exprTerm i (lit (truth true))) (omega arith) (omega arith)
+  first-back i (lit (truth false)) fits = term-back (exprTerm i (lit (truth false))) (omega arith) (omega arith)
+  first-back i (var v) fits = term-back (exprTerm i (var v)) (omega arith) fits
+  first-back i (op o l r) fits = term-back (exprTerm i (op o l r)) (omega arith) (fits .0)
+
+  term-held : (i : ℕ) (e : Expr) → ExprFits e → TermsIn table i e → termIn table i ≡ exprTerm i e
+  unfolding termIn
+  term-held i e fits h = ap termOf (first-held table i _ (h .is) ∙ word-first i e (h .rest)) ∙ first-back i e fits
+
+  expr-from : (levels i : ℕ) (e : Expr) → exprNodes e ≤ levels → ExprFits e → TermsIn table i e → exprFrom levels table i ≡ e
+  unfolding exprFrom
+  expr-from zero i (lit v) few fits h = absurd (omega arith)
+  expr-from zero i (var v) few fits h = absurd (omega arith)
+  expr-from zero i (op o l r) few fits h = absurd (omega arith)
+  expr-from (suc levels) i (lit (int z)) few fits h = rw (term-held i (lit (int z)) fits h, signed-back z fits)
+  expr-from (suc levels) i (lit (truth true)) few fits h = rw (term-held i (lit (truth true)) fits h)
+  expr-from (suc levels) i (lit (truth false)) few fits h = rw (term-held i (lit (truth false)) fits h)
+  expr-from (suc levels) i (var v) few fits h = rw (term-held i (var v) fits h)
+  expr-from (suc levels) i (op o l r) few fits h =
+      let operands = operands-held i o l r h in
+      rw (
+        term-held i (op o l r) fits h,
+        expr-from levels (suc i) l (omega arith) (fits .1) (operands .0),
+        expr-from levels (suc i + exprNodes l) r (omega arith) (fits .2) (operands .1),
+      )
+
+  pub expr-held : (i : ℕ) (e : Expr) → exprNodes e ≤ 31 → ExprFits e → TermsIn table i e → exprIn table i ≡ e
+  unfolding exprIn
+  expr-held i e few fits h = expr-from 32 i e (omega arith) fits h
+
+-- Each expression of a statement has at most 31 nodes, and its numbers fit.
+abbrev pub ExprsFit : Stmt → Type 0
+ExprsFit nil = Unit {0}
+ExprsFit (assign v e) = (exprNodes e ≤ 31) × ExprFits e
+ExprsFit (seq l r) = ExprsFit l × ExprsFit r
+ExprsFit (par l r) = ExprsFit l × ExprsFit r
+ExprsFit (if e b) = (exprNodes e ≤ 31) × ExprFits e × ExprsFit b
+ExprsFit (while e b) = (exprNodes e ≤ 31) × ExprFits e × ExprsFit b
+
+pub length-handlerTerms : (i : ℕ) (S : Stmt) → length (handlerTerms i S) ≡ stmtTerms S
+length-handlerTerms i nil = refl
+length-handlerTerms i (assign v e) = length-termWords i e
+length-handlerTerms i (seq l r) = simp length-append (omega (arith, length-handlerTerms i l, length-handlerTerms (i + stmtTerms l) r))
+length-handlerTerms i (par l r) = simp length-append (omega (arith, length-handlerTerms i l, length-handlerTerms (i + stmtTerms l) r))
+length-handlerTerms i (if e b) = simp length-append (omega (arith, length-termWords i e, length-handlerTerms (i + exprNodes e) b))
+length-handlerTerms i (while e b) = simp length-append (omega (arith, length-termWords i e, length-handlerTerms (i + exprNodes e) b))
+
+-- A table holds the expressions of a statement, whose nodes begin at number i.
+pub record ExprsIn (table : List ℕ) (i : ℕ) (S : Stmt) : Type 0 where
+  pub rest : List ℕ
+  pub is : drop i table ≡ handlerTerms i S ++ rest
+  pub room : i + stmtTerms S ≤ 1953
+  pub fits : ExprsFit S
+
+-- It also holds those of its parts, and its own expression is found in it.
+abbrev pub PartsExprs : List ℕ → ℕ → Stmt → Type 0
+PartsExprs table i nil = Unit {0}
+PartsExprs table i (assign v e) = exprIn table i ≡ e
+PartsExprs table i (seq l r) = ExprsIn table i l × ExprsIn table (i + stmtTerms l) r
+PartsExprs table i (par l r) = ExprsIn table i l × ExprsIn table (i + stmtTerms l) r
+PartsExprs table i (if e b) = (exprIn table i ≡ e) × ExprsIn table (i + exprNodes e) b
+PartsExprs table i (while e b) = (exprIn table i ≡ e) × ExprsIn table (i + exprNodes e) b
+
+module _ (table : List ℕ) (i : ℕ) where
+  halves : (l r : Stmt) (rest : List ℕ) → drop i table ≡ handlerTerms i l ++ handlerTerms (i + stmtTerms l) r ++ rest
+      → i + (stmtTerms l + stmtTerms r) ≤ 1953 → ExprsFit l × ExprsFit r → ExprsIn table i l × ExprsIn table (i + stmtTerms l) r
+  halves l r rest e room fits =
+      let first = handlerTerms i l in
+      let second = handlerTerms (i + stmtTerms l) r in
+      let left : drop i table ≡ first ++ (second ++ rest) = e ∙ append-assoc first second rest in (
+        record { rest = second ++ rest; is = left; room = omega arith; fits = fits .0 },
+        record {
+          rest = rest;
+          is = second-held table i (stmtTerms l) first (second ++ rest) (length-handlerTerms i l) left;
+          room = omega arith;
+          fits = fits .1;
+        },
+      )
+
+  tested : (e : Expr) (b : Stmt) (rest : List ℕ) → drop i table ≡ termWords i e ++ handlerTerms (i + exprNodes e) b ++ rest
+      → i + (exprNodes e + stmtTerms b) ≤ 1953 → (exprNodes e ≤ 31) × ExprFits e × ExprsFit b → (exprIn table i ≡ e) × ExprsIn table (i + exprNodes e) b
+  tested e b rest p room fits =
+      let second = handlerTerms (i + exprNodes e) b in
+      let left : drop i table ≡ termWords i e ++ (second ++ rest) = p ∙ append-assoc (termWords i e) second rest in (
+        expr-held table i e (fits .0) (fits .1) (record { rest = second ++ rest; is = left }),
+        record {
+          rest = rest;
+          is = second-held table i (exprNodes e) (termWords i e) (second ++ rest) (length-termWords i e) left;
+          room = omega arith;
+          fits = fits .2;
+        },
+      )
+
+  pub parts-exprs : (S : Stmt) → ExprsIn table i S → PartsExprs table i S
+  parts-exprs nil h = tt
+  parts-exprs (assign v e) h = expr-held table i e (h .fits .0) (h .fits .1) (record { rest = h .rest; is = h .is })
+  parts-exprs (seq l r) h = halves l r (h .rest) (h .is) (h .room) (h .fits)
+  parts-exprs (par l r) h = halves l r (h .rest) (h .is) (h .room) (h .fits)
+  parts-exprs (if e b) h = tested e b (h .rest) (h .is) (h .room) (h .fits)
+  parts-exprs (while e b) h = tested e b (h .rest) (h .is) (h .room) (h .fits)
+
+-- Stores into a buffer with room for them make a table that holds the expressions of a statement.
+pub exprs-stored : (entry : List ℕ) (S : Stmt) → stmtTerms S ≤ 1953 → 1953 ≤ length entry → ExprsFit S → ExprsIn (sets entry 0 (handlerTerms 0 S)) 0 S
+exprs-stored entry S few room fits =
+    let words = handlerTerms 0 S in
+    record {
+      rest = drop (0 + length words) entry;
+      is = sets-eq words entry 0 (omega (arith, length-handlerTerms 0 S));
+      room = omega arith;
+      fits = fits;
+    }
