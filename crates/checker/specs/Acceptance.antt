@@ -3,6 +3,7 @@ use Prim.Native.Nat.{ℕ, _≤_}
 use mathlib.Core.Path.{_≡_}
 use mathlib.Core.List.{List}
 use mathlib.Core.Option.{none}
+use Rattle.semantics.specs.StepNumber.{mostSteps}
 use Rattle.semantics.specs.Checking.{firstFault}
 use Rattle.derivation.specs.Tables.{workWords}
 use Rattle.pair.specs.declared.Mode.{Mode}
@@ -19,4 +20,4 @@ pub record Acceptable (hb pb : List ℕ) (mode : Mode) (words k : ℕ) : Type 0 
   pub unbroken : firstFault (tablesIn pb mode held) (held .derivation) (held .statement) 0 ≡ none
   -- k is the step number, and within its limit
   pub number : k ≡ stepsOf held
-  pub limit : k ≤ 4294967295
+  pub limit : k ≤ mostSteps

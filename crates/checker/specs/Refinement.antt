@@ -1,12 +1,14 @@
 -- What the private functions of the check require and ensure. No public contract uses this.
-use Prim.Native.Nat.{ℕ, _-_, _^_, _≤_}
+use Prim.Native.Nat.{ℕ, _≤_}
 use mathlib.Core.Path.{_≡_}
 use mathlib.Core.Bool.{cond}
 use mathlib.Core.List.{List}
 use lib.Dec.{ltb}
 use lib.ListN.{length}
+use Rattle.semantics.specs.StepNumber.{mostSteps}
 use Rattle.handler.specs.declared.head.Head.{Head}
 use Rattle.handler.specs.Header.{headOf}
+use Rattle.handler.specs.Terms.{mostTerms}
 use Rattle.handler.specs.StatementTable.{statementTable}
 use Rattle.derivation.specs.NodeTable.{nodeTable}
 use Rattle.derivation.specs.Tables.{workWords, written}
@@ -30,7 +32,7 @@ pub record Loaded (exprs : List ℕ) (head : Head) (statements nodes : List ℕ)
   pub held : Pair
   pub read : readPair handler proof ≡ pair held
   pub blank : List ℕ
-  pub room : 1953 ≤ length blank
+  pub room : mostTerms ≤ length blank
   pub exprs-are : exprs ≡ termsRead handler proof blank
   pub head-is : head ≡ headOf (held .sizes)
   pub statements-are : statements ≡ statementTable (held .statement-bit) (held .statement)
@@ -43,4 +45,4 @@ pub record Loaded (exprs : List ℕ) (head : Head) (statements nodes : List ℕ)
 -- The verdict from what the loop found and the step number; 80 last, at node 0.
 abbrev pub decided : FirstFault → ℕ → Verdict
 decided (first.Broken k node states) steps = refusedNaming k (Node node) states
-decided first.Nothing steps = cond (ltb (2 ^ 32 - 1) steps) (refusedAt 80 (Node 0)) (Accepted steps)
+decided first.Nothing steps = cond (ltb mostSteps steps) (refusedAt 80 (Node 0)) (Accepted steps)

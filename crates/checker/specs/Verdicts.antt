@@ -1,6 +1,6 @@
 -- docs/FORMAT.md, "Order of faults": 1, 2, the handler file front to back, 16, the proof file front to back, nodes by number,
 -- a node's conditions in their order, 80 last.
-use Prim.Native.Nat.{ℕ, _-_, _^_}
+use Prim.Native.Nat.{ℕ}
 use mathlib.Core.Path.{_≡_}
 use mathlib.Core.Bool.{Bool, true, false, cond}
 use mathlib.Core.List.{List}
@@ -8,6 +8,7 @@ use mathlib.Core.Option.{Option, none, some}
 use lib.ListN.{length}
 use lib.Dec.{ltb}
 use Rattle.semantics.specs.States.{machineOf}
+use Rattle.semantics.specs.StepNumber.{mostSteps}
 use Rattle.semantics.specs.Checking.{Broken, firstFault}
 use Rattle.semantics.specs.Promise.{Promise}
 use Rattle.derivation.specs.Tables.{workWords, written}
@@ -48,7 +49,7 @@ loaded v words = record { verdict = v; writes = true; words = words }
 
 -- 80: the step number is over the limit, at node 0.
 abbrev pub onSteps : ℕ → (ℕ → ℕ) → CheckResult
-onSteps k words = cond (ltb (2 ^ 32 - 1) k) (cleared (refusedAt 80 (Node 0))) (loaded (Accepted k) words)
+onSteps k words = cond (ltb mostSteps k) (cleared (refusedAt 80 (Node 0))) (loaded (Accepted k) words)
 
 abbrev pub onFault : Option Broken → ℕ → (ℕ → ℕ) → CheckResult
 onFault none k words = onSteps k words

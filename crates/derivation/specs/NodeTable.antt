@@ -4,6 +4,7 @@ use mathlib.Core.List.{List, [], _∷_, _++_}
 use lib.ListN.{length, getD, replicate}
 use Rattle.semantics.specs.Derivations.{Derivation, skip, assignment, sequence, parallel, conditional, iteration, weaken, namesOf, nodes}
 use Rattle.derivation.specs.declared.Node.{Node}
+use Rattle.derivation.specs.Nodes.{mostNodes}
 
 -- A node in a word, lowest first: 3 bits rule, 4 bits each for P, R, G, Q, K and W, 7 bits the number of the node after its
 -- first child; the rest is the bit of the file at which it begins.
@@ -93,4 +94,4 @@ padded k ws = ws ++ replicate (k - length ws) 0
 
 -- The table of a whole derivation, whose root begins at a bit: 127 words, one for each node that there can be.
 unfoldable pub nodeTable : ℕ → Derivation → List ℕ
-nodeTable bit d = padded 127 (nodeWords 0 bit d)
+nodeTable bit d = padded mostNodes (nodeWords 0 bit d)

@@ -17,6 +17,13 @@ use Rattle.derivation.specs.declared.TwoNames.the-variants as Two
 use Rattle.derivation.specs.declared.NodeEnd.{NodeEnd}
 use Rattle.derivation.specs.declared.NodeEnd.the-variants as End
 
+-- The most nodes of a derivation, and the most levels of them.
+abbrev pub mostNodes : ℕ
+mostNodes = 127
+
+abbrev pub mostNodeLevels : ℕ
+mostNodeLevels = 24
+
 -- 23: no such set or relation, at its field.
 unfoldable pub onName : List ℕ → ℕ → ℕ → Field → (ℕ → HeadFound) → HeadFound
 onName bytes limit at Missing f = Fault 20 (bitLength bytes)
@@ -50,7 +57,7 @@ module _ (bytes : List ℕ) (sets relations : ℕ) where
 
   -- The head of a node with so many nodes before it, where so many levels are left below it.
   unfoldable pub nodeHead : ℕ → ℕ → ℕ → HeadFound
-  nodeHead below before at = ruleHead (eqb below 0 || leb 127 before) at (fieldAt bytes at 3)
+  nodeHead below before at = ruleHead (eqb below 0 || leb mostNodes before) at (fieldAt bytes at 3)
 
 -- A derivation with the number of nodes so far and the bit after it, or the first fault.
 pub data NodeRead : Type 0 where
@@ -89,7 +96,7 @@ nodeAt (suc below) bytes sets relations before at =
     onNodeHead (nodeHead bytes sets relations below before at) before (nodeAt below bytes sets relations)
 
 unfoldable pub wholeNode : List ℕ → ℕ → ℕ → ℕ → NodeRead
-wholeNode bytes sets relations at = nodeAt 25 bytes sets relations 0 at
+wholeNode bytes sets relations at = nodeAt (suc mostNodeLevels) bytes sets relations 0 at
 
 -- What the code answers of a derivation.
 unfoldable pub endOf : NodeRead → NodeEnd

@@ -12,7 +12,7 @@ use Rattle.derivation.specs.declared.ProofFound.{ProofFound}
 use Rattle.derivation.specs.declared.ProofFound.the-variants as Found
 use Rattle.derivation.specs.declared.ProofFile.{ProofFile}
 use Rattle.derivation.specs.Tables.{tablesAt, tableWord}
-use Rattle.derivation.specs.Nodes.{NodeRead, whole, fault, wholeNode}
+use Rattle.derivation.specs.Nodes.{mostNodes, NodeRead, whole, fault, wholeNode}
 use Rattle.derivation.specs.NodeTable.{nodeTable}
 
 -- A proof file: how many sets and relations, the root's first bit and the derivation; or its first fault.
@@ -45,7 +45,7 @@ proofFound (refused k place) = Found.Fault k place
 -- The table of its nodes, or 0 after a fault.
 abbrev pub tableOf : ProofRead → List ℕ
 tableOf (proof sets relations at d) = nodeTable at d
-tableOf (refused k place) = replicate 127 0
+tableOf (refused k place) = replicate mostNodes 0
 
 abbrev pub proofFile : ProofRead → ProofFile
 proofFile r = record { found = proofFound r; nodes = tableOf r }

@@ -10,6 +10,7 @@ use Rattle.states.specs.Sets.{has}
 use Rattle.semantics.specs.Language.{Val, int, truth, Expr}
 use Rattle.semantics.specs.States.{Machine, value, remainder}
 use Rattle.handler.specs.declared.head.Head.{Head}
+use Rattle.handler.specs.Expressions.{mostExprNodes}
 use Rattle.handler.specs.Header.{machineIn}
 use Rattle.handler.specs.Terms.{exprIn}
 use Rattle.evaluation.specs.declared.Values.{Values}
@@ -35,7 +36,7 @@ andCode = 5
 
 -- The levels to which an expression is walked.
 abbrev pub exprLevels : ℕ
-exprLevels = 32
+exprLevels = suc mostExprNodes
 
 -- b, doubled k times.
 abbrev pub doubled : ℕ → ℕ → ℕ

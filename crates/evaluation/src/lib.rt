@@ -2,6 +2,7 @@
 // states: each node gives a row, with a value for each state.
 mod pointwise;
 
+use handler::expressions::MOST_EXPR_NODES;
 use handler::head::Head;
 use handler::head::is_head;
 use handler::head::size_of;
@@ -43,7 +44,7 @@ const TRUTHS: u32 = 1;
 const NOTHING: u32 = 2;
 
 // The levels to which an expression is walked, one more than the 31 nodes of an expression of a file.
-const EXPR_LEVELS: u32 = 32;
+const EXPR_LEVELS: u32 = MOST_EXPR_NODES + 1;
 
 // More than the magnitude of any value: a constant has 16 bits, and each level above it adds at most one bit.
 const VALUE_BOUND: u64 = 281474976710656;

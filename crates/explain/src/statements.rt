@@ -10,6 +10,7 @@ use handler::MOST_STATEMENTS;
 use handler::NIL;
 use handler::PARALLEL;
 use handler::SEQUENCE;
+use handler::expressions::MOST_EXPR_NODES;
 use handler::table::Statement;
 use handler::table::statement_at;
 use handler::terms::INTEGER;
@@ -17,8 +18,8 @@ use handler::terms::TRUTH;
 use handler::terms::VARIABLE;
 use handler::terms::term_at;
 
-// An expression has at most 31 nodes, and so no more levels.
-const LEVELS: u32 = 31;
+// An expression has no more levels than nodes.
+const LEVELS: u32 = MOST_EXPR_NODES;
 
 fn put_operation(out: &mut [u8], at: usize, o: u32) -> usize {
     match o {

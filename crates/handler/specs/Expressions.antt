@@ -12,6 +12,10 @@ use Rattle.semantics.specs.Language.{Expr, lit, var, op, int, truth}
 use Rattle.handler.specs.declared.expressions.ExprHead.{ExprHead}
 use Rattle.handler.specs.declared.expressions.ExprHead.the-variants.{Integer, Truth, Variable, Operation, Fault}
 
+-- The most nodes of an expression.
+abbrev pub mostExprNodes : ℕ
+mostExprNodes = 31
+
 -- The value of 8 bits in two's complement.
 unfoldable pub signed : ℕ → ℤ
 signed n = cond (ltb n 128) (pos n) (negsuc (255 - n))
@@ -42,7 +46,7 @@ payloadHead bytes count at tag =
 -- A node's tag: 10 if it is missing, then 17 at the 32nd node, then what follows the tag.
 unfoldable pub tagHead : List ℕ → ℕ → ℕ → ℕ → Field → ExprHead
 tagHead bytes count nodes at Missing = Fault 10 (bitLength bytes)
-tagHead bytes count nodes at (Value tag next) = cond (leb 31 nodes) (Fault 17 at) (payloadHead bytes count next tag)
+tagHead bytes count nodes at (Value tag next) = cond (leb mostExprNodes nodes) (Fault 17 at) (payloadHead bytes count next tag)
 
 -- The head of the node at a cursor, with `nodes` nodes of the expression before it.
 unfoldable pub exprHead : List ℕ → ℕ → ℕ → ℕ → ExprHead
@@ -75,4 +79,4 @@ exprAt (suc levels) bytes count nodes at = onExprHead (exprHead bytes count node
 
 -- The whole expression at a cursor.
 unfoldable pub wholeExpr : List ℕ → ℕ → ℕ → ExprRead
-wholeExpr bytes count at = exprAt 32 bytes count 0 at
+wholeExpr bytes count at = exprAt (suc mostExprNodes) bytes count 0 at

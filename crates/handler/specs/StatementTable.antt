@@ -8,7 +8,7 @@ use Rattle.semantics.specs.Language.{Stmt, nil, assign, seq, par, if, while}
 use Rattle.semantics.specs.Conditions.{statementCode, targetOf}
 use Rattle.handler.specs.declared.table.Statement.{Statement}
 use Rattle.handler.specs.Kinds.{width, stmtWidth}
-use Rattle.handler.specs.Statements.{StmtRead, whole, fault}
+use Rattle.handler.specs.Statements.{mostStatements, StmtRead, whole, fault}
 use Rattle.handler.specs.Terms.{exprNodes, stmtTerms}
 
 -- The number of statements in a statement, itself included.
@@ -89,4 +89,4 @@ StatementsStored entry exit before bit i (fault k place) = Unit {0}
 
 -- The table of a handler whose statement is at a bit: 63 words, 0 past the last statement.
 unfoldable pub statementTable : ℕ → Stmt → List ℕ
-statementTable bit S = statementWords 0 bit 0 S ++ replicate (63 - statements S) 0
+statementTable bit S = statementWords 0 bit 0 S ++ replicate (mostStatements - statements S) 0

@@ -11,6 +11,13 @@ use Rattle.handler.specs.declared.StmtHead.{StmtHead}
 use Rattle.handler.specs.declared.StmtHead.the-variants.{Nil, Assign, Pair, Test, Fault}
 use Rattle.handler.specs.Expressions.{ExprRead, good, bad, wholeExpr}
 
+-- The most statements of a handler, and the most levels of them.
+abbrev pub mostStatements : ℕ
+mostStatements = 63
+
+abbrev pub mostStatementLevels : ℕ
+mostStatementLevels = 16
+
 -- An assignment's variable: 15, at its field, if there is no such variable.
 unfoldable pub targetHead : List ℕ → ℕ → ℕ → Field → StmtHead
 targetHead bytes count at Missing = Fault 10 (bitLength bytes)
@@ -30,7 +37,7 @@ markHead bytes count tooMany at (Value code next) = cond tooMany (Fault 17 at) (
 
 -- The head of the statement at a cursor, with `before` statements before it and `below` levels left below it.
 unfoldable pub stmtHead : List ℕ → ℕ → ℕ → ℕ → ℕ → StmtHead
-stmtHead bytes count below before at = markHead bytes count (eqb below 0 || leb 63 before) at (fieldAt bytes at 3)
+stmtHead bytes count below before at = markHead bytes count (eqb below 0 || leb mostStatements before) at (fieldAt bytes at 3)
 
 -- A statement, the number of statements so far and the cursor after it; or the first fault.
 pub data StmtRead : Type 0 where
@@ -78,4 +85,4 @@ stmtAt (suc levels) bytes count before at =
     onStmtHead (stmtHead bytes count levels before at) (wholeExpr bytes count) before (stmtAt levels bytes count)
 
 unfoldable pub wholeStmt : List ℕ → ℕ → ℕ → StmtRead
-wholeStmt bytes count at = stmtAt 17 bytes count 0 at
+wholeStmt bytes count at = stmtAt (suc mostStatementLevels) bytes count 0 at

@@ -9,8 +9,12 @@ use lib.ListN.{getD}
 use lib.Seq.{sets}
 use Rattle.semantics.specs.Language.{Val, int, truth, Expr, lit, var, op, Stmt, nil, assign, seq, par, if, while}
 use Rattle.handler.specs.declared.terms.Term.{Term}
-use Rattle.handler.specs.Expressions.{ExprRead, good, bad}
-use Rattle.handler.specs.Statements.{StmtRead, whole, fault}
+use Rattle.handler.specs.Expressions.{mostExprNodes, ExprRead, good, bad}
+use Rattle.handler.specs.Statements.{mostStatements, StmtRead, whole, fault}
+
+-- The most expression nodes of a handler.
+abbrev pub mostTerms : ℕ
+mostTerms = mostStatements * mostExprNodes
 
 -- An integer as 16 bits in two's complement, and back.
 unfoldable pub bits16 : ℤ → ℕ
@@ -88,7 +92,7 @@ exprFrom (suc levels) table i = onTerm (termIn table i) (exprFrom levels table (
 
 -- An expression of a file has at most 31 nodes, so it has fewer levels than are read.
 unfoldable pub exprIn : List ℕ → ℕ → Expr
-exprIn table i = exprFrom 32 table i
+exprIn table i = exprFrom (suc mostExprNodes) table i
 
 -- What reading does to a table: the words of an expression, or of the expressions of a statement, are stored one after the other.
 -- Nothing is said if reading finds a fault.

@@ -21,7 +21,7 @@ ghost use Rattle.handler.specs.Terms.{bits16, TermsStored};
 ghost use Rattle.handler.specs.Refinement.{TermFits, HeadFits, leafTerm};
 
 // An expression has at most 31 nodes. One level more than that is read.
-const MOST_EXPR_NODES: u32 = 31;
+pub const MOST_EXPR_NODES: u32 = 31;
 
 const EXPR_LEVELS: u32 = MOST_EXPR_NODES + 1;
 

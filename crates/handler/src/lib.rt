@@ -23,8 +23,10 @@ pub const IF: u32 = 4;
 
 pub const WHILE: u32 = 5;
 
-// A handler has at most 63 statements.
+// A handler has at most 63 statements on at most 16 levels.
 pub const MOST_STATEMENTS: usize = 63;
+
+pub const MOST_STATEMENT_LEVELS: u32 = 16;
 
 // What a statement's first bits hold, with the cursor after them: nil; an assignment, by its variable; a sequence or parallel, by its
 // code; an if or while, by its code; or a fault.

@@ -2,6 +2,7 @@
 use crate::ASSIGNMENT;
 use crate::IF;
 use crate::MOST_STATEMENTS;
+use crate::MOST_STATEMENT_LEVELS;
 use crate::NIL;
 use crate::PARALLEL;
 use crate::StmtHead;
@@ -33,7 +34,7 @@ ghost use Rattle.handler.specs.Terms.{ExprsStored};
 // A handler has at most 63 statements on at most 16 levels. One level more than that is read.
 const MOST_COUNT: u32 = MOST_STATEMENTS as u32;
 
-pub(crate) const STMT_LEVELS: u32 = 17;
+pub(crate) const STMT_LEVELS: u32 = MOST_STATEMENT_LEVELS + 1;
 
 // The widths in bits of a statement's code and of an assignment's variable.
 const CODE_BITS: usize = 3;

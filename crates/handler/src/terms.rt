@@ -1,11 +1,13 @@
 // The expressions of a handler as a table of their nodes in file order, one word for each.
+use crate::MOST_STATEMENTS;
+use crate::expressions::MOST_EXPR_NODES;
 ghost use mathlib.Core.Path.{_≡_};
 ghost use lib.ListN.{set};
 ghost use Rattle.handler.specs.Terms.{termWord, termIn};
 ghost use Rattle.handler.specs.Refinement.{TermFits};
 
 // A handler has at most 63 expressions of at most 31 nodes.
-pub const MOST_TERMS: usize = 1953;
+pub const MOST_TERMS: usize = MOST_STATEMENTS * MOST_EXPR_NODES as usize;
 
 // The tags, as in the file.
 pub const INTEGER: u32 = 0;

@@ -13,17 +13,19 @@ use Rattle.states.proofs.Search.{and-left, and-right, holds-none}
 use Rattle.states.proofs.Where.{where-below}
 use Rattle.semantics.specs.Language.{Stmt, par}
 use Rattle.semantics.specs.States.{Machine, product, machineOf}
-use Rattle.semantics.specs.StepNumber.{steps}
+use Rattle.semantics.specs.StepNumber.{mostSteps, steps}
 use Rattle.semantics.specs.Derivations.{Derivation, Tables, Spec, namesOf, nodes, levels}
 use Rattle.semantics.specs.Checking.{firstFault}
 use Rattle.semantics.specs.Promise.{Promise}
 use Rattle.semantics.proofs.Conditions.{TablesWithin, tables-within}
 use Rattle.semantics.proofs.Soundness.{soundness}
+use Rattle.handler.specs.Statements.{mostStatements, mostStatementLevels}
 use Rattle.handler.specs.StatementTable.{statements, stmtLevels}
+use Rattle.derivation.specs.Nodes.{mostNodes, mostNodeLevels}
 use Rattle.handler.specs.Reading.{handler, readHandler}
 use Rattle.handler.proofs.Fitting.{stmt-fits}
 use Rattle.handler.proofs.Handlers.{known-handler}
-use Rattle.derivation.specs.Tables.{workWords}
+use Rattle.derivation.specs.Tables.{mostTables, workWords}
 use Rattle.pair.specs.Limits.{mostHandlerBytes, mostProofBytes}
 use Rattle.pair.specs.Modes.{rows}
 use Rattle.pair.proofs.Cases.{holds-read}
@@ -48,15 +50,15 @@ use Rattle.joint.proofs.Outcomes.{handlerOut, proofOut, BothAccepted, C
 
 -- 94: the result is within each limit.
 pub record Limits (h h′ : List ℕ) (a b : Side) (k : ℕ) : Type 0 where
-  pub statements-most : statements (statement h h′ a b) ≤ 63
-  pub statement-levels : stmtLevels (statement h h′ a b) ≤ 16
-  pub nodes-most : nodes (derivation h h′ a b) ≤ 127
-  pub levels-most : levels (derivation h h′ a b) ≤ 24
-  pub sets-most : length (setsIn (derivation h h′ a b)) ≤ 16
-  pub relations-most : length (relationsIn (derivation h h′ a b)) ≤ 16
+  pub statements-most : statements (statement h h′ a b) ≤ mostStatements
+  pub statement-levels : stmtLevels (statement h h′ a b) ≤ mostStatementLevels
+  pub nodes-most : nodes (derivation h h′ a b) ≤ mostNodes
+  pub levels-most : levels (derivation h h′ a b) ≤ mostNodeLevels
+  pub sets-most : length (setsIn (derivation h h′ a b)) ≤ mostTables
+  pub relations-most : length (relationsIn (derivation h h′ a b)) ≤ mostTables
   pub handler-length : length (handlerFile h h′ a b) ≤ mostHandlerBytes
   pub proof-length : length (proofFile h h′ a b) ≤ mostProofBytes
-  pub steps-most : k ≤ 2 ^ 32 - 1
+  pub steps-most : k ≤ mostSteps
 
 pub limits : (h h′ : List ℕ) (a b : Side) (k : ℕ) → inLimits h h′ a b k ≡ true → Limits h h′ a b k
 unfolding inLimits

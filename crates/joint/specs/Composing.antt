@@ -1,6 +1,6 @@
 -- docs/COMPOSITION.md, "What is turned away": 1, 2 of the first pair, 2 of the second, the first pair's own number, the second's, then 90
 -- to 95; and what is left in the buffers.
-use Prim.Native.Nat.{ℕ, _+_, _-_, _^_}
+use Prim.Native.Nat.{ℕ, _+_}
 use mathlib.Core.Bool.{Bool, false, cond, _&&_, _||_}
 use mathlib.Core.List.{List, [], _++_}
 use lib.Dec.{leb, ltb, eqb}
@@ -9,11 +9,14 @@ use Rattle.writer.specs.Packing.{packed}
 use Rattle.states.specs.Search.{all, must, holds}
 use Rattle.semantics.specs.Language.{Stmt, nil, par}
 use Rattle.semantics.specs.States.{product}
+use Rattle.semantics.specs.StepNumber.{mostSteps}
 use Rattle.semantics.specs.Derivations.{Derivation, skip, nodes, levels, Spec}
 use Rattle.semantics.specs.Conditions.{inSet, relationLiesIn}
 use Rattle.handler.specs.Kinds.{stmtWidth}
+use Rattle.handler.specs.Statements.{mostStatements, mostStatementLevels}
 use Rattle.handler.specs.StatementTable.{statements, stmtLevels}
-use Rattle.derivation.specs.Tables.{workWords, written}
+use Rattle.derivation.specs.Nodes.{mostNodes, mostNodeLevels}
+use Rattle.derivation.specs.Tables.{mostTables, workWords, written}
 use Rattle.pair.specs.Limits.{mostHandlerBytes, mostProofBytes, tooLong}
 use Rattle.pair.specs.Reading.{statesOf, PairRead, pair, faulty, long, readPair}
 use Rattle.pair.specs.Modes as Modes
@@ -118,11 +121,11 @@ module _ (h h′ : List ℕ) (a b : Side) where
   -- 94: the result, with this step number, is within every limit.
   unfoldable pub inLimits : ℕ → Bool
   inLimits steps =
-      leb (statements statement) 63 && leb (stmtLevels statement) 16
-      && leb (nodes derivation) 127 && leb (levels derivation) 24
-      && leb (length (setsIn derivation)) 16 && leb (length (relationsIn derivation)) 16
+      leb (statements statement) mostStatements && leb (stmtLevels statement) mostStatementLevels
+      && leb (nodes derivation) mostNodes && leb (levels derivation) mostNodeLevels
+      && leb (length (setsIn derivation)) mostTables && leb (length (relationsIn derivation)) mostTables
       && leb (length handlerFile) mostHandlerBytes && leb (length proofFile) mostProofBytes
-      && leb steps (2 ^ 32 - 1)
+      && leb steps mostSteps
 
   abbrev pub limited : ℕ → Composition
   limited steps = asked 94 (inLimits steps) (made steps handlerFile proofFile)

@@ -10,6 +10,7 @@ use lib.ListN.{length}
 use Rattle.semantics.specs.Language.{Stmt}
 use Rattle.semantics.specs.States.{product}
 use Rattle.handler.specs.Reading.{HandlerRead, handler, refused, readHandler}
+use Rattle.handler.specs.Terms.{mostTerms}
 use Rattle.handler.proofs.Handlers.{handler-exprs}
 use Rattle.handler.proofs.TermTable.{ExprsIn}
 use Rattle.derivation.specs.Reading as Proofs
@@ -81,8 +82,8 @@ module _ (hb pb : List ℕ) where
   unfolding readPair
   holds-read x h = rw (not-long (h .short), h .handler-read, h .proof-read)
 
-  -- A buffer of 1,953 words holds the expressions of the handler.
-  pub exprs-read : (x : Pair) → Holds x → (entry : List ℕ) → 1953 ≤ length entry → ExprsIn (termsRead hb pb entry) 0 (x .statement)
+  -- A buffer with room for the most expression nodes holds those of the handler.
+  pub exprs-read : (x : Pair) → Holds x → (entry : List ℕ) → mostTerms ≤ length entry → ExprsIn (termsRead hb pb entry) 0 (x .statement)
   unfolding termsRead
   exprs-read x h entry room =
       rw (not-long (h .short)) (handler-exprs hb (x .sizes) (x .statement-bit) (x .statement) entry (h .handler-read) room)

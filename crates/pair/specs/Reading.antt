@@ -11,9 +11,11 @@ use Rattle.handler.specs.declared.HandlerSummary.{HandlerSummary}
 use Rattle.handler.specs.Header.{headOf, noHead}
 use Rattle.handler.specs.Kinds.{stmtWidth}
 use Rattle.handler.specs.Reading.{HandlerRead, handler, refused, readHandler}
+use Rattle.handler.specs.Statements.{mostStatements}
 use Rattle.handler.specs.Shapes.{termsAfter}
 use Rattle.handler.specs.StatementTable.{statements, stmtLevels, statementTable}
 use Rattle.derivation.specs.declared.ProofHead.{ProofHead}
+use Rattle.derivation.specs.Nodes.{mostNodes}
 use Rattle.derivation.specs.NodeTable.{nodeTable}
 use Rattle.derivation.specs.Reading as Proofs
 use Rattle.pair.specs.declared.PairFound.{PairFound}
@@ -86,7 +88,7 @@ proofHead x = record {
 
 -- Of files that are not read nothing is kept.
 abbrev pub nothingFound : PairFound → PairFile
-nothingFound why = record { found = why; head = noHead; statements = replicate 63 0; nodes = replicate 127 0 }
+nothingFound why = record { found = why; head = noHead; statements = replicate mostStatements 0; nodes = replicate mostNodes 0 }
 
 unfoldable pub pairFile : PairRead → PairFile
 pairFile long = nothingFound found.TooLong

@@ -1,5 +1,5 @@
 -- docs/RULES.md, "Step number".
-use Prim.Native.Nat.{ℕ, _+_, _-_, _*_}
+use Prim.Native.Nat.{ℕ, _+_, _-_, _*_, _^_}
 use Rattle.semantics.specs.Language.{Expr, lit, var, op, Stmt, nil, assign, seq, par, if, while}
 
 -- E of an expression is its variable occurrences plus its operations.
@@ -7,6 +7,10 @@ abbrev pub E : Expr → ℕ
 E (lit c) = 0
 E (var v) = 1
 E (op o l r) = E l + E r + 1
+
+-- The limit of the step number.
+abbrev pub mostSteps : ℕ
+mostSteps = 2 ^ 32 - 1
 
 -- The step number of a statement over N states.
 abbrev pub steps : ℕ → Stmt → ℕ
