@@ -11,10 +11,12 @@ use Rattle.rules.proofs.Stores.{store-in-post-42, store-in-guarantee-43
 use Rattle.rules.proofs.assignment.assignment_fault.Statement.{statement}
 use Rattle.rules.proofs.assignment.assignment_fault.Tie as tie
 
+-- The points of the code have names, the last first, each by its distance from the one after it.
 returns : tie.Need-returns
 unfolding c41
 returns c =
-    let reading = c .before .before .before .before .before .before in
+    let at-42 = c .before .before .before in
+    let reading = at-42 .before .before .before in
     let stores = reading .before in
     let a = stores .before .before .before .before .args in
     let n = stores .before .states-in .ensures in
@@ -23,7 +25,7 @@ returns c =
     let rows = stores .successors .ensures in
     asked-then 43 _
     (asked-then 42 _ (reading .common-reading .ensures)
-    (c .before .before .before .ask .ensures) (rw n at (c .before .before .before .before .store-in-post .ensures) ∙ ap holds (store-in-post-42 (a .head) (a .v) e _ rows own)))
+    (at-42 .ask .ensures) (rw n at (at-42 .before .store-in-post .ensures) ∙ ap holds (store-in-post-42 (a .head) (a .v) e _ rows own)))
     (c .ask2 .ensures) (rw n at (c .before .store-in-guarantee .ensures) ∙ ap holds (store-in-guarantee-43 (a .head) (a .v) e _ rows own))
 
 pub assignment-fault-spec : {M : Type 1} → statement M

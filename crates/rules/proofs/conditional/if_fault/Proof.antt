@@ -8,6 +8,7 @@ use Rattle.rules.proofs.Asking.{asked-then}
 use Rattle.rules.proofs.conditional.if_fault.Statement.{statement}
 use Rattle.rules.proofs.conditional.if_fault.Tie as tie
 
+-- The points of the code have names, the last first, each by its distance from the one after it.
 returns : tie.Need-returns
 unfolding c45
 returns c =

@@ -8,14 +8,21 @@ use Rattle.rules.proofs.Movement.{read-once-50}
 use Rattle.rules.proofs.iteration.while_fault.Statement.{statement}
 use Rattle.rules.proofs.iteration.while_fault.Tie as tie
 
+-- The points of the code have names, the last first, each by its distance from the one after it.
 returns : tie.Need-returns
 returns c =
-    let order = c .before .before .before .before .before .before .before .before .before .before .before .before .order-of .ensures in
-    let from-50 = c .before .before .before .before .before .before .before .before .before .before .before .before .before in
-    let test = from-50 .before .before .before .before .before .before .before in
+    let at-55 = c .before .before in
+    let at-54 = at-55 .before .before in
+    let at-53 = at-54 .before .before in
+    let at-52 = at-53 .before .before in
+    let at-57 = at-52 .before .before in
+    let at-51 = at-57 .before in
+    let at-50 = at-51 .before .before in
+    let test = at-50 .before .before .before .before .before .before .before in
     let a = test .before .before .before .before .args in
-    let e = exprIn (a .exprs .now) (a .expr) in
-    let once = from-50 .before .read-once .ensures ∙ read-once-50 _ _ _ (from-50 .before .before .moved .ensures) e in
+    let order = at-51 .before .order-of .ensures in
+    let once = at-50 .before .read-once .ensures ∙ read-once-50 _ _ _ (at-50 .before .before .moved .ensures) (exprIn (a .exprs .now) (a .expr)) in
+    let tables = at-50 .before .before .before in
     rw (test .before .states-in .ensures, fun-ext (test .truths-at .ensures .0), fun-ext (test .truths-at .ensures .1)) at
     (asked-then 56 _
     (asked-then 55 _
@@ -25,14 +32,14 @@ returns c =
     (asked-then 57 _
     (asked-then 51 _
     (asked-then 50 _
-    (rw (from-50 .before .before .before .before .common .ensures) at (from-50 .before .before .before .while-tables .ensures))
-    (from-50 .ask .ensures) once)
-    (c .before .before .before .before .before .before .before .before .before .before .before .ask2 .ensures) (order .0))
-    (c .before .before .before .before .before .before .before .before .before .before .ask3 .ensures) (order .1))
-    (c .before .before .before .before .before .before .before .before .ask4 .ensures) (c .before .before .before .before .before .before .before .before .before .enters-k .ensures))
-    (c .before .before .before .before .before .before .ask5 .ensures) (c .before .before .before .before .before .before .before .keeps-k .ensures))
-    (c .before .before .before .before .ask6 .ensures) (c .before .before .before .before .before .stays-false .ensures))
-    (c .before .before .ask7 .ensures) (c .before .before .before .rely-descends .ensures))
+    (rw (tables .before .common .ensures) at (tables .while-tables .ensures))
+    (at-50 .ask .ensures) once)
+    (at-51 .ask2 .ensures) (order .0))
+    (at-57 .ask3 .ensures) (order .1))
+    (at-52 .ask4 .ensures) (at-52 .before .enters-k .ensures))
+    (at-53 .ask5 .ensures) (at-53 .before .keeps-k .ensures))
+    (at-54 .ask6 .ensures) (at-54 .before .stays-false .ensures))
+    (at-55 .ask7 .ensures) (at-55 .before .rely-descends .ensures))
     (c .ask8 .ensures) (c .before .exit-satisfies-post .ensures))
 
 pub while-fault-spec : {M : Type 1} → statement M
