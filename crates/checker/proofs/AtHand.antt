@@ -17,13 +17,12 @@ use Rattle.semantics.specs.Derivations.{Derivation, skip, assignment, sequence,
 use Rattle.semantics.specs.Conditions.{statementCode}
 use Rattle.semantics.specs.Checking.{Breach, Broken, firstBroken, skipObligations, assignmentObligations, sequenceObligations, parallelObligations, ifObligations, whileObligations, weakenObligations, obligations}
 use Rattle.handler.specs.Header.{headOf, machineIn}
-use Rattle.evaluation.specs.Values.{exprIn}
-use Rattle.evaluation.proofs.Laws.{expr-whole}
 use Rattle.handler.specs.Kinds.{width, stmtWidth}
 use Rattle.handler.specs.StatementTable.{statements, statementIn, statementRecord}
 use Rattle.handler.proofs.StmtFolds.{TargetsBelow}
-use Rattle.handler.proofs.Parts.{Stands, StandsExpr, parts}
-use Rattle.handler.proofs.StatementTable.{StatementIn, parts-held, statement-held}
+use Rattle.handler.specs.Terms.{exprNodes, stmtTerms}
+use Rattle.handler.proofs.TermTable.{ExprsIn, parts-exprs}
+use Rattle.handler.proofs.StatementTable.{StatementIn, BothHeld, parts-held, statement-held}
 use Rattle.handler.proofs.Handlers.{target-small}
 use Rattle.derivation.specs.declared.Node.{Node}
 use Rattle.derivation.specs.NodeTable.{nodeIn, nodeBits, firstNodes, nodeRecord, nodeWords}
@@ -41,10 +40,10 @@ later table rest word i e =
 second : (table front back : List ℕ) (i k : ℕ) → length front ≡ k → drop i table ≡ front ++ back → drop (i + k) table ≡ back
 second table front back i k long e = sym (drop-drop k i table) ∙ ap (drop k) e ∙ drop-at front back k long
 
--- The tables of a derivation and of a statement as the code has them: the handler file's bytes and sizes, the work words, and the two
+-- The tables of a derivation and of a statement as the code has them: the nodes of the expressions, the sizes, the work words, and the two
 -- tables of words. The work words hold the sets and relations, and the head gives the machine.
 pub record Decoded : Type 0 where
-  pub bytes : List ℕ
+  pub exprs : List ℕ
   pub sizes : List ℕ
   pub work : List ℕ
   pub nodeTable : List ℕ
@@ -60,18 +59,19 @@ pub record Decoded : Type 0 where
   pub relation-is : (r : ℕ) → r < relations → wordRelation (tables .machine .states) work r ≡ relationOf tables r
 
 module _ (env : Decoded) where
-  -- A derivation whose words are in the table from node i on, and a statement whose words are in the table from statement s on.
+  -- A derivation whose words are in the table from node i on, and a statement whose words are in the table from statement s on and whose
+  -- expressions are in theirs from node x on.
   pub record NodeAt (i bit : ℕ) (d : Derivation) : Type 0 where
     pub known : Known (env .sets) (env .relations) d
     pub room : i + nodes d ≤ 127
     pub rest : List ℕ
     pub words : drop i (env .nodeTable) ≡ nodeWords i bit d ++ rest
 
-  pub record StatementAt (s place : ℕ) (S : Stmt) : Type 0 where
-    pub stands : Stands (env .bytes) (length (env .sizes)) place S
+  pub record StatementAt (s place x : ℕ) (S : Stmt) : Type 0 where
+    pub exprs : ExprsIn (env .exprs) x S
     pub targets : TargetsBelow (length (env .sizes)) S
     pub room : s + statements S ≤ 63
-    pub held : StatementIn (env .statementTable) s place S
+    pub held : StatementIn (env .statementTable) s place x S
 
   abbrev m : Machine
   m = machineIn (headOf (env .sizes))
@@ -94,22 +94,18 @@ module _ (env : Decoded) where
       }
 
   abbrev pub own : ℕ → ℕ → Option Breach
-  own i s = firstBroken (obligationsAt (env .bytes) (headOf (env .sizes)) (env .work) (env .nodeTable) (env .statementTable) i s)
+  own i s = firstBroken (obligationsAt (env .exprs) (headOf (env .sizes)) (env .work) (env .nodeTable) (env .statementTable) i s)
 
   abbrev pub faults : ℕ → ℕ → ℕ → Option Broken
-  faults = faultsFrom (env .bytes) (headOf (env .sizes)) (env .work) (env .nodeTable) (env .statementTable)
+  faults = faultsFrom (env .exprs) (headOf (env .sizes)) (env .work) (env .nodeTable) (env .statementTable)
 
   pub node-is : (i bit : ℕ) (d : Derivation) → NodeAt i bit d → nodeIn (env .nodeTable) i ≡ nodeRecord i bit d
   node-is i bit d a = node-held (env .sets) (env .relations) (env .few-sets) (env .few-relations) (env .nodeTable) (a .rest) i bit d (a .known) (a .room) (a .words)
 
-  pub statement-is : (s place : ℕ) (S : Stmt) → StatementAt s place S → statementIn (env .statementTable) s ≡ statementRecord s place S
-  statement-is s place S b =
-      statement-held (env .statementTable) s place S (b .held) (target-small (length (env .sizes)) S (env .few-sizes) (b .targets)) (b .room)
-
-  -- The expression of a statement.
-  expr-is : (place : ℕ) (e : Expr) → StandsExpr (env .bytes) (length (env .sizes)) place e → exprIn (env .bytes) (headOf (env .sizes) .count) place ≡ e
-  unfolding headOf
-  expr-is place e x = expr-whole (env .bytes) (length (env .sizes)) place e (x .nodes) (x .next) (x .read)
+  pub statement-is : (s place x : ℕ) (S : Stmt) → StatementAt s place x S → statementIn (env .statementTable) s ≡ statementRecord s place x S
+  statement-is s place x S b =
+      statement-held (env .statementTable) s place x S (b .held) (target-small (length (env .sizes)) S (env .few-sizes) (b .targets)) (b .room)
+      (omega (arith, b .exprs .room))
 
   -- A node's children.
   pub two-nodes : (i bit word : ℕ) (l r : Derivation) → Known (env .sets) (env .relations) l → Known (env .sets) (env .relations) r → i + suc (nodes l + nodes r) ≤ 127 → (rest : List ℕ)
@@ -129,48 +125,56 @@ module _ (env : Decoded) where
       record { known = known; room = omega arith; rest = rest; words = later (env .nodeTable) _ word i e }
 
   -- A statement's parts.
-  abbrev pub Halves : ℕ → ℕ → Stmt → Stmt → Type 0
-  Halves s place a b = StatementAt (suc s) (place + 3) a × StatementAt (suc s + statements a) (place + 3 + stmtWidth a) b
+  abbrev pub Halves : ℕ → ℕ → ℕ → Stmt → Stmt → Type 0
+  Halves s place x a b = StatementAt (suc s) (place + 3) x a × StatementAt (suc s + statements a) (place + 3 + stmtWidth a) (x + stmtTerms a) b
 
-  module _ (s place : ℕ) where
-    halves : (a b : Stmt) → Stands (env .bytes) (length (env .sizes)) (place + 3) a × Stands (env .bytes) (length (env .sizes)) (place + 3 + stmtWidth a) b
+  module _ (s place x : ℕ) where
+    halves : (a b : Stmt) → ExprsIn (env .exprs) x a × ExprsIn (env .exprs) (x + stmtTerms a) b
         → TargetsBelow (length (env .sizes)) a × TargetsBelow (length (env .sizes)) b → s + (1 + statements a + statements b) ≤ 63
-        → StatementIn (env .statementTable) (suc s) (place + 3) a × StatementIn (env .statementTable) (suc s + statements a) (place + 3 + stmtWidth a) b → Halves s place a b
-    halves a b stands targets room held = (
-      record { stands = stands .0; targets = targets .0; room = omega arith; held = held .0 },
-      record { stands = stands .1; targets = targets .1; room = omega arith; held = held .1 },
+        → BothHeld (env .statementTable) s place x a b → Halves s place x a b
+    halves a b exprs targets room held = (
+      record { exprs = exprs .0; targets = targets .0; room = omega arith; held = held .0 },
+      record { exprs = exprs .1; targets = targets .1; room = omega arith; held = held .1 },
     )
 
-    pub of-sequence : (a b : Stmt) → StatementAt s place (seq a b) → Halves s place a b
-    of-sequence a b c = halves a b (parts (env .bytes) (length (env .sizes)) place (seq a b) (c .stands)) (c .targets) (c .room) (parts-held (env .statementTable) s place (seq a b) (c .held))
+    pub of-sequence : (a b : Stmt) → StatementAt s place x (seq a b) → Halves s place x a b
+    of-sequence a b c =
+        halves a b (parts-exprs (env .exprs) x (seq a b) (c .exprs)) (c .targets) (c .room) (parts-held (env .statementTable) s place x (seq a b) (c .held))
 
-    pub of-parallel : (a b : Stmt) → StatementAt s place (par a b) → Halves s place a b
-    of-parallel a b c = halves a b (parts (env .bytes) (length (env .sizes)) place (par a b) (c .stands)) (c .targets) (c .room) (parts-held (env .statementTable) s place (par a b) (c .held))
+    pub of-parallel : (a b : Stmt) → StatementAt s place x (par a b) → Halves s place x a b
+    of-parallel a b c =
+        halves a b (parts-exprs (env .exprs) x (par a b) (c .exprs)) (c .targets) (c .room) (parts-held (env .statementTable) s place x (par a b) (c .held))
 
-    body : (e : Expr) (b : Stmt) → Stands (env .bytes) (length (env .sizes)) (place + 3 + width e) b → TargetsBelow (length (env .sizes)) b → s + (1 + statements b) ≤ 63
-        → StatementIn (env .statementTable) (suc s) (place + 3 + width e) b → StatementAt (suc s) (place + 3 + width e) b
-    body e b stands targets room held = record { stands = stands; targets = targets; room = omega arith; held = held }
+    pub of-if : (e : Expr) (b : Stmt) → StatementAt s place x (if e b) → StatementAt (suc s) (place + 3 + width e) (x + exprNodes e) b
+    of-if e b c = record {
+      exprs = parts-exprs (env .exprs) x (if e b) (c .exprs) .1;
+      targets = c .targets;
+      room = omega (arith, c .room);
+      held = parts-held (env .statementTable) s place x (if e b) (c .held);
+    }
 
-    pub of-if : (e : Expr) (b : Stmt) → StatementAt s place (if e b) → StatementAt (suc s) (place + 3 + width e) b
-    of-if e b c = body e b (parts (env .bytes) (length (env .sizes)) place (if e b) (c .stands) .1) (c .targets) (c .room) (parts-held (env .statementTable) s place (if e b) (c .held))
-
-    pub of-while : (e : Expr) (b : Stmt) → StatementAt s place (while e b) → StatementAt (suc s) (place + 3 + width e) b
-    of-while e b c = body e b (parts (env .bytes) (length (env .sizes)) place (while e b) (c .stands) .1) (c .targets) (c .room) (parts-held (env .statementTable) s place (while e b) (c .held))
+    pub of-while : (e : Expr) (b : Stmt) → StatementAt s place x (while e b) → StatementAt (suc s) (place + 3 + width e) (x + exprNodes e) b
+    of-while e b c = record {
+      exprs = parts-exprs (env .exprs) x (while e b) (c .exprs) .1;
+      targets = c .targets;
+      room = omega (arith, c .room);
+      held = parts-held (env .statementTable) s place x (while e b) (c .held);
+    }
 
   -- The first condition of a node that is broken over the words is the first over the files. If 30 fails, the others do not matter.
-  module _ (i s bit place : ℕ) where
+  module _ (i s bit place x : ℕ) where
     abbrev Means : Derivation → Stmt → Type 0
-    Means d S = NodeAt i bit d → StatementAt s place S → own i s ≡ firstBroken (obligations (env .tables) d S)
+    Means d S = NodeAt i bit d → StatementAt s place x S → own i s ≡ firstBroken (obligations (env .tables) d S)
 
     -- The conditions of a node, from the records of the node, its statement and its children.
-    by-records : (d : Derivation) (S : Stmt) (x y : Node) → nodeIn (env .nodeTable) (suc i) ≡ x → nodeIn (env .nodeTable) (suc i + firstNodes d) ≡ y
-        → NodeAt i bit d → StatementAt s place S
-        → own i s ≡ firstBroken (obligationsIn (env .bytes) (headOf (env .sizes)) (env .work) (nodeRecord i bit d) (statementRecord s place S) x y)
+    by-records : (d : Derivation) (S : Stmt) (y z : Node) → nodeIn (env .nodeTable) (suc i) ≡ y → nodeIn (env .nodeTable) (suc i + firstNodes d) ≡ z
+        → NodeAt i bit d → StatementAt s place x S
+        → own i s ≡ firstBroken (obligationsIn (env .exprs) (headOf (env .sizes)) (env .work) (nodeRecord i bit d) (statementRecord s place x S) y z)
     unfolding obligationsAt
-    by-records d S x y first second a b =
-        (λ j. firstBroken (obligationsIn (env .bytes) (headOf (env .sizes)) (env .work) (node-is i bit d a j) (statement-is s place S b j) (first j)
+    by-records d S y z first second a b =
+        (λ j. firstBroken (obligationsIn (env .exprs) (headOf (env .sizes)) (env .work) (node-is i bit d a j) (statement-is s place x S b j) (first j)
         (nodeIn (env .nodeTable) (node-is i bit d a j .after))))
-        ∙ ap (λ z. firstBroken (obligationsIn (env .bytes) (headOf (env .sizes)) (env .work) (nodeRecord i bit d) (statementRecord s place S) x z)) second
+        ∙ ap (λ v. firstBroken (obligationsIn (env .exprs) (headOf (env .sizes)) (env .work) (nodeRecord i bit d) (statementRecord s place x S) y v)) second
 
     pub own-skip : (h : Names) (S : Stmt) → Means (skip h) S
     unfolding obligationsIn
@@ -184,7 +188,7 @@ module _ (env : Decoded) where
     own-assignment h (assign v e) a b =
         by-records _ _ _ _ refl refl a b
         ∙ (λ j. firstBroken (assignmentObligations (env .machine-is j) true (spec-is (assignment h) (a .known) j) v
-        (expr-is (place + 5) e (parts (env .bytes) (length (env .sizes)) place (assign v e) (b .stands)) j)))
+        (parts-exprs (env .exprs) x (assign v e) (b .exprs) j)))
     own-assignment h (seq l r) a b = by-records _ _ _ _ refl refl a b
     own-assignment h (par l r) a b = by-records _ _ _ _ refl refl a b
     own-assignment h (if e c) a b = by-records _ _ _ _ refl refl a b
@@ -219,7 +223,7 @@ module _ (env : Decoded) where
       own-if (if e c) a b =
           by-records _ _ _ _ child refl a b
           ∙ (λ j. firstBroken (ifObligations (env .machine-is j) true (spec-is (conditional h d) (a .known) j)
-          (expr-is (place + 3) e (parts (env .bytes) (length (env .sizes)) place (if e c) (b .stands) .0) j) (spec-is d (a .known .1) j)))
+          (parts-exprs (env .exprs) x (if e c) (b .exprs) .0 j) (spec-is d (a .known .1) j)))
       own-if (while e c) a b = by-records _ _ _ _ child refl a b
 
       pub own-while : (K W : ℕ) (S : Stmt) → Means (iteration h K W d) S
@@ -232,7 +236,7 @@ module _ (env : Decoded) where
       own-while K W (while e c) a b =
           by-records _ _ _ _ child refl a b
           ∙ (λ j. firstBroken (whileObligations (env .machine-is j) true (spec-is (iteration h K W d) (a .known) j)
-          (expr-is (place + 3) e (parts (env .bytes) (length (env .sizes)) place (while e c) (b .stands) .0) j)
+          (parts-exprs (env .exprs) x (while e c) (b .exprs) .0 j)
           (set-is K (a .known .1) j) (relation-is W (a .known .2) j) (spec-is d (a .known .3) j)))
 
       pub own-weaken : (S : Stmt) → Means (weaken h d) S

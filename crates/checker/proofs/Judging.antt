@@ -1,6 +1,6 @@
 -- The check of a pair that was read, stage by stage, and the cases of the whole check.
 use Prim.Native.Nat.{ℕ, _-_, _^_, _≤_, _<_, min}
-use mathlib.Core.Path.{_≡_, refl, sym, _∙_, ap}
+use mathlib.Core.Path.{_≡_, refl, sym, _∙_, ap, subst}
 use mathlib.Core.Bool.{Bool, true, false}
 use mathlib.Core.List.{List}
 use mathlib.Core.Option.{Option, none, some}
@@ -12,6 +12,7 @@ use Rattle.handler.specs.declared.head.Head.{Head}
 use Rattle.handler.specs.StatementTable.{statementTable}
 use Rattle.handler.proofs.Heads.{Declared, head-read}
 use Rattle.handler.proofs.Handlers.{KnownHandler, known-handler}
+use Rattle.handler.proofs.TermTable.{ExprsIn}
 use Rattle.handler.proofs.StatementTable.{table-held}
 use Rattle.derivation.specs.NodeTable.{padded, nodeTable}
 use Rattle.derivation.specs.Tables.{workWords}
@@ -20,7 +21,7 @@ use Rattle.pair.specs.declared.Mode.{Mode}
 use Rattle.pair.specs.declared.PairSummary.{PairSummary}
 use Rattle.pair.specs.Reading.{Pair, statesOf, stepsOf, PairRead, pair, faulty, long, readPair}
 use Rattle.pair.specs.Modes.{tablesIn, tableWords}
-use Rattle.pair.proofs.Cases.{Holds, read-holds}
+use Rattle.pair.proofs.Cases.{Holds, read-holds, exprs-read}
 use Rattle.checker.specs.declared.Place.the-variants.{Bit}
 use Rattle.checker.specs.declared.Fault.{Fault}
 use Rattle.checker.specs.declared.Verdict.the-variants.{Accepted, Refused}
@@ -32,9 +33,12 @@ use Rattle.checker.proofs.AtHand.{Decoded, NodeAt, StatementAt}
 use Rattle.checker.proofs.Stages.{decided-answer, words-kept, words-cleared}
 use Rattle.checker.proofs.Meaning.{found-in-tables}
 
-module _ {hb : List ℕ} {head : Head} {statements nodes : List ℕ} {w : PairSummary} {work : List ℕ} (l : Loaded hb head statements nodes w work) where
+module _ {exprs : List ℕ} {head : Head} {statements nodes : List ℕ} {w : PairSummary} {work : List ℕ} (l : Loaded exprs head statements nodes w work) where
   abbrev x : Pair
   x = l .held
+
+  abbrev hb : List ℕ
+  hb = l .handler
 
   abbrev pb : List ℕ
   pb = l .proof
@@ -56,7 +60,7 @@ module _ {hb : List ℕ} {head : Head} {statements nodes : List ℕ} {w : PairSu
 
   env : Decoded
   env = record {
-    bytes = hb;
+    exprs = exprs;
     sizes = x .sizes;
     work = work;
     nodeTable = nodeTable (x .root-bit) (x .derivation);
@@ -76,23 +80,23 @@ module _ {hb : List ℕ} {head : Head} {statements nodes : List ℕ} {w : PairSu
   unfolding env nodeTable padded
   node-at = record { known = shown .known; room = omega (arith, shown .nodes-most); rest = _; words = refl }
 
-  statement-at : StatementAt env 0 (x .statement-bit) (x .statement)
+  statement-at : StatementAt env 0 (x .statement-bit) 0 (x .statement)
   unfolding env
   statement-at = record {
-    stands = known .stands;
+    exprs = subst (λ t. ExprsIn t 0 (x .statement)) (sym (l .exprs-are)) (exprs-read hb pb x files (l .blank) (l .room));
     targets = known .targets;
     room = omega (arith, known .few);
     held = table-held (x .statement-bit) (x .statement);
   }
 
   -- What the loop finds decides the verdict.
-  pub judged : decided (faultFound (faultsFrom hb head work nodes statements (w .proof .nodes) 0 0)) (w .handler .steps)
+  pub judged : decided (faultFound (faultsFrom exprs head work nodes statements (w .proof .nodes) 0 0)) (w .handler .steps)
       ≡ onPair pb (l .mode) (pair x) .verdict
   unfolding env
   judged =
-      (λ j. decided (faultFound (faultsFrom hb (l .head-is j) work (l .nodes-are j) (l .statements-are j) (l .summary j .proof .nodes) 0 0)) (l .summary j .handler .steps))
+      (λ j. decided (faultFound (faultsFrom exprs (l .head-is j) work (l .nodes-are j) (l .statements-are j) (l .summary j .proof .nodes) 0 0)) (l .summary j .handler .steps))
       ∙ ap (λ o. decided (faultFound o) (min (stepsOf x) (2 ^ 32)))
-      (found-in-tables env (x .root-bit) (x .statement-bit) (x .derivation) (x .statement) node-at statement-at)
+      (found-in-tables env (x .root-bit) (x .statement-bit) 0 (x .derivation) (x .statement) node-at statement-at)
       ∙ decided-answer fault (stepsOf x) (tableWords pb (l .mode) x)
 
   -- The words that the answer leaves: the tables if it accepts, else 0.

@@ -22,11 +22,11 @@ unfoldable pub statementAt : List ℕ → ℕ → ℕ
 statementAt nodes zero = 0
 statementAt nodes (suc i) = statementAfter (nodeIn nodes i .rule) (statementAt nodes i)
 
-module _ (bytes : List ℕ) (head : Head) (work nodes statements : List ℕ) where
+module _ (exprs : List ℕ) (head : Head) (work nodes statements : List ℕ) where
   -- The conditions of node i over statement s. Its first child is the node after it, its second the one that the table names.
   unfoldable pub obligationsAt : ℕ → ℕ → List Condition
   obligationsAt i s =
-      obligationsIn bytes head work (nodeIn nodes i) (statementIn statements s) (nodeIn nodes (suc i)) (nodeIn nodes (nodeIn nodes i .after))
+      obligationsIn exprs head work (nodeIn nodes i) (statementIn statements s) (nodeIn nodes (suc i)) (nodeIn nodes (nodeIn nodes i .after))
 
   -- The first fault of `count` nodes from node i on, with statement s at hand.
   unfoldable pub faultsFrom : ℕ → ℕ → ℕ → Option Broken

@@ -12,7 +12,7 @@ use Rattle.derivation.specs.NodeTable.{nodeTable}
 use Rattle.derivation.specs.Tables.{workWords, written}
 use Rattle.pair.specs.declared.Mode.{Mode}
 use Rattle.pair.specs.declared.PairSummary.{PairSummary}
-use Rattle.pair.specs.Reading.{Pair, handlerSummary, proofHead, pair, readPair}
+use Rattle.pair.specs.Reading.{Pair, handlerSummary, proofHead, pair, readPair, termsRead}
 use Rattle.pair.specs.Modes.{tableWords}
 use Rattle.checker.specs.declared.Place.the-variants.{Node}
 use Rattle.checker.specs.declared.Verdict.{Verdict}
@@ -21,12 +21,17 @@ use Rattle.checker.specs.declared.nodes.FirstFault.{FirstFault}
 use Rattle.checker.specs.declared.nodes.FirstFault.the-variants as first
 use Rattle.checker.specs.Verdicts.{refusedNaming, refusedAt}
 
--- A pair that was read: its head, the tables of its statements and nodes, its summary, and its tables in the work words.
-pub record Loaded (hb : List ℕ) (head : Head) (statements nodes : List ℕ) (w : PairSummary) (work : List ℕ) : Type 0 where
+-- A pair that was read: the nodes of its expressions, its head, the tables of its statements and nodes, its summary, and its tables in the
+-- work words.
+pub record Loaded (exprs : List ℕ) (head : Head) (statements nodes : List ℕ) (w : PairSummary) (work : List ℕ) : Type 0 where
+  pub handler : List ℕ
   pub proof : List ℕ
   pub mode : Mode
   pub held : Pair
-  pub read : readPair hb proof ≡ pair held
+  pub read : readPair handler proof ≡ pair held
+  pub blank : List ℕ
+  pub room : 1953 ≤ length blank
+  pub exprs-are : exprs ≡ termsRead handler proof blank
   pub head-is : head ≡ headOf (held .sizes)
   pub statements-are : statements ≡ statementTable (held .statement-bit) (held .statement)
   pub nodes-are : nodes ≡ nodeTable (held .root-bit) (held .derivation)

@@ -3,6 +3,7 @@ use derivation::MOST_NODES;
 use derivation::words::clear;
 use handler::MOST_STATEMENTS;
 use handler::head::Head;
+use handler::terms::MOST_TERMS;
 use nodes::FirstFault;
 use nodes::first_fault;
 use pair::Mode;
@@ -91,22 +92,22 @@ fn decide(found: FirstFault, steps: u64) -> Verdict
 
 // The verdict on a pair that was read and whose tables are in the work words. They stay there only if the pair is accepted.
 fn check_read(
-    handler: &[u8],
+    exprs: &[u32; MOST_TERMS],
     head: Head,
     statements: &[u64; MOST_STATEMENTS],
     nodes: &[u64; MOST_NODES],
     read: PairSummary,
     work: &mut [u64],
 ) -> Verdict
-    requires { ⌜ Loaded (now handler) head (now statements) (now nodes) read (now work) ⌝ }
-    ensures verdict { λ r. ⌜ ((l : Loaded (now (handler .entry)) head (now (statements .entry)) (now (nodes .entry)) read (now (work .entry)))
+    requires { ⌜ Loaded (now exprs) head (now statements) (now nodes) read (now work) ⌝ }
+    ensures verdict { λ r. ⌜ ((l : Loaded (now (exprs .entry)) head (now (statements .entry)) (now (nodes .entry)) read (now (work .entry)))
         → r ≡ onPair (l .proof) (l .mode) (pair (l .held)) .verdict) ⌝ }
-    ensures words { λ _. ⌜ ((l : Loaded (now (handler .entry)) head (now (statements .entry)) (now (nodes .entry)) read (now (work .entry)))
+    ensures words { λ _. ⌜ ((l : Loaded (now (exprs .entry)) head (now (statements .entry)) (now (nodes .entry)) read (now (work .entry)))
         → now (work .exit) ≡ written (onPair (l .proof) (l .mode) (pair (l .held)) .words) (l .before)) ⌝ }
 {
     let summary = read.handler;
     let tables = read.proof;
-    let fault = first_fault(handler, head, &work[..], nodes, statements, tables.nodes);
+    let fault = first_fault(exprs, head, &work[..], nodes, statements, tables.nodes);
     match decide(fault, summary.steps) {
         Verdict::Accepted(k) => Verdict::Accepted(k),
         Verdict::Refused(fault) => {
@@ -126,7 +127,8 @@ pub fn check(handler: &[u8], proof: &[u8], mode: Mode, work: &mut [u64]) -> Verd
     if work.len() < WORK_WORDS {
         return at_bit(FEW_WORDS, 0);
     }
-    let file = load_pair(handler, proof, mode, work);
+    let mut exprs = [0u32; MOST_TERMS];
+    let file = load_pair(handler, proof, mode, &mut exprs, work);
     let found = file.found;
     match found {
         PairFound::TooLong => at_bit(LONG_FILE, 0),
@@ -135,7 +137,7 @@ pub fn check(handler: &[u8], proof: &[u8], mode: Mode, work: &mut [u64]) -> Verd
             let head = file.head;
             let statements = file.statements;
             let nodes = file.nodes;
-            check_read(handler, head, &statements, &nodes, read, work)
+            check_read(&exprs, head, &statements, &nodes, read, work)
         }
     }
 }

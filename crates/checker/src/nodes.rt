@@ -22,7 +22,7 @@ pub enum FirstFault {
 
 // The first of the conditions of node i over statement s that is broken.
 fn fault_at(
-    handler: &[u8],
+    exprs: &[u32],
     head: Head,
     work: &[u64],
     nodes: &[u64],
@@ -31,7 +31,7 @@ fn fault_at(
     s: u32,
 ) -> NodeFault
     ensures { λ r.
-        ⌜ r ≡ faultOf (firstBroken (obligationsAt (now (handler .entry)) head (now (work .entry)) (now (nodes .entry)) (now (statements .entry)) i s)) ⌝ }
+        ⌜ r ≡ faultOf (firstBroken (obligationsAt (now (exprs .entry)) head (now (work .entry)) (now (nodes .entry)) (now (statements .entry)) i s)) ⌝ }
 {
     let at = i as usize;
     let node = node_at(nodes, at);
@@ -39,7 +39,7 @@ fn fault_at(
     let after = node.after as usize;
     let second = node_at(nodes, after);
     node_fault(
-        handler,
+        exprs,
         head,
         work,
         node,
@@ -71,7 +71,7 @@ pub fn statement_of(nodes: &[u64], node: u32) -> u32
 
 // The first fault of the first `count` nodes.
 pub fn first_fault(
-    handler: &[u8],
+    exprs: &[u32],
     head: Head,
     work: &[u64],
     nodes: &[u64],
@@ -79,12 +79,12 @@ pub fn first_fault(
     count: u32,
 ) -> FirstFault
     ensures { λ r.
-        ⌜ r ≡ faultFound (faultsFrom (now (handler .entry)) head (now (work .entry)) (now (nodes .entry)) (now (statements .entry)) count 0 0) ⌝ }
+        ⌜ r ≡ faultFound (faultsFrom (now (exprs .entry)) head (now (work .entry)) (now (nodes .entry)) (now (statements .entry)) count 0 0) ⌝ }
 {
     let mut s = 0;
     for i in 0..count {
         if let NodeFault::Broken(number, states) = fault_at(
-            handler,
+            exprs,
             head,
             work,
             nodes,

@@ -59,7 +59,7 @@ pub record StatementIn (table : List ℕ) (j bit i : ℕ) (S : Stmt) : Type 0 wh
   pub is : drop j table ≡ statementWords j bit i S ++ rest
 
 -- It also holds those of its parts.
-abbrev BothHeld : List ℕ → ℕ → ℕ → ℕ → Stmt → Stmt → Type 0
+abbrev pub BothHeld : List ℕ → ℕ → ℕ → ℕ → Stmt → Stmt → Type 0
 BothHeld table j bit i l r =
     StatementIn table (suc j) (bit + 3) i l × StatementIn table (suc j + statements l) (bit + 3 + stmtWidth l) (i + stmtTerms l) r
 

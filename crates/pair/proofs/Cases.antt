@@ -10,9 +10,11 @@ use lib.ListN.{length}
 use Rattle.semantics.specs.Language.{Stmt}
 use Rattle.semantics.specs.States.{product}
 use Rattle.handler.specs.Reading.{HandlerRead, handler, refused, readHandler}
+use Rattle.handler.proofs.Handlers.{handler-exprs}
+use Rattle.handler.proofs.TermTable.{ExprsIn}
 use Rattle.derivation.specs.Reading as Proofs
 use Rattle.pair.specs.Limits.{mostHandlerBytes, mostProofBytes, tooLong}
-use Rattle.pair.specs.Reading.{Pair, statesOf, PairRead, pair, faulty, long, onProof, onHandler, readPair}
+use Rattle.pair.specs.Reading.{Pair, statesOf, PairRead, pair, faulty, long, onProof, onHandler, readPair, termsRead}
 
 module _ (hb pb : List ℕ) where
   -- Both files are within their length.
@@ -78,3 +80,9 @@ module _ (hb pb : List ℕ) where
   pub holds-read : (x : Pair) → Holds x → readPair hb pb ≡ pair x
   unfolding readPair
   holds-read x h = rw (not-long (h .short), h .handler-read, h .proof-read)
+
+  -- A buffer of 1,953 words holds the expressions of the handler.
+  pub exprs-read : (x : Pair) → Holds x → (entry : List ℕ) → 1953 ≤ length entry → ExprsIn (termsRead hb pb entry) 0 (x .statement)
+  unfolding termsRead
+  exprs-read x h entry room =
+      rw (not-long (h .short)) (handler-exprs hb (x .sizes) (x .statement-bit) (x .statement) entry (h .handler-read) room)

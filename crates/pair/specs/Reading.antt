@@ -11,6 +11,7 @@ use Rattle.handler.specs.declared.HandlerSummary.{HandlerSummary}
 use Rattle.handler.specs.Header.{headOf, noHead}
 use Rattle.handler.specs.Kinds.{stmtWidth}
 use Rattle.handler.specs.Reading.{HandlerRead, handler, refused, readHandler}
+use Rattle.handler.specs.Shapes.{termsAfter}
 use Rattle.handler.specs.StatementTable.{statements, stmtLevels, statementTable}
 use Rattle.derivation.specs.declared.ProofHead.{ProofHead}
 use Rattle.derivation.specs.NodeTable.{nodeTable}
@@ -96,3 +97,7 @@ pairFile (pair x) = record {
   statements = statementTable (x .statement-bit) (x .statement);
   nodes = nodeTable (x .root-bit) (x .derivation);
 }
+
+-- What reading leaves in the buffer for the nodes of the expressions: it is untouched where a file is too long.
+unfoldable pub termsRead : List ℕ → List ℕ → List ℕ → List ℕ
+termsRead hb pb entry = cond (tooLong hb pb) entry (termsAfter (readHandler hb) entry)

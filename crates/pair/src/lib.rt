@@ -13,9 +13,9 @@ use handler::head::no_head;
 use handler::reading::read_handler;
 ghost use mathlib.Core.Path.{_≡_};
 ghost use Rattle.derivation.specs.Reading.{readProof};
-ghost use Rattle.derivation.specs.Tables.{written, limitedWord};
+ghost use Rattle.derivation.specs.Tables.{written};
 ghost use Rattle.pair.specs.Limits.{tooLong};
-ghost use Rattle.pair.specs.Reading.{nothingFound, readPair, pairFile};
+ghost use Rattle.pair.specs.Reading.{nothingFound, readPair, pairFile, termsRead};
 ghost use Rattle.pair.specs.Modes.{rows, workRead};
 ghost use Rattle.pair.specs.Refinement.{fileOver, wordLimited};
 
@@ -110,14 +110,15 @@ fn read_over(
     }
 }
 
-// Reads two files, or finds their first fault.
-pub fn read_pair(handler: &[u8], proof: &[u8]) -> PairFile
-    ensures { λ r. ⌜ r ≡ pairFile (readPair (now (handler .entry)) (now (proof .entry))) ⌝ }
+// Reads two files, or finds their first fault. The nodes of the expressions are stored in `exprs`, as far as it goes.
+fn read_files(handler: &[u8], proof: &[u8], exprs: &mut [u32]) -> PairFile
+    ensures file { λ r. ⌜ r ≡ pairFile (readPair (now (handler .entry)) (now (proof .entry))) ⌝ }
+    ensures terms { λ _. ⌜ now (exprs .exit) ≡ termsRead (now (handler .entry)) (now (proof .entry)) (now (exprs .entry)) ⌝ }
 {
     if too_long(handler, proof) {
         return nothing(PairFound::TooLong);
     }
-    let file = read_handler(handler);
+    let file = read_handler(handler, exprs);
     let found = file.found;
     match found {
         HandlerFound::Fault(number, place) => nothing(PairFound::Fault(number, place)),
@@ -127,6 +128,14 @@ pub fn read_pair(handler: &[u8], proof: &[u8]) -> PairFile
             read_over(proof, summary, head, statements)
         }
     }
+}
+
+// Reads two files, or finds their first fault. No expression is kept.
+pub fn read_pair(handler: &[u8], proof: &[u8]) -> PairFile
+    ensures { λ r. ⌜ r ≡ pairFile (readPair (now (handler .entry)) (now (proof .entry))) ⌝ }
+{
+    let mut none = [0u32; 0];
+    read_files(handler, proof, &mut none)
 }
 
 // Writes the tables of a proof file into the work words, as the arrangement has them.
@@ -140,13 +149,21 @@ fn fill_by(proof: &[u8], mode: Mode, n: u32, head: ProofHead, work: &mut [u64])
     }
 }
 
-// Reads two files and leaves the tables of the pair in the work words: 0 after a fault, and untouched where a file is too long.
-pub fn load_pair(handler: &[u8], proof: &[u8], mode: Mode, work: &mut [u64]) -> PairFile
+// Reads two files, and leaves the nodes of the expressions in `exprs` and the tables of the pair in the work words. Where a file is too long
+// both are untouched. After a fault the work words are 0, and so is `exprs` if the fault is one of the handler file.
+pub fn load_pair(
+    handler: &[u8],
+    proof: &[u8],
+    mode: Mode,
+    exprs: &mut [u32],
+    work: &mut [u64],
+) -> PairFile
     ensures answer { λ r. ⌜ r ≡ pairFile (readPair (now (handler .entry)) (now (proof .entry))) ⌝ }
+    ensures terms { λ _. ⌜ now (exprs .exit) ≡ termsRead (now (handler .entry)) (now (proof .entry)) (now (exprs .entry)) ⌝ }
     ensures tables { λ _.
         ⌜ now (work .exit) ≡ workRead (now (proof .entry)) mode (readPair (now (handler .entry)) (now (proof .entry))) (now (work .entry)) ⌝ }
 {
-    let file = read_pair(handler, proof);
+    let file = read_files(handler, proof, exprs);
     let found = file.found;
     match found {
         PairFound::TooLong => file,

@@ -36,7 +36,7 @@ returns-2 c =
     let a = start p .args in
     let is = found-long _ (found p ∙ c .before .enum-told .given .1) in
     promised (a .handler .now) (a .proof .now) (a .mode) (a .work .now) _ _ _ (as-read _ _ _ _ (p .before .before .if1 .left) _ is)
-    (c .at-bit2 .ensures) (rw is at (p .load-pair .ensures .1))
+    (c .at-bit2 .ensures) (rw is at (p .load-pair .ensures .1 .1))
 
 returns-3 : tie.Need-returns-3
 unfolding workRead
@@ -45,14 +45,14 @@ returns-3 c =
     let a = start p .args in
     let is = found-fault _ _ _ (found p ∙ c .before .before .found .given .1) in
     promised (a .handler .now) (a .proof .now) (a .mode) (a .work .now) _ _ _ (as-read _ _ _ _ (p .before .before .if1 .left) _ is)
-    (c .at-bit3 .ensures) (rw is at (p .load-pair .ensures .1))
+    (c .at-bit3 .ensures) (rw is at (p .load-pair .ensures .1 .1))
 
 -- The pair that was found, as it is lent to the check of it.
 read : (c : tie.After-found2) → let a = start (loaded (c .before .before)) .args in FoundPair (readPair (a .handler .now) (a .proof .now)) (c .found2 .given .0 .0)
 read c = found-pair _ _ (found (loaded (c .before .before)) ∙ c .found2 .given .1)
 
 lent : (c : tie.After-found2) → let p = loaded (c .before .before) in let a = start p .args in let f = p .load-pair .result in
-    Loaded (a .handler .now) (f .head) (f .statements) (f .nodes) (c .found2 .given .0 .0) (p .load-pair .last .1 .1 .1 .0)
+    Loaded (p .load-pair .last .1 .1 .1 .0) (f .head) (f .statements) (f .nodes) (c .found2 .given .0 .0) (p .load-pair .last .1 .1 .1 .1 .0)
 unfolding pairFile workRead
 lent c =
     let p = loaded (c .before .before) in
@@ -60,17 +60,21 @@ lent c =
     let f = read c in
     let is = p .load-pair .ensures .0 ∙ ap pairFile (f .read) in
     record {
+      handler = a .handler .now;
       proof = a .proof .now;
       mode = a .mode;
       held = f .held;
       read = f .read;
+      blank = _;
+      room = search needs;
+      exprs-are = p .load-pair .ensures .1 .0;
       head-is = ap (λ y. y .head) is;
       statements-are = ap (λ y. y .statements) is;
       nodes-are = ap (λ y. y .nodes) is;
       summary = f .summary;
       before = a .work .now;
       enough = p .before .before .if1 .left;
-      words = rw (f .read) at (p .load-pair .ensures .1);
+      words = rw (f .read) at (p .load-pair .ensures .1 .1);
     }
 
 check-read-requires : tie.Need-check-read-requires

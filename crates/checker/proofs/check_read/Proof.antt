@@ -23,7 +23,7 @@ refusing c = c .before .before .before .before .before .before .before
 
 -- The pair as it was lent.
 abbrev Lent : tie.After-decide → Type 0
-Lent d = let a = start d .args in Loaded (a .handler .now) (a .head) (a .statements .now) (a .nodes .now) (a .read) (a .work .now)
+Lent d = let a = start d .args in Loaded (a .exprs .now) (a .head) (a .statements .now) (a .nodes .now) (a .read) (a .work .now)
 
 decision : (d : tie.After-decide) (l : Lent d) → d .decide .result ≡ onPair (l .proof) (l .mode) (pair (l .held)) .verdict
 decision d l =
