@@ -22,20 +22,26 @@ ghost use Rattle.composition.specs.Refinement.{WasAccepted, SameStates, 
 // The sizes differ.
 const OTHER_SIZES: u32 = 90;
 
+// The summary of a handler file that is not read.
+fn no_summary() -> HandlerSummary {
+    HandlerSummary {
+        at: 0,
+        end: 0,
+        statements: 0,
+        levels: 0,
+        steps: 0,
+    }
+}
+
 // What was read of the handler file of a pair that has no fault.
 fn summary_of(found: PairFound) -> HandlerSummary
     ensures { λ r. ⌜ ((w : PairSummary) → found ≡ Pair w → r ≡ w .handler) ⌝ }
 {
-    let PairFound::Pair(read) = found else {
-        return HandlerSummary {
-            at: 0,
-            end: 0,
-            statements: 0,
-            levels: 0,
-            steps: 0,
-        };
-    };
-    read.handler
+    match found {
+        PairFound::Pair(read) => read.handler,
+        PairFound::Fault(_number, _place) => no_summary(),
+        PairFound::TooLong => no_summary(),
+    }
 }
 
 // Over the same variables: 91 to 93, and then the files.

@@ -7,14 +7,14 @@ use native.Mathlib.Omega.{arith}
 use borrow.Author.Needs.{needs}
 use lib.ListN.{length}
 use Rattle.derivation.proofs.Buffers.{length-tabulate}
-use Rattle.joint.specs.Composing.{Side, refused, plain, limited, handlerAfter, proofAfter, withRoom}
-use Rattle.composition.specs.Answers.{composed}
+use Rattle.joint.specs.Composing.{Side, refused, plain, limited}
 use Rattle.rules.specs.Words.{wordSpec}
 use Rattle.composition.specs.declared.numbering.SetNumbers.{SetNumbers}
 use Rattle.composition.specs.declared.numbering.RelationNumbers.{RelationNumbers}
 use Rattle.composition.specs.Refinement.{Joint, setsHeld, relationsHeld, filesOf, smallCounts, Ready}
 use Rattle.composition.proofs.Limits.{HeldSets, HeldRelations, few-tables, limited-not, names-small, limited-is}
 use Rattle.composition.proofs.Held.{held-sets, held-relations}
+use Rattle.composition.proofs.Leaving.{leaves-same, leaves-refused}
 use Rattle.composition.proofs.joining.join.Statement.{statement}
 use Rattle.composition.proofs.joining.join.Tie as tie
 
@@ -44,8 +44,8 @@ number-relations-requires c κs =
     )
 
 -- The numbers are those of the tables of both sides.
-module _ (c : tie.After-number-relations) (A B : Side) (ra : let a = start (setsAt c) .args in Ready (a .n) A (a .a) (a .f) (a .words .now))
-    (rb : let a = start (setsAt c) .args in Ready (a .n) B (a .b) (a .g) (a .others .now)) where
+module _ (c : tie.After-number-relations) (A B : Side) (ra : let a = start (setsAt c) .args in Ready (a .n) A (a .both .first) (a .f) (a .words .now))
+    (rb : let a = start (setsAt c) .args in Ready (a .n) B (a .both .second) (a .g) (a .others .now)) where
   abbrev m : SetNumbers
   m = setsAt c .number-sets .result
 
@@ -65,14 +65,13 @@ module _ (c : tie.After-number-relations) (A B : Side) (ra : let a = start (sets
   abbrev small-of : Bool
   small-of =
       let a = start (setsAt c) .args in
-      smallCounts (a .a .statements) (a .a .levels) (a .f .head .nodes) (a .f .head .levels) (a .b .statements) (a .b .levels) (a .g .head .nodes) (a .g .head .levels)
-      (m .count) (k .right .count)
+      smallCounts (a .both .first) (a .both .second) (a .f .head) (a .g .head) (m .count) (k .right .count)
 
-  are-sets : let a = start (setsAt c) .args in HeldSets (a .n) A B (a .a) (a .b) (a .f) (a .g) (a .words .now) (a .others .now) ra rb m k S T S
-  are-sets = held-sets _ A B _ _ _ _ _ _ ra rb _ joint m k S T (setsAt c .number-sets .ensures)
+  are-sets : let a = start (setsAt c) .args in HeldSets (a .n) A B (a .both) (a .f) (a .g) (a .words .now) (a .others .now) ra rb m k S T S
+  are-sets = held-sets _ A B _ _ _ _ _ ra rb _ joint m k S T (setsAt c .number-sets .ensures)
 
-  are-relations : let a = start (setsAt c) .args in HeldRelations (a .n) A B (a .a) (a .b) (a .f) (a .g) (a .words .now) (a .others .now) ra rb m k S T T
-  are-relations = held-relations _ A B _ _ _ _ _ _ ra rb _ joint m k S T (c .number-relations .ensures)
+  are-relations : let a = start (setsAt c) .args in HeldRelations (a .n) A B (a .both) (a .f) (a .g) (a .words .now) (a .others .now) ra rb m k S T T
+  are-relations = held-relations _ A B _ _ _ _ _ ra rb _ joint m k S T (c .number-relations .ensures)
 
   long-S : length S ≡ m .count
   unfolding setsHeld
@@ -83,12 +82,12 @@ module _ (c : tie.After-number-relations) (A B : Side) (ra : let a = start (sets
   long-T = length-tabulate _ _
 
   -- What the counts decide.
-  files : let a = start (setsAt c) .args in small-of ≡ true → limited (a .first .now) (a .second .now) A B
-      ≡ filesOf (a .n) (a .first .now) (a .a) (a .f) (a .second .now) (a .b) (a .g) S m T k
-  files few = limited-is _ _ _ _ _ _ _ _ _ ra rb _ _ _ _ are-sets are-relations long-S long-T _ _ few
+  files : let a = start (setsAt c) .args in small-of ≡ true → limited (a .first .now) (a .second .now) A B (a .both .steps)
+      ≡ filesOf (a .n) (a .first .now) (a .second .now) (a .both) (a .f) (a .g) S m T k
+  files few = limited-is _ _ _ _ _ _ _ _ ra rb _ _ _ _ are-sets are-relations long-S long-T _ _ few
 
-  no-files : let a = start (setsAt c) .args in small-of ≡ false → limited (a .first .now) (a .second .now) A B ≡ refused 0 (plain 94)
-  no-files many = limited-not _ _ _ _ _ _ _ _ _ ra rb _ _ _ _ are-sets are-relations long-S long-T _ _ many
+  no-files : let a = start (setsAt c) .args in small-of ≡ false → limited (a .first .now) (a .second .now) A B (a .both .steps) ≡ refused 0 (plain 94)
+  no-files many = limited-not _ _ _ _ _ _ _ _ ra rb _ _ _ _ are-sets are-relations long-S long-T _ _ many
 
 write-both-requires : tie.Need-write-both-requires
 write-both-requires c κs =
@@ -97,8 +96,8 @@ write-both-requires c κs =
     let few = sym (c .before .before .before .before .before .is-small .ensures) ∙ c .before .before .before .before .if1 .taken in
     let x = p .first in
     let y = p .second in
-    let small = names-small _ _ _ _ _ _ _ _ _ x y _ _ _ _ (are-sets d _ _ x y) (are-relations d _ _ x y) (long-S d _ _ x y) (long-T d _ _ x y) [] [] few in
-    let rooms = few-tables _ _ _ _ _ _ _ _ _ _ few in
+    let small = names-small _ _ _ _ _ _ _ _ x y _ _ _ _ (are-sets d _ _ x y) (are-relations d _ _ x y) (long-S d _ _ x y) (long-T d _ _ x y) [] [] few in
+    let rooms = few-tables _ _ _ _ _ _ few in
     (x .room .states-least, x .room .states-most, rooms .0, rooms .1, small, x .of-handler .placed, y .of-handler .placed)
 
 returns : tie.Need-returns
@@ -106,26 +105,17 @@ returns c =
     let w = c .before .before .before .before .write-both .ensures in
     let d = c .before .before .before .before .before .before .before .before .before .before .before .before .before .before in
     let a = start (setsAt d) .args in
-    let few = sym (c .before .before .before .before .before .before .before .before .before .before .is-small .ensures) ∙ c .before .before .before .before .before .before .before .before .before .if1 .taken in (
-      λ A B x y. w .0 ∙ ap (λ o. composed (withRoom o (length (a .hout .now)) (length (a .pout .now)))) (sym (files d A B x y few)),
-      (
-        λ A B x y. w .1 .0 ∙ ap (λ o. handlerAfter (withRoom o (length (a .hout .now)) (length (a .pout .now))) (a .hout .now)) (sym (files d A B x y few)),
-        λ A B x y. w .1 .1 ∙ ap (λ o. proofAfter (withRoom o (length (a .hout .now)) (length (a .pout .now))) (a .pout .now)) (sym (files d A B x y few)),
-      ),
-    )
+    let few = sym (c .before .before .before .before .before .before .before .before .before .before .is-small .ensures) ∙ c .before .before .before .before .before .before .before .before .before .if1 .taken in
+    let left = λ A B x y. leaves-same (a .hout .now) (a .pout .now) _ _ (files d A B x y few) _ _ _ w in
+    (λ A B x y. left A B x y .0, (λ A B x y. left A B x y .1 .0, λ A B x y. left A B x y .1 .1))
 
 returns-2 : tie.Need-returns-2
-unfolding withRoom
 returns-2 c =
     let d = c .before .before .before .before .before .before in
     let a = start (setsAt d) .args in
-    let many = sym (c .before .before .is-small .ensures) ∙ c .before .if1 .left in (
-      λ A B x y. c .refused .ensures ∙ sym (ap (λ o. composed (withRoom o (length (a .hout .now)) (length (a .pout .now)))) (no-files d A B x y many)),
-      (
-        λ A B x y. sym (ap (λ o. handlerAfter (withRoom o (length (a .hout .now)) (length (a .pout .now))) (a .hout .now)) (no-files d A B x y many)),
-        λ A B x y. sym (ap (λ o. proofAfter (withRoom o (length (a .hout .now)) (length (a .pout .now))) (a .pout .now)) (no-files d A B x y many)),
-      ),
-    )
+    let many = sym (c .before .before .is-small .ensures) ∙ c .before .if1 .left in
+    let left = λ A B x y. leaves-refused (a .hout .now) (a .pout .now) _ 0 (plain 94) (no-files d A B x y many) _ (c .refused .ensures) in
+    (λ A B x y. left A B x y .0, (λ A B x y. left A B x y .1 .0, λ A B x y. left A B x y .1 .1))
 
 pub join-spec : {M : Type 1} → statement M
 join-spec =

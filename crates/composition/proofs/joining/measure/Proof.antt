@@ -1,5 +1,5 @@
 -- The statement of the first file ends at its end.
-use mathlib.Core.Path.{refl, _∙_, ap}
+use mathlib.Core.Path.{_∙_, ap}
 use native.Mathlib.Omega.{arith}
 use borrow.Author.Needs.{needs}
 use Rattle.writer.specs.Packing.{bytesFor}
@@ -13,7 +13,6 @@ returns c =
     record {
       handler-is = first .file-bytes .ensures ∙ ap bytesFor (omega (arith, start .pre .3 .starts));
       proof-is = c .before .before .file-bytes2 .ensures ∙ ap bytesFor (c .before .before .before .proof-bits .ensures .0);
-      steps-are = refl;
     }
 
 pub measure-spec : {M : Type 1} → statement M
