@@ -1,5 +1,5 @@
 -- What 94 asks of the result, from the counts that the code has; and the files of a result that passes no limit.
-use Prim.Native.Nat.{ℕ, suc, _+_, _-_, _≤_, max}
+use Prim.Native.Nat.{ℕ, suc, _+_, _-_, _^_, _≤_, max}
 use mathlib.Core.Bool.{Bool, true, false, _&&_, and-eq-true-iff}
 use mathlib.Core.List.{List}
 use mathlib.Core.Path.{_≡_, refl, sym, _∙_, ap, subst}
@@ -15,6 +15,7 @@ use Rattle.handler.specs.Kinds.{stmtWidth}
 use Rattle.handler.specs.StatementTable.{statements, stmtLevels}
 use Rattle.derivation.specs.declared.ProofHead.{ProofHead}
 use Rattle.derivation.proofs.NodeTable.{Known}
+use Rattle.pair.specs.Limits.{mostHandlerBytes, mostProofBytes}
 use Rattle.form.specs.Members.{setWhere, relationWhere}
 use Rattle.form.specs.Form.{setsIn, relationsIn, formOf}
 use Rattle.form.proofs.Numbered.{numbered-known}
@@ -36,6 +37,10 @@ kept-test held seen count k long = by (leb count 16) refl
     by : (t : Bool) → leb count 16 ≡ t → t ≡ leb (length seen) 16
     by true e = sym (le-leb (length seen) 16 (omega (arith, leb-true count 16 e, long, ap length (k .0 (leb-true count 16 e)))))
     by false e = sym (lt-leb (length seen) 16 (k .1 (leb-false count 16 e)))
+
+and-three : (t x y z : Bool) → (t && x && y && z) ≡ (t && (x && y && z))
+and-three true x y z = refl
+and-three false x y z = refl
 
 pub few-tables : (a b : HandlerSummary) (f g : ProofHead) (p q : ℕ) → smallCounts a b f g p q ≡ true → (p ≤ 16) × (q ≤ 16)
 unfolding smallCounts
@@ -97,7 +102,10 @@ module _ (n : ℕ) (A B : Side) (both : Handlers) (f g : Form) (words others : L
       limits-are : inLimits h h′ A B (both .steps)
           ≡ (small && lengthsFit (length (handlerFile h h′ A B)) (length (proofFile h h′ A B)) (both .steps))
       unfolding inLimits
-      limits-are = rw (← ra .states-are, small-is)
+      limits-are =
+          rw (← ra .states-are)
+          (ap (λ t. t && leb (length (handlerFile h h′ A B)) mostHandlerBytes && leb (length (formOf n D)) mostProofBytes && leb (both .steps) (2 ^ 32 - 1)) (sym small-is)
+          ∙ and-three small _ _ _)
 
       pub limited-not : small ≡ false → limited h h′ A B (both .steps) ≡ refused 0 (plain 94)
       limited-not e = rw (limits-are, e)
