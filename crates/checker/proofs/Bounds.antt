@@ -43,10 +43,10 @@ steps-small k words = by (ltb (2 ^ 32 - 1) k) refl
     by true t = omega arith
     by false t = omega (arith, ltb-false (2 ^ 32 - 1) k t)
 
-fault-small : (past : ℕ) → past ≤ 127 → (o : Option Broken) → Numbers.FaultIn 0 past o → (k : ℕ) (words : ℕ → ℕ) → Small (onFault o k words)
+broken-small : (past : ℕ) → past ≤ 127 → (o : Option Broken) → Numbers.FaultIn 0 past o → (k : ℕ) (words : ℕ → ℕ) → Small (onFault o k words)
 unfolding Numbers.FaultIn
-fault-small past few none p k words = steps-small k words
-fault-small past few (some b) p k words = omega arith
+broken-small past few none p k words = steps-small k words
+broken-small past few (some b) p k words = omega arith
 
 module _ (hb pb : List ℕ) (mode : Mode) where
   by-case : (r : PairRead) → Case hb pb r → Small (onPair pb mode r)
@@ -55,7 +55,7 @@ module _ (hb pb : List ℕ) (mode : Mode) where
   by-case (pair x) (holds h) =
       let t = tablesIn pb mode x in
       let few = read-known pb (statesOf x) (x .sets) (x .relations) (x .root-bit) (x .derivation) (h .proof-read) .nodes-most in
-      fault-small (0 + nodes (x .derivation)) (omega arith) (firstFault t (x .derivation) (x .statement) 0)
+      broken-small (0 + nodes (x .derivation)) (omega arith) (firstFault t (x .derivation) (x .statement) 0)
       (Numbers.fault-in t (x .derivation) (x .statement) 0) (stepsOf x) (tableWords pb mode x)
 
   pub bounded : (words : ℕ) → Bounded (answer hb pb mode words .verdict)

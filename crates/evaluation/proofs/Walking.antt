@@ -129,7 +129,9 @@ module _ (table : List ℕ) (n : ℕ) (m : Machine) (levels i : ℕ) where
         pub walked-right : nothingKind ≤ right .kind → Walked n m levels right (exprFrom levels table i)
         walked-right past =
             rw step (record {
-              each = λ s l. no-value right past s ∙ rw (sym (second .each s l) ∙ no-value right past s, both-none (apply o) (value m (exprFrom (levels - 1) table (i + 1)) s));
+              each =
+                  λ s l. no-value right past s
+                  ∙ rw (sym (second .each s l) ∙ no-value right past s, both-none (apply o) (value m (exprFrom (levels - 1) table (i + 1)) s));
               small = λ s l. omega (arith, doubled-step leafBound levels more, second .small s l);
             })
 

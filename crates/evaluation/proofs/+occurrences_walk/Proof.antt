@@ -44,7 +44,10 @@ abbrev OperationRead : ℕ → Type 0
 OperationRead t = lts.Else3 (callees t) (now-at t) walk.Post
 
 last : (t : ℕ) (c : OperationRead t) → let a = c .before .before .before .before .before .before .before .args in 3 ≤ termIn (a .exprs .now) (a .i) .tag
-last t c = rw (c .before .before .before .before .term-at .ensures) at (let tag : 3 ≤ c .before .before .before .before .term-at .result .tag = omega (arith, c .before .before .if2 .left, c .if3 .left) in tag)
+last t c =
+    let read = c .before .before .before .before .term-at in
+    let tag : 3 ≤ read .result .tag = omega (arith, c .before .before .if2 .left, c .if3 .left) in
+    rw (read .ensures) at tag
 
 returns : (t : ℕ) → lts.Need-returns (callees t) (now-at t) walk.Post
 returns t c = no-level _ _ _ _ (c .if1 .taken)
@@ -65,7 +68,8 @@ add-operands t c =
 both-returns : (t : ℕ) → lts.Need-returns-4 (callees t) (now-at t) walk.Post
 both-returns t c =
     let k = c .before .before .before .before .before .before in
-    both-occur _ _ _ _ (more t k) (last t (c .before .before .before)) _ _ (c .before .before .occurrences-walk .ensures) (rw (k .before .term-at .ensures) at (c .occurrences-walk2 .ensures))
+    both-occur _ _ _ _ (more t k) (last t (c .before .before .before)) _ _ (c .before .before .occurrences-walk .ensures)
+    (rw (k .before .term-at .ensures) at (c .occurrences-walk2 .ensures))
 
 pub +occurrences-walk-spec : {M : Type 1} → statement M
 +occurrences-walk-spec = close μ-walk λ t. lts.spec (callees t) (now-at t) walk.Post

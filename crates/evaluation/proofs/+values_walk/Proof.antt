@@ -40,22 +40,35 @@ callees t = (
   apply-op-reads.Learnt,
 )
 
--- The node is read.
+-- The points of the walk: the node is read; it is an operation; its operands are walked.
 abbrev TermRead : ℕ → Type 0
 TermRead t = lts.After-struct-known (callees t) (now-at t) values-walk.Post
 
 more : (t : ℕ) (c : TermRead t) → 0 < c .before .before .before .before .args .levels
 more t c = pos-of-ne-zero (c .before .before .if1 .left)
 
--- It is an operation.
-last : (t : ℕ) (c : lts.Else2 (callees t) (now-at t) values-walk.Post) → let a = c .before .before .before .before .before .args in 3 ≤ termIn (a .exprs .now) (a .i) .tag
+abbrev OperationRead : ℕ → Type 0
+OperationRead t = lts.Else2 (callees t) (now-at t) values-walk.Post
+
+abbrev RightWalked : ℕ → Type 0
+RightWalked t = lts.After-values-walk2 (callees t) (now-at t) values-walk.Post
+
+abbrev start : (t : ℕ) → OperationRead t → lts.Start (callees t) (now-at t) values-walk.Post
+start t c = c .before .before .before .before .before
+
+abbrev operation-of : (t : ℕ) → RightWalked t → OperationRead t
+operation-of t c = c .before .before .before .before .before
+
+last : (t : ℕ) (c : OperationRead t) → let a = start t c .args in 3 ≤ termIn (a .exprs .now) (a .i) .tag
 last t c = rw (c .before .before .term-at .ensures) at (c .if2 .left)
 
 inside : (t : ℕ) → lts.Need-add-values-walk (callees t) (now-at t) values-walk.Post
 inside t c = omega (arith, operation-inside _ _ (last t c))
 
 leaf-requires : (t : ℕ) → lts.Need-leaf-row-requires (callees t) (now-at t) values-walk.Post
-leaf-requires t c κs = let a = c .before .before .before .before .before in (a .pre .1 .0, c .if2 .taken, rw (c .before .before .term-at .ensures) (value-small (a .args .exprs .now) (a .args .i)))
+leaf-requires t c κs =
+    let a = c .before .before .before .before .before in
+    (a .pre .1 .0, c .if2 .taken, rw (c .before .before .term-at .ensures) (value-small (a .args .exprs .now) (a .args .i)))
 
 returns : (t : ℕ) → lts.Need-returns (callees t) (now-at t) values-walk.Post
 returns t c = walked-out _ _ _ _ _ (c .nothing .result) (c .before .if1 .taken) (c .nothing .ensures)
@@ -71,29 +84,32 @@ left-returns t c =
     walked-left _ _ _ _ _ (more t (k .before)) (last t k) _ (c .before .before .values-walk .ensures) (c .if3 .taken)
 
 -- The right operand, as the code walks it.
-second : (t : ℕ) (c : lts.After-values-walk2 (callees t) (now-at t) values-walk.Post) → let a = c .before .before .before .before .before .before .before .before .before .before .args in
+second : (t : ℕ) (c : RightWalked t) → let a = start t (operation-of t c) .args in
     Walked (a .n) (machineIn (a .head)) (a .levels - 1) (c .values-walk2 .result) (exprFrom (a .levels - 1) (a .exprs .now) (termIn (a .exprs .now) (a .i) .right))
 second t c = rw (c .before .before .before .before .before .before .before .term-at .ensures) at (c .values-walk2 .ensures)
 
 right-returns : (t : ℕ) → lts.Need-returns-4 (callees t) (now-at t) values-walk.Post
 right-returns t c =
-    let k = c .before .before .before .before .before .before .before in
-    walked-right _ _ _ _ _ (more t (k .before)) (last t k) _ (c .before .before .before .before .before .before .values-walk .ensures) _ (second t (c .before .before)) (c .if4 .taken)
+    let r = c .before .before in
+    let k = operation-of t r in
+    walked-right _ _ _ _ _ (more t (k .before)) (last t k) _ (r .before .before .before .before .values-walk .ensures) _ (second t r) (c .if4 .taken)
 
 apply-requires : (t : ℕ) → lts.Need-apply-op-requires (callees t) (now-at t) values-walk.Post
 apply-requires t c κs =
-    let k = c .before .before .before .before .before .before .before in
-    let a = k .before .before .before .before .before in (
+    let r = c .before .before in
+    let k = operation-of t r in
+    let a = start t k in (
       rw (a .pre .1 .0) (states-most (a .args .head)),
       c .before .before .before .before .if3 .left,
       c .if4 .left,
-      operands-small _ _ _ _ _ (more t (k .before)) (last t k) _ (c .before .before .before .before .before .before .values-walk .ensures) _ (second t (c .before .before)) (a .pre .1 .1),
+      operands-small _ _ _ _ _ (more t (k .before)) (last t k) _ (r .before .before .before .before .values-walk .ensures) _ (second t r) (a .pre .1 .1),
     )
 
 op-returns : (t : ℕ) → lts.Need-returns-5 (callees t) (now-at t) values-walk.Post
 op-returns t c =
-    let k = c .before .before .before .before .before .before .before .before in
-    walked-both _ _ _ _ _ (more t (k .before)) (last t k) _ (c .before .before .before .before .before .before .before .values-walk .ensures) _ (second t (c .before .before .before)) _
+    let r = c .before .before .before in
+    let k = operation-of t r in
+    walked-both _ _ _ _ _ (more t (k .before)) (last t k) _ (r .before .before .before .before .values-walk .ensures) _ (second t r) _
     (rw (k .before .before .term-at .ensures) at (c .apply-op .ensures))
 
 pub +values-walk-spec : {M : Type 1} → statement M

@@ -28,7 +28,8 @@ returns c a b =
 returns-2 : tie.Need-returns-2
 returns-2 c a b =
     let s = c .before .before .before .before .before .before .before in
-    truth-row (s .args .n) (machineIn (s .args .head)) (s .args .term) (c .truths-of .result) a b (c .before .always .result) (most s) (c .before .before .before .if2 .taken) (c .before .always .ensures) (c .truths-of .ensures)
+    truth-row (s .args .n) (machineIn (s .args .head)) (s .args .term) (c .truths-of .result) a b (c .before .always .result) (most s)
+    (c .before .before .before .if2 .taken) (c .before .always .ensures) (c .truths-of .ensures)
 
 variable-row-requires : tie.Need-variable-row-requires
 variable-row-requires c κs =
@@ -40,7 +41,8 @@ returns-3 c a b =
     let s = c .before .before .before .before .before .before .before in
     let is : s .args .term .tag ≡ 2 = omega (arith, s .pre, c .before .before .before .if2 .left, c .before .before .before .before .before .if1 .left) in
     variable-row (s .args .n) (machineIn (s .args .head)) (s .args .term) (c .integers-of2 .result) a b (c .before .variable-row .result) is
-    (variable-values _ _ _ _ (c .before .variable-row .result) (c .before .before .variable-of .ensures) (s .pre .0) (c .before .variable-row .ensures)) (c .integers-of2 .ensures)
+    (variable-values _ _ _ _ (c .before .variable-row .result) (c .before .before .variable-of .ensures) (s .pre .0) (c .before .variable-row .ensures))
+    (c .integers-of2 .ensures)
 
 pub leaf-row-spec : {M : Type 1} → statement M
 leaf-row-spec =

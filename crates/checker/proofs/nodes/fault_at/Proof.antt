@@ -18,7 +18,7 @@ returns c =
     let first = c .before .before .before .before .node-at2 .ensures ∙ ap (nodeIn (a .nodes .now)) (add-one (a .i)) in
     let second = c .before .before .node-at3 .ensures ∙ ap (λ x. nodeIn (a .nodes .now) (x .after)) node in
     c .node-fault .ensures
-    ∙ (λ j. faultOf (firstBroken (obligationsIn (a .handler .now) (a .head) (a .work .now) (node j) (c .before .statement-at .ensures j) (first j) (second j))))
+    ∙ (λ j. faultOf (firstBroken (obligationsIn (a .exprs .now) (a .head) (a .work .now) (node j) (c .before .statement-at .ensures j) (first j) (second j))))
 
 pub fault-at-spec : {M : Type 1} → statement M
 fault-at-spec =

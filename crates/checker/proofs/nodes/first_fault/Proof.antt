@@ -10,11 +10,11 @@ use Rattle.checker.proofs.nodes.first_fault.Statement.{statement}
 use Rattle.checker.proofs.nodes.first_fault.Tie as tie
 
 abbrev Inv-loop : tie.InvT-loop
-Inv-loop handler head work nodes statements count s₀ i₀ s i =
-    (i ≤ count) × (s ≤ i) × (faultsFrom handler head work nodes statements count 0 0 ≡ faultsFrom handler head work nodes statements (count - i) i s)
+Inv-loop exprs head work nodes statements count s₀ i₀ s i =
+    (i ≤ count) × (s ≤ i) × (faultsFrom exprs head work nodes statements count 0 0 ≡ faultsFrom exprs head work nodes statements (count - i) i s)
 
 abbrev μ-loop : tie.MeasureT-loop
-μ-loop handler head work nodes statements count s₀ i₀ s i = count - i
+μ-loop exprs head work nodes statements count s₀ i₀ s i = count - i
 
 loop-holds : tie.Need-loop-holds Inv-loop μ-loop
 loop-holds c =
