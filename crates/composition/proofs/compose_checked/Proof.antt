@@ -25,7 +25,7 @@ first-is : (c : tie.After-check) → let a = start c .args in c .check .result �
 first-is c =
     let a = start c .args in c .check .ensures .0 ∙ ap (λ m. answer (a .h1 .now) (a .p1 .now) m (length (a .work .now)) .verdict) (told c .rows .ensures)
 
-first-words : (c : tie.After-check) → written (λ j. 0) (c .check .last .1 .1 .0) ≡ written (λ j. 0) (start c .args .work .now)
+first-words : (c : tie.After-check) → written (λ j. 0) (c .check .last .1 .1 .1 .0) ≡ written (λ j. 0) (start c .args .work .now)
 first-words c = ap (written (λ j. 0)) (c .check .ensures .1 .0) ∙ cleared-after _ _ _ _
 
 -- The second.
@@ -36,7 +36,7 @@ second-is c =
     c .check2 .ensures .0
     ∙ (λ i. answer (a .h2 .now) (a .p2 .now) (told one .rows .ensures i) (c .before .before .before .before .before .before .work .given i) .verdict)
 
-second-words : (c : tie.After-check2) → written (λ j. 0) (c .check2 .last .1 .1 .0) ≡ written (λ j. 0) (start (firstCheck c) .args .work .now)
+second-words : (c : tie.After-check2) → written (λ j. 0) (c .check2 .last .1 .1 .1 .0) ≡ written (λ j. 0) (start (firstCheck c) .args .work .now)
 second-words c = ap (written (λ j. 0)) (c .check2 .ensures .1 .0) ∙ cleared-after _ _ _ _ ∙ first-words (firstCheck c)
 
 compose-accepted-requires : tie.Need-compose-accepted-requires
