@@ -6,6 +6,7 @@ use checker::WORK_WORDS;
 use children::put_child;
 use derivation::table::node_at;
 use handler::head::Head;
+use handler::terms::MOST_TERMS;
 use naming::put_state;
 use naming::put_states;
 use pair::load_pair;
@@ -46,14 +47,15 @@ fn put_node(
     node: u32,
     states: Named,
 ) -> usize {
+    let mut exprs = [0u32; MOST_TERMS];
     let mut work = [0u64; WORK_WORDS];
-    let file = load_pair(handler, proof, rows(), &mut work);
+    let file = load_pair(handler, proof, rows(), &mut exprs, &mut work);
     let head = file.head;
     let statements = file.statements;
     let nodes = file.nodes;
     let at = put_states(out, at, head, number, states);
     let at = put_child(out, at, head.states, &work, &nodes, number, node);
-    put_statement(out, at, handler, head.count, &statements, &nodes, node)
+    put_statement(out, at, &exprs, &statements, &nodes, node)
 }
 
 fn put_fault(out: &mut [u8], handler: &[u8], proof: &[u8], fault: Fault) -> usize {

@@ -2,7 +2,6 @@
 use crate::text::put;
 use crate::text::put_if;
 use crate::text::put_number;
-use bits::Field;
 use checker::nodes::statement_of;
 use derivation::MOST_NODES;
 use handler::ASSIGNMENT;
@@ -11,17 +10,15 @@ use handler::MOST_STATEMENTS;
 use handler::NIL;
 use handler::PARALLEL;
 use handler::SEQUENCE;
-use handler::expressions::EXPR_LEVELS;
-use handler::expressions::ExprHead;
-use handler::expressions::expr_head_at;
 use handler::table::Statement;
 use handler::table::statement_at;
+use handler::terms::INTEGER;
+use handler::terms::TRUTH;
+use handler::terms::VARIABLE;
+use handler::terms::term_at;
 
-// How far the text of an expression has been put: the bit after what was read, and the place in the buffer.
-struct Printed {
-    next: usize,
-    at: usize,
-}
+// An expression has at most 31 nodes, and so no more levels.
+const LEVELS: u32 = 31;
 
 fn put_operation(out: &mut [u8], at: usize, o: u32) -> usize {
     match o {
@@ -35,19 +32,13 @@ fn put_operation(out: &mut [u8], at: usize, o: u32) -> usize {
     }
 }
 
-// Puts an integer constant of 8 bits, in two's complement, which follow the tag of 2 bits at a cursor.
-fn put_integer(out: &mut [u8], at: usize, src: &[u8], cursor: usize) -> usize {
-    let Field::Value(n, _) = bits::read(src, std::num::wrapping_add_usize(cursor, 2), 8) else {
-        return at;
-    };
-    if n < 128 {
-        return put_number(out, at, n);
-    }
-    if n > 256 {
-        return at;
+// Puts an integer constant, given by its 16 bits in two's complement.
+fn put_integer(out: &mut [u8], at: usize, value: u32) -> usize {
+    if value < 32768 {
+        return put_number(out, at, value as u64);
     }
     let at = put(out, at, b"-");
-    put_number(out, at, 256 - n)
+    put_number(out, at, (65536 - value % 65536) as u64)
 }
 
 fn put_truth(out: &mut [u8], at: usize, b: bool) -> usize {
@@ -63,44 +54,33 @@ fn put_variable(out: &mut [u8], at: usize, v: u32) -> usize {
     put_number(out, at, v as u64)
 }
 
-// Puts the expression at a cursor of a file with `count` variables; an operation is in brackets if they are wanted, and its operands are.
+// Puts the expression whose first node is number i, and returns where its text ends. An operation is in brackets if they are wanted, and its
+// operands are.
 fn put_expr(
-    src: &[u8],
-    count: u32,
+    exprs: &[u32],
     levels: u32,
-    cursor: usize,
+    i: usize,
     brackets: bool,
     out: &mut [u8],
     at: usize,
-) -> Printed {
+) -> usize {
     if levels == 0 {
-        return Printed { next: cursor, at };
+        return at;
     }
-    let head = expr_head_at(src, count, 0, cursor);
-    match head {
-        ExprHead::Integer(_, next) => Printed {
-            next,
-            at: put_integer(out, at, src, cursor),
-        },
-        ExprHead::Truth(b, next) => Printed {
-            next,
-            at: put_truth(out, at, b),
-        },
-        ExprHead::Variable(v, next) => Printed {
-            next,
-            at: put_variable(out, at, v),
-        },
-        ExprHead::Operation(o, next) => {
+    let term = term_at(exprs, i);
+    let tag = term.tag;
+    match tag {
+        INTEGER => put_integer(out, at, term.value),
+        TRUTH => put_truth(out, at, term.value == 1),
+        VARIABLE => put_variable(out, at, term.value),
+        _ => {
             let from = put_if(out, at, brackets, b"(");
-            let left = put_expr(src, count, levels - 1, next, true, out, from);
-            let middle = put_operation(out, left.at, o);
-            let right = put_expr(src, count, levels - 1, left.next, true, out, middle);
-            Printed {
-                next: right.next,
-                at: put_if(out, right.at, brackets, b")"),
-            }
+            let left = std::num::wrapping_add_usize(i, 1);
+            let middle = put_expr(exprs, levels - 1, left, true, out, from);
+            let middle = put_operation(out, middle, term.value);
+            let end = put_expr(exprs, levels - 1, term.right as usize, true, out, middle);
+            put_if(out, end, brackets, b")")
         }
-        ExprHead::Fault(_, place) => Printed { next: place, at },
     }
 }
 
@@ -108,16 +88,15 @@ fn put_expr(
 fn put_test(
     out: &mut [u8],
     at: usize,
-    handler: &[u8],
-    count: u32,
-    expr: usize,
+    exprs: &[u32],
+    expr: u32,
     word: &[u8],
     then: &[u8],
     body: u64,
 ) -> usize {
     let at = put(out, at, word);
-    let test = put_expr(handler, count, EXPR_LEVELS, expr, true, out, at);
-    let at = put(out, test.at, then);
+    let end = put_expr(exprs, LEVELS, expr as usize, true, out, at);
+    let at = put(out, end, then);
     put_number(out, at, body)
 }
 
@@ -130,7 +109,7 @@ fn put_parts(out: &mut [u8], at: usize, word: &[u8], first: u64, second: u32) ->
 }
 
 // Puts the text of statement j; its parts are given by their numbers.
-fn put_text(out: &mut [u8], at: usize, handler: &[u8], count: u32, j: u32, s: Statement) -> usize {
+fn put_text(out: &mut [u8], at: usize, exprs: &[u32], j: u32, s: Statement) -> usize {
     let body = j as u64 + 1;
     let code = s.code;
     let expr = s.expr;
@@ -139,16 +118,14 @@ fn put_text(out: &mut [u8], at: usize, handler: &[u8], count: u32, j: u32, s: St
         ASSIGNMENT => {
             let at = put_variable(out, at, s.target);
             let at = put(out, at, b" := ");
-            let value = put_expr(handler, count, EXPR_LEVELS, expr, false, out, at);
-            value.at
+            put_expr(exprs, LEVELS, expr as usize, false, out, at)
         }
         SEQUENCE => put_parts(out, at, b"sequence of statements ", body, s.after),
         PARALLEL => put_parts(out, at, b"parallel of statements ", body, s.after),
         IF => put_test(
             out,
             at,
-            handler,
-            count,
+            exprs,
             expr,
             b"if ",
             b" then statement ",
@@ -157,8 +134,7 @@ fn put_text(out: &mut [u8], at: usize, handler: &[u8], count: u32, j: u32, s: St
         _ => put_test(
             out,
             at,
-            handler,
-            count,
+            exprs,
             expr,
             b"while ",
             b" do statement ",
@@ -171,8 +147,7 @@ fn put_text(out: &mut [u8], at: usize, handler: &[u8], count: u32, j: u32, s: St
 pub(crate) fn put_statement(
     out: &mut [u8],
     at: usize,
-    handler: &[u8],
-    count: u32,
+    exprs: &[u32],
     statements: &[u64; MOST_STATEMENTS],
     nodes: &[u64; MOST_NODES],
     node: u32,
@@ -182,6 +157,6 @@ pub(crate) fn put_statement(
     let at = put(out, at, b"statement ");
     let at = put_number(out, at, j as u64);
     let at = put(out, at, b": ");
-    let at = put_text(out, at, handler, count, j, statement);
+    let at = put_text(out, at, exprs, j, statement);
     put(out, at, b"\n")
 }

@@ -8,8 +8,9 @@ use native.Mathlib.Omega.{arith}
 use lib.Dec.{ltb}
 use borrow.Author.Tests.{lt-ltb, le-ltb}
 use Rattle.states.specs.Sets.{capacity}
-use Rattle.semantics.specs.Checking.{statesNamed}
-use Rattle.semantics.proofs.Naming.{Named, nothing, state, few-named}
+use Rattle.semantics.specs.Facts.{statesNamed}
+use Rattle.semantics.proofs.Facts.{few-named}
+use Rattle.semantics.proofs.Naming.{Named, nothing, state}
 use Rattle.pair.specs.declared.Mode.{Mode}
 use Rattle.checker.specs.Verdicts.{refusedAt, answer, AcceptedIsSound}
 use Rattle.checker.specs.declared.Place.{Place}
@@ -63,8 +64,8 @@ unfolding withoutStates
 accepted-alike hb pb mode (Accepted n) sound = sound
 accepted-alike hb pb mode (Refused f) sound = record { sound = λ k e. absurd (let z : _≡_ {A = ℕ} 0 1 = cc in omega arith) }
 
--- The parts of the number of up to three states below 64.
-fields : (count s t u : ℕ) → s < 64 → t < 64 → u < 64 → (code : ℕ) → code ≡ count * 2 ^ 24 + s + 2 ^ 8 * t + 2 ^ 16 * u
+-- The parts of the number of up to three states that a set can hold.
+fields : (count s t u : ℕ) → s < capacity → t < capacity → u < capacity → (code : ℕ) → code ≡ count * 2 ^ 24 + s + 2 ^ 8 * t + 2 ^ 16 * u
     → (code / 2 ^ 24 ≡ count) × (code % 2 ^ 8 ≡ s) × (code / 2 ^ 8 % 2 ^ 8 ≡ t) × (code / 2 ^ 16 % 2 ^ 8 ≡ u)
 fields count s t u low low′ low″ code e = (omega arith, omega arith, omega arith, omega arith)
 

@@ -1,6 +1,5 @@
 -- docs/FAULTS.md: of each number that a check gives, where its place is and how many states it names.
 use Prim.Native.Nat.{ℕ}
-use mathlib.Core.Bool.{Bool, true, false}
 use mathlib.Core.List.{List, [], _∷_}
 use lib.ListN.{getD}
 use Rattle.semantics.specs.declared.Where.{Where}
@@ -17,10 +16,10 @@ fact place states = record { place = place; states = states }
 abbrev pub noPlace : Fact
 noPlace = fact Nowhere 0
 
-abbrev inHandler : Fact
+abbrev pub inHandler : Fact
 inHandler = fact HandlerBit 0
 
-abbrev inProof : Fact
+abbrev pub inProof : Fact
 inProof = fact ProofBit 0
 
 -- A condition that names so many states, and 80.

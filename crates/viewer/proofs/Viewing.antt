@@ -6,12 +6,15 @@ use native.Mathlib.Omega.{arith}
 use lib.Dec.{ltb, eqb}
 use lib.ListN.{length}
 use Rattle.bits.proofs.Places.{either}
+use Rattle.semantics.specs.declared.Where.{Where}
+use Rattle.semantics.specs.declared.Where.the-variants as place
+use Rattle.semantics.specs.Facts.{placeOf}
 use Rattle.checker.specs.declared.Place.{Place}
 use Rattle.checker.specs.declared.Place.the-variants.{Bit, Node}
 use Rattle.viewer.specs.declared.File.{File}
 use Rattle.viewer.specs.declared.File.the-variants.{Handler, Proof}
 use Rattle.viewer.specs.declared.Location.{Location}
-use Rattle.viewer.specs.View.{withHandlerBit, withProofBit, withNode, firstBitsOf, byteOf, nodeByte, locationOf, fileIn, locationByKind, fileNumber, locationNumber, viewOf}
+use Rattle.viewer.specs.View.{firstBitsOf, byteOf, nodeByte, bitShown, nodeShown, locationOf, fileIn, locationByKind, fileNumber, locationNumber, viewOf}
 
 module _ (hb pb : List ℕ) where
   abbrev pub Inside : Location → Type 0
@@ -24,11 +27,22 @@ module _ (hb pb : List ℕ) where
   unfolding nodeByte
   node-inside bits j = either (λ i. i ≤ length pb) (ltb j (length bits)) _ _ (byte-inside pb _) (omega arith)
 
+  bit-inside : (w : Where) (i : ℕ) → Inside (bitShown hb pb w i)
+  bit-inside place.HandlerBit i = byte-inside hb i
+  bit-inside place.ProofBit i = byte-inside pb i
+  bit-inside place.Node i = omega arith
+  bit-inside place.Nowhere i = omega arith
+
+  at-node-inside : (w : Where) (j : ℕ) → Inside (nodeShown hb pb w j)
+  at-node-inside place.Node j = node-inside (firstBitsOf hb pb) j
+  at-node-inside place.HandlerBit j = omega arith
+  at-node-inside place.ProofBit j = omega arith
+  at-node-inside place.Nowhere j = omega arith
+
   pub location-inside : (k : ℕ) (place : Place) → Inside (locationOf hb pb k place)
   unfolding locationOf
-  location-inside k (Bit i) =
-      either Inside (withHandlerBit k) _ _ (byte-inside hb i) (either Inside (withProofBit k) _ _ (byte-inside pb i) (omega arith))
-  location-inside k (Node j) = either Inside (withNode k) _ _ (node-inside (firstBitsOf hb pb) j) (omega arith)
+  location-inside k (Bit i) = bit-inside (placeOf k) i
+  location-inside k (Node j) = at-node-inside (placeOf k) j
 
   pub inside-by-kind : (k kind place : ℕ) → Inside (locationByKind hb pb k kind place)
   unfolding locationByKind

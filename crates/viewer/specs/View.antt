@@ -1,11 +1,14 @@
 -- Where a refusal is shown: in which of the two files, and from which byte on. A bit is shown from the byte that holds it, a node
 -- from the byte in which its rule code begins. Where no bytes are shown, the index is the file's length.
 use Prim.Native.Nat.{ℕ, _+_, _*_, _/_, _^_, min}
-use mathlib.Core.Bool.{Bool, cond, _&&_, _||_}
+use mathlib.Core.Bool.{cond}
 use mathlib.Core.List.{List, [], _∷_, _++_}
-use lib.Dec.{leb, ltb, eqb}
+use lib.Dec.{ltb, eqb}
 use lib.ListN.{length, getD, drop}
 use Rattle.semantics.specs.Derivations.{Derivation, skip, assignment, sequence, parallel, conditional, iteration, weaken}
+use Rattle.semantics.specs.declared.Where.{Where}
+use Rattle.semantics.specs.declared.Where.the-variants as place
+use Rattle.semantics.specs.Facts.{placeOf}
 use Rattle.derivation.specs.NodeTable.{nodeBits}
 use Rattle.pair.specs.Reading.{PairRead, pair, faulty, long, readPair}
 use Rattle.checker.specs.declared.Place.{Place}
@@ -13,22 +16,6 @@ use Rattle.checker.specs.declared.Place.the-variants.{Bit, Node}
 use Rattle.viewer.specs.declared.File.{File}
 use Rattle.viewer.specs.declared.File.the-variants.{Handler, Proof}
 use Rattle.viewer.specs.declared.Location.{Location}
-
--- Whether a number is in a range, its ends included.
-abbrev pub between : ℕ → ℕ → ℕ → Bool
-between least most k = leb least k && leb k most
-
--- The numbers that a check gives with a bit of the handler file, with a bit of the proof file, and with a node.
-abbrev pub withHandlerBit : ℕ → Bool
-withHandlerBit k = between 10 18 k
-
-abbrev pub withProofBit : ℕ → Bool
-withProofBit k = between 20 25 k
-
-abbrev pub withNode : ℕ → Bool
-withNode k =
-    between 30 38 k || between 41 43 k || between 45 46 k || between 50 57 k
-    || between 60 61 k || between 65 66 k || between 70 73 k || between 80 80 k
 
 -- The first bits of a derivation's nodes, in file order, where the root begins at a bit: a node has 19 bits, a while 27, and then
 -- come its children.
@@ -64,13 +51,23 @@ abbrev pub nothingOf : List ℕ → Location
 nothingOf hb = record { file = Handler; index = length hb }
 
 module _ (hb pb : List ℕ) where
-  -- Where a number with a place is shown. A number that no check gives with this kind of place, 1 and 2 among them, shows nothing
-  -- of the handler file.
+  -- Where a number with a bit is shown, and one with a node, by where the place of the number is. A number that no check gives with this kind
+  -- of place, 1 and 2 among them, shows nothing of the handler file.
+  abbrev pub bitShown : Where → ℕ → Location
+  bitShown place.HandlerBit i = record { file = Handler; index = byteOf hb i }
+  bitShown place.ProofBit i = record { file = Proof; index = byteOf pb i }
+  bitShown place.Node i = nothingOf hb
+  bitShown place.Nowhere i = nothingOf hb
+
+  abbrev pub nodeShown : Where → ℕ → Location
+  nodeShown place.Node j = record { file = Proof; index = nodeByte pb (firstBitsOf hb pb) j }
+  nodeShown place.HandlerBit j = nothingOf hb
+  nodeShown place.ProofBit j = nothingOf hb
+  nodeShown place.Nowhere j = nothingOf hb
+
   unfoldable pub locationOf : ℕ → Place → Location
-  locationOf k (Bit i) =
-      cond (withHandlerBit k) (record { file = Handler; index = byteOf hb i })
-      (cond (withProofBit k) (record { file = Proof; index = byteOf pb i }) (nothingOf hb))
-  locationOf k (Node j) = cond (withNode k) (record { file = Proof; index = nodeByte pb (firstBitsOf hb pb) j }) (nothingOf hb)
+  locationOf k (Bit i) = bitShown (placeOf k) i
+  locationOf k (Node j) = nodeShown (placeOf k) j
 
   abbrev pub fileIn : File → List ℕ
   fileIn Handler = hb

@@ -1,15 +1,13 @@
 // Shows a refusal: which of the two files it is about, and the bytes of that file from its place on.
 use checker::Place;
-use derivation::codes::PROOF_FILL;
-use derivation::codes::PROOF_MISSING;
-use handler::codes::FILL;
-use handler::codes::MISSING;
 use nodes::node_byte;
+use semantics::Where;
+use semantics::place_of;
 ghost use mathlib.Core.Path.{_≡_};
 ghost use Prim.Native.Nat.{_≤_, _<_, _^_};
 ghost use lib.ListN.{length, drop};
 ghost use Rattle.checker.specs.declared.Place.the-variants.{Bit, Node};
-ghost use Rattle.viewer.specs.View.{between, withNode, nothingOf, byteOf, locationOf, viewed, locationByKind, locationNumber, viewOf};
+ghost use Rattle.viewer.specs.View.{nothingOf, byteOf, locationOf, viewed, locationByKind, locationNumber, viewOf};
 
 mod nodes;
 
@@ -32,27 +30,6 @@ const NODE: u32 = 1;
 
 // What the number of the proof file adds to an index.
 const PROOF_FILE: u64 = 4294967296;
-
-// Whether a number is in a range, its ends included.
-fn between(least: u32, most: u32, number: u32) -> bool
-    ensures { λ r. ⌜ r ≡ between least most number ⌝ }
-{
-    (least <= number) & (number <= most)
-}
-
-// Whether a check gives a number with a node.
-fn with_node(number: u32) -> bool
-    ensures { λ r. ⌜ r ≡ withNode number ⌝ }
-{
-    between(30, 38, number)
-        | between(41, 43, number)
-        | between(45, 46, number)
-        | between(50, 57, number)
-        | between(60, 61, number)
-        | between(65, 66, number)
-        | between(70, 73, number)
-        | between(80, 80, number)
-}
 
 // A file from an index on.
 fn from(file: File, index: usize) -> Location
@@ -82,23 +59,24 @@ pub(crate) fn byte_of(file: &[u8], bit: usize) -> usize
 fn locate_bit(handler: &[u8], proof: &[u8], number: u32, bit: usize) -> Location
     ensures { λ r. ⌜ r ≡ locationOf (now (handler .entry)) (now (proof .entry)) number (Bit bit) ⌝ }
 {
-    if between(MISSING, FILL, number) {
-        return from(File::Handler, byte_of(handler, bit));
+    match place_of(number) {
+        Where::HandlerBit => from(File::Handler, byte_of(handler, bit)),
+        Where::ProofBit => from(File::Proof, byte_of(proof, bit)),
+        Where::Node => nothing_of(handler),
+        Where::Nowhere => nothing_of(handler),
     }
-    if between(PROOF_MISSING, PROOF_FILL, number) {
-        return from(File::Proof, byte_of(proof, bit));
-    }
-    nothing_of(handler)
 }
 
 // Where a number with a node is shown.
 fn locate_node(handler: &[u8], proof: &[u8], number: u32, node: usize) -> Location
     ensures { λ r. ⌜ r ≡ locationOf (now (handler .entry)) (now (proof .entry)) number (Node node) ⌝ }
 {
-    if with_node(number) {
-        return from(File::Proof, node_byte(handler, proof, node));
+    match place_of(number) {
+        Where::Node => from(File::Proof, node_byte(handler, proof, node)),
+        Where::HandlerBit => nothing_of(handler),
+        Where::ProofBit => nothing_of(handler),
+        Where::Nowhere => nothing_of(handler),
     }
-    nothing_of(handler)
 }
 
 // Where a refusal is shown: the file, and the index of the first byte.
