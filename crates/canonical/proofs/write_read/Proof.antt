@@ -1,5 +1,6 @@
 -- The length is that of the form; what is put into cleared bytes is the form, and the bytes past it stay.
 use Prim.Native.Nat.{_+_, _*_, _/_, min}
+use mathlib.Core.List.{List}
 use mathlib.Core.Path.{_≡_, sym, _∙_, ap, ap₂}
 use native.Mathlib.Nat.{min-eq-left}
 use native.Mathlib.Omega.{arith}
@@ -7,87 +8,98 @@ use borrow.Author.Needs.{needs}
 use lib.ListN.{length, take, drop}
 use Rattle.writer.specs.Packing.{widthOf, putParts}
 use Rattle.writer.proofs.Copied.{cleared-within}
-use Rattle.semantics.specs.Derivations.{nodes}
+use Rattle.semantics.specs.Derivations.{Derivation, nodes}
 use Rattle.derivation.specs.NodeTable.{nodeTable}
 use Rattle.derivation.proofs.Files.{read-known}
 use Rattle.form.specs.Members.{byMembers}
-use Rattle.form.specs.Form.{setsIn, relationsIn, numbered, partsOf, fileParts}
+use Rattle.form.specs.Form.{setsIn, relationsIn, numbered, partsOf, fileParts, formOf}
 use Rattle.form.proofs.FileRead.{states-least, states-most}
 use Rattle.canonical.specs.Nodes.{heldIn}
-use Rattle.canonical.specs.Refinement.{Numbers, partsIn}
+use Rattle.canonical.specs.Refinement.{Read, Numbers, partsIn}
 use Rattle.canonical.proofs.Fields.{parts-are, width-is, length-is, form-put}
 use Rattle.canonical.proofs.Outcomes.{no-room, with-room}
 use Rattle.canonical.proofs.write_read.Statement.{statement}
 use Rattle.canonical.proofs.write_read.Tie as tie
 
--- The words of the nodes are those of the derivation that was read.
-words : (c : tie.Start) →
-    take (min (c .args .head .nodes) 127) (c .args .nodes .now) ≡ take (nodes (c .pre .d)) (nodeTable (c .args .head .root) (c .pre .d))
-words c =
-    let few = read-known _ _ _ _ _ _ (c .pre .read) .nodes-most in
-    ap₂ take (min-eq-left (rw (c .pre .counted) few) ∙ c .pre .counted) (c .pre .table)
+-- The points of the code: its start, and where the tables are numbered.
+abbrev start : tie.After-number → tie.Start
+start c = c .before .before .before .before .before
 
-numbers : (c : tie.After-number) → let start = c .before .before .before .before .before in let a = start .args in
-    Numbers (a .proof .now) (a .n) (a .head .sets) (start .pre .d) (c .number .result)
-numbers c = let start = c .before .before .before .before .before in c .number .ensures (start .pre .d) (start .pre .read)
+abbrev counted : tie.After-form-bits → tie.After-number
+counted c = c .before
+
+-- The file as it was read, and its derivation by members.
+abbrev Lent : tie.Start → Type 0
+Lent s = Read (s .args .proof .now) (s .args .n) (s .args .head) (s .args .nodes .now)
+
+abbrev meaning : (s : tie.Start) → Lent s → Derivation
+meaning s x = byMembers (s .args .proof .now) (s .args .n) (s .args .head .sets) (x .d)
+
+-- The words of the nodes are those of the derivation that was read.
+words : (s : tie.Start) (x : Lent s) → take (min (s .args .head .nodes) 127) (s .args .nodes .now) ≡ take (nodes (x .d)) (nodeTable (s .args .head .root) (x .d))
+words s x =
+    let few = read-known _ _ _ _ _ _ (x .read) .nodes-most in
+    ap₂ take (min-eq-left (rw (x .counted) few) ∙ x .counted) (x .table)
+
+numbers : (c : tie.After-number) (x : Lent (start c)) → let a = start c .args in Numbers (a .proof .now) (a .n) (a .head .sets) (x .d) (c .number .result)
+numbers c x = c .number .ensures (x .d) (x .read)
 
 form-bits-requires : tie.Need-form-bits-requires
 form-bits-requires c κs =
-    (states-most _ _ _ _ _ _ (c .before .before .before .before .before .pre .read), numbers c .of-sets .most, numbers c .of-relations .most)
+    let x = start c .pre in
+    (states-most _ _ _ _ _ _ (x .read), numbers c x .of-sets .most, numbers c x .of-relations .most)
 
 -- The fields that are written, and how many bits they have.
-parts : (c : tie.After-number) → let start = c .before .before .before .before .before in let a = start .args in let x = byMembers (a .proof .now) (a .n) (a .head .sets) (start .pre .d) in
+parts : (c : tie.After-number) (x : Lent (start c)) → let a = start c .args in let m = meaning (start c) x in
     partsIn (a .proof .now) (a .n) (a .head .sets) (c .number .result) (take (min (a .head .nodes) 127) (a .nodes .now))
-    ≡ fileParts (a .n) (setsIn x) (relationsIn x) (numbered x)
-parts c =
-    let start = c .before .before .before .before .before in
-    ap (partsIn _ _ _ (c .number .result)) (words start) ∙ parts-are _ _ _ _ _ (start .pre .d) (start .pre .read) _ (numbers c)
+    ≡ fileParts (a .n) (setsIn m) (relationsIn m) (numbered m)
+parts c x = ap (partsIn _ _ _ (c .number .result)) (words (start c) x) ∙ parts-are _ _ _ _ _ (x .d) (x .read) _ (numbers c x)
 
-bits : (c : tie.After-form-bits) → let start = c .before .before .before .before .before .before in let a = start .args in let x = byMembers (a .proof .now) (a .n) (a .head .sets) (start .pre .d) in
-    c .form-bits .result ≡ widthOf (fileParts (a .n) (setsIn x) (relationsIn x) (numbered x))
-bits c =
-    let start = c .before .before .before .before .before .before in
-    let a = start .args in
-    let m = c .before .number .result in
+bits : (c : tie.After-form-bits) (x : Lent (start (counted c))) → let a = start (counted c) .args in let m = meaning (start (counted c)) x in
+    c .form-bits .result ≡ widthOf (fileParts (a .n) (setsIn m) (relationsIn m) (numbered m))
+bits c x =
+    let a = start (counted c) .args in
+    let m = counted c .number .result in
     c .form-bits .ensures .0
-    ∙ ap (λ ws. 10 + a .n * m .sets .count + a .n * a .n * m .relations .count + widthOf (heldIn partsOf ws)) (words start)
-    ∙ sym (width-is _ _ _ _ _ (start .pre .d) (start .pre .read) m (numbers (c .before)))
+    ∙ ap (λ ws. 10 + a .n * m .sets .count + a .n * a .n * m .relations .count + widthOf (heldIn partsOf ws)) (words (start (counted c)) x)
+    ∙ sym (width-is _ _ _ _ _ (x .d) (x .read) m (numbers (counted c) x))
+
+long : (f : tie.After-form-bits) (x : Lent (start (counted f))) → let s = start (counted f) in
+    (f .form-bits .result + 7) / 8 ≡ length (formOf (s .args .n) (meaning s x))
+long f x = length-is _ _ _ _ _ (x .d) (x .read) _ (numbers (counted f) x) _ (bits f x)
 
 returns : tie.Need-returns
 returns c =
-    let start = c .before .before .before .before .before .before .before .before in
     let f = c .before .before in
-    let answer = no-room _ (start .args .out .now) _
-    (length-is _ _ _ _ _ (start .pre .d) (start .pre .read) _ (numbers (f .before)) _ (bits f)) (c .before .if1 .taken) in
-    (c .refused .ensures ∙ answer .0, answer .1)
+    let out = start (counted f) .args .out .now in
+    (λ x. c .refused .ensures ∙ no-room _ out _ (long f x) (c .before .if1 .taken) .0, λ x. no-room _ out _ (long f x) (c .before .if1 .taken) .1)
 
 write-fields-requires : tie.Need-write-fields-requires
 write-fields-requires c κs =
-    let start = c .before .before .before .before .before .before .before .before .before .before .before .before .before in
     let f = c .before .before .before .before .before .before .before in
-    let read = start .pre .read in
-    let shown = read-known _ _ _ _ _ _ read in
-    let same : length (c .before .before .before .before .clear .last .0) ≡ length (start .args .out .now) = search needs in
-    let width = ap widthOf (parts (f .before)) ∙ sym (bits f) in
+    let s = start (counted f) in
+    let x = s .pre in
+    let shown = read-known _ _ _ _ _ _ (x .read) in
+    let same : length (c .before .before .before .before .clear .last .0) ≡ length (s .args .out .now) = search needs in
+    let width = ap widthOf (parts (counted f) x) ∙ sym (bits f x) in
     let enough = c .before .before .before .before .before .before .if1 .left in (
-      (states-least _ _ _ _ _ _ read, states-most _ _ _ _ _ _ read, shown .sets-most, numbers (f .before) .of-sets .most, numbers (f .before) .of-relations .most),
+      (states-least _ _ _ _ _ _ (x .read), states-most _ _ _ _ _ _ (x .read), shown .sets-most, numbers (counted f) x .of-sets .most, numbers (counted f) x .of-relations .most),
       (rw width (omega arith), rw width (omega (arith, f .form-bits .ensures .1))),
     )
 
 returns-2 : tie.Need-returns-2
 returns-2 c =
-    let start = c .before .before .before .before .before .before .before .before .before .before .before .before .before .before .before .before in
     let f = c .before .before .before .before .before .before .before .before .before .before in
-    let a = start .args in
+    let s = start (counted f) in
+    let a = s .args in
     let enough = c .before .before .before .before .before .before .before .before .before .if1 .left in
-    let is-length = length-is _ _ _ _ _ (start .pre .d) (start .pre .read) _ (numbers (f .before)) _ (bits f) in
-    let answer = with-room _ _ _ _ _ (start .pre .d) (start .pre .read) (a .out .now) _ is-length enough in
     let cleared = c .before .before .before .before .before .before .before .clear .ensures ∙ cleared-within (a .out .now) _ enough in
-    let put = form-put _ _ _ _ _ (start .pre .d) (start .pre .read) _ (numbers (f .before)) _ (drop ((f .form-bits .result + 7) / 8) (a .out .now)) is-length in (
-      answer .0,
-      c .before .before .write-fields .ensures
-          ∙ ap₂ (λ o ws. putParts o 0 (partsIn (a .proof .now) (a .n) (a .head .sets) (f .before .number .result) ws)) cleared (words start)
-          ∙ put ∙ answer .1,
+    (
+      λ x. with-room _ (a .out .now) _ (long f x) enough .0,
+      λ x. c .before .before .write-fields .ensures
+          ∙ ap₂ (λ o ws. putParts o 0 (partsIn (a .proof .now) (a .n) (a .head .sets) (counted f .number .result) ws)) cleared (words s x)
+          ∙ form-put _ _ _ _ _ (x .d) (x .read) _ (numbers (counted f) x) _ (drop ((f .form-bits .result + 7) / 8) (a .out .now)) (long f x)
+          ∙ with-room _ (a .out .now) _ (long f x) enough .1,
     )
 
 pub write-read-spec : {M : Type 1} → statement M
