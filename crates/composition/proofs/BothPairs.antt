@@ -25,7 +25,7 @@ module _ (hb pb : List ℕ) (was : WasAccepted hb pb) where
   abbrev side : Side
   side = sideOf hb pb
 
-  known : AcceptedSide hb pb (was .steps) (side .sizes) side
+  abbrev known : AcceptedSide hb pb (was .steps) (side .sizes) side
   known = accepted-side hb pb (was .words) (was .steps) (was .accepted)
 
   pub few-sizes : length (side .sizes) ≤ 4

@@ -7,14 +7,16 @@ use native.Mathlib.Omega.{arith}
 use borrow.Author.Needs.{needs}
 use lib.ListN.{length}
 use Rattle.derivation.proofs.Buffers.{length-tabulate}
-use Rattle.joint.specs.Composing.{Side, refused, plain, limited}
+use Rattle.joint.specs.Composing.{Side, Composition, plain, limited}
 use Rattle.rules.specs.Words.{wordSpec}
+use Rattle.composition.specs.declared.Composed.{Composed}
+use Rattle.composition.specs.declared.Composed.the-variants.{Refused}
 use Rattle.composition.specs.declared.numbering.SetNumbers.{SetNumbers}
 use Rattle.composition.specs.declared.numbering.RelationNumbers.{RelationNumbers}
 use Rattle.composition.specs.Refinement.{Joint, setsHeld, relationsHeld, filesOf, smallCounts, Ready}
 use Rattle.composition.proofs.Limits.{HeldSets, HeldRelations, few-tables, limited-not, names-small, limited-is}
 use Rattle.composition.proofs.Held.{held-sets, held-relations}
-use Rattle.composition.proofs.Leaving.{leaves-same, leaves-refused}
+use Rattle.composition.proofs.Leaving.{Leaves, leaves-same, leaves-refused}
 use Rattle.composition.proofs.joining.join.Statement.{statement}
 use Rattle.composition.proofs.joining.join.Tie as tie
 
@@ -77,10 +79,10 @@ module _ (c : tie.After-number-relations) (A B : Side) (ra : let a = start c .ar
       smallCounts (a .both .first) (a .both .second) (a .f .head) (a .g .head) (m .count) (k .right .count)
 
   are-sets : let a = start c .args in HeldSets (a .n) A B (a .both) (a .f) (a .g) (a .words .now) (a .others .now) ra rb m k S T S
-  are-sets = held-sets _ A B _ _ _ _ _ ra rb _ joint m k S T (setsAt c .number-sets .ensures)
+  are-sets = held-sets _ A B (start c .args .both) _ _ _ _ ra rb _ joint m k S T (setsAt c .number-sets .ensures)
 
   are-relations : let a = start c .args in HeldRelations (a .n) A B (a .both) (a .f) (a .g) (a .words .now) (a .others .now) ra rb m k S T T
-  are-relations = held-relations _ A B _ _ _ _ _ ra rb _ joint m k S T (c .number-relations .ensures)
+  are-relations = held-relations _ A B (start c .args .both) _ _ _ _ ra rb _ joint m k S T (c .number-relations .ensures)
 
   long-S : length S ≡ m .count
   unfolding setsHeld
@@ -91,12 +93,23 @@ module _ (c : tie.After-number-relations) (A B : Side) (ra : let a = start c .ar
   long-T = length-tabulate _ _
 
   -- What the counts decide.
-  files : let a = start c .args in small-of ≡ true → limited (a .first .now) (a .second .now) A B (a .both .steps)
-      ≡ filesOf (a .n) (a .first .now) (a .second .now) (a .both) (a .f) (a .g) S m T k
-  files few = limited-is _ _ _ _ _ _ _ _ ra rb _ _ _ _ are-sets are-relations long-S long-T _ _ few
+  abbrev left : Composition → Composed → List ℕ → List ℕ → Type 0
+  left = let a = start c .args in Leaves (a .hout .now) (a .pout .now)
 
-  no-files : let a = start c .args in small-of ≡ false → limited (a .first .now) (a .second .now) A B (a .both .steps) ≡ refused 0 (plain 94)
-  no-files many = limited-not _ _ _ _ _ _ _ _ ra rb _ _ _ _ are-sets are-relations long-S long-T _ _ many
+  abbrev whole : Composition
+  whole = let a = start c .args in limited (a .first .now) (a .second .now) A B (a .both .steps)
+
+  files : let a = start c .args in small-of ≡ true → (r : Composed) (H P : List ℕ)
+      → left (filesOf (a .n) (a .first .now) (a .second .now) (a .both) (a .f) (a .g) S m T k) r H P → left whole r H P
+  files few =
+      let a = start c .args in
+      leaves-same (a .hout .now) (a .pout .now) _ _ (limited-is _ _ _ (a .both) _ _ _ _ ra rb _ _ _ _ are-sets are-relations long-S long-T _ _ few)
+
+  no-files : let a = start c .args in small-of ≡ false → (r : Composed) → r ≡ Refused 0 (plain 94) → left whole r (a .hout .now) (a .pout .now)
+  no-files many =
+      let a = start c .args in
+      leaves-refused (a .hout .now) (a .pout .now) _ 0 (plain 94)
+      (limited-not _ _ _ (a .both) _ _ _ _ ra rb _ _ _ _ are-sets are-relations long-S long-T _ _ many)
 
 write-both-requires : tie.Need-write-both-requires
 write-both-requires c κs =
@@ -106,7 +119,7 @@ write-both-requires c κs =
     let few = sym (counted .is-small .ensures) ∙ c .before .before .before .before .if1 .taken in
     let x = p .first in
     let y = p .second in
-    let small = names-small _ _ _ _ _ _ _ _ x y _ _ _ _ (are-sets d _ _ x y) (are-relations d _ _ x y) (long-S d _ _ x y) (long-T d _ _ x y) [] [] few in
+    let small = names-small _ _ _ (start d .args .both) _ _ _ _ x y _ _ _ _ (are-sets d _ _ x y) (are-relations d _ _ x y) (long-S d _ _ x y) (long-T d _ _ x y) [] [] few in
     let rooms = few-tables _ _ _ _ _ _ few in
     (x .room .states-least, x .room .states-most, rooms .0, rooms .1, small, x .of-handler .placed, y .of-handler .placed)
 
@@ -115,20 +128,17 @@ returns c =
     let both = c .before .before .before .before in
     let taken = both .before .before .before .before .before in
     let d = numbered (taken .before) in
-    let a = start d .args in
     let w = both .write-both .ensures in
     let few = sym (taken .before .is-small .ensures) ∙ taken .if1 .taken in
-    let left = λ A B x y. leaves-same (a .hout .now) (a .pout .now) _ _ (files d A B x y few) _ _ _ w in
-    (λ A B x y. left A B x y .0, (λ A B x y. left A B x y .1 .0, λ A B x y. left A B x y .1 .1))
+    (λ A B x y. files d A B x y few _ _ _ w .0, (λ A B x y. files d A B x y few _ _ _ w .1 .0, λ A B x y. files d A B x y few _ _ _ w .1 .1))
 
 returns-2 : tie.Need-returns-2
 returns-2 c =
     let counted = c .before .before in
     let d = numbered counted in
-    let a = start d .args in
     let many = sym (counted .is-small .ensures) ∙ c .before .if1 .left in
-    let left = λ A B x y. leaves-refused (a .hout .now) (a .pout .now) _ 0 (plain 94) (no-files d A B x y many) _ (c .refused .ensures) in
-    (λ A B x y. left A B x y .0, (λ A B x y. left A B x y .1 .0, λ A B x y. left A B x y .1 .1))
+    let e = c .refused .ensures in
+    (λ A B x y. no-files d A B x y many _ e .0, (λ A B x y. no-files d A B x y many _ e .1 .0, λ A B x y. no-files d A B x y many _ e .1 .1))
 
 pub join-spec : {M : Type 1} → statement M
 join-spec =

@@ -19,24 +19,24 @@ returns-2 c = let a = c .before .before .before .before .args .l in rw (lt-leb (
 
 returns-3 : tie.Need-returns-3
 unfolding lengthFault
-returns-3 c = let a = c .before .before .before .before .before .before .args in rw (lt-leb (a .steps) (2 ^ 32 - 1) (search needs), and-false)
+returns-3 c = let a = c .before .before .before .before .before .args in rw (lt-leb (a .steps) (2 ^ 32 - 1) (search needs), and-false)
 
 returns-4 : tie.Need-returns-4
 unfolding lengthFault
 returns-4 c =
-    let a = c .before .before .before .before .before .before .before .before .args in
+    let a = c .before .before .before .before .before .before .before .args in
     rw (le-leb (a .l .handler) mostHandlerBytes (omega arith), le-leb (a .l .proof) mostProofBytes (omega arith), le-leb (a .steps) (2 ^ 32 - 1) (omega arith), lt-leb (a .l .handler) (a .room) (omega arith))
 
 returns-5 : tie.Need-returns-5
 unfolding lengthFault
 returns-5 c =
-    let a = c .before .before .before .before .before .before .before .before .before .before .args in
+    let a = c .before .before .before .before .before .before .before .before .before .args in
     rw (le-leb (a .l .handler) mostHandlerBytes (omega arith), le-leb (a .l .proof) mostProofBytes (omega arith), le-leb (a .steps) (2 ^ 32 - 1) (omega arith), le-leb (a .l .handler) (a .room) (omega arith), lt-leb (a .l .proof) (a .space) (omega arith))
 
 returns-6 : tie.Need-returns-6
 unfolding lengthFault
 returns-6 c =
-    let a = c .before .before .before .before .before .before .before .before .before .before .args in
+    let a = c .before .before .before .before .before .before .before .before .before .args in
     rw (le-leb (a .l .handler) mostHandlerBytes (omega arith), le-leb (a .l .proof) mostProofBytes (omega arith), le-leb (a .steps) (2 ^ 32 - 1) (omega arith), le-leb (a .l .handler) (a .room) (omega arith), le-leb (a .l .proof) (a .space) (omega arith))
 
 pub length-fault-spec : {M : Type 1} → statement M

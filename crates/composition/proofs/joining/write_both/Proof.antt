@@ -70,16 +70,27 @@ within : (c : tie.Else1) → let m = c .before .before in let l = m .measure .re
     Within (l .handler) (l .proof) (a .both .steps) (length (a .hout .now)) (length (a .pout .now))
 within c = within-all _ _ _ _ _ (sym (c .before .length-fault .ensures) ∙ c .if1 .left)
 
+-- So it is where both files are written.
+abbrev bothFit : tie.After-write-handler → tie.Else1
+bothFit c = c .before .before .before .before
+
+abbrev handlerAt : tie.After-write-proof → tie.After-write-handler
+handlerAt c = c .before .before .before .before
+
+fits : (c : tie.After-write-proof) → let m = bothFit (handlerAt c) .before .before in let l = m .measure .result in let a = start m .args in
+    Within (l .handler) (l .proof) (a .both .steps) (length (a .hout .now)) (length (a .pout .now))
+fits c = within (bothFit (handlerAt c))
+
 write-handler-requires : tie.Need-write-handler-requires
 write-handler-requires c κs =
-    let e = c .before in
+    let e = c .before .before .before in
     let m = e .before .before in
     let p = start m .pre in
     (p .5 .starts, omega (arith, p .5 .ends), p .6 .starts, omega (arith, p .6 .ends), rw (← m .measure .ensures .handler-is) (within e .handler-room))
 
 write-proof-requires : tie.Need-write-proof-requires
 write-proof-requires c κs =
-    let e = c .before .before .before .before .before in
+    let e = bothFit (c .before .before .before) in
     let m = e .before .before in
     let p = start m .pre in
     (p .0, p .1, p .2, p .3, p .4, within e .proof-room, m .measure .ensures .proof-is)
@@ -87,13 +98,14 @@ write-proof-requires c κs =
 returns-2 : tie.Need-returns-2
 returns-2 c =
     let proof = c .before .before .before .before .before in
-    let handler = proof .before .before .before .before in
-    let d = handler .before .before .before in
+    let handler = handlerAt proof in
+    let fit = bothFit handler in
+    let d = fit .before in
     let m = d .before in
     let s = start m in
     let a = s .args in
     let e = no-fault (handlerOf s) (proofOf s) (a .both .steps) (length (a .hout .now)) (length (a .pout .now))
-    (sym (fault-is d) ∙ handler .before .before .if1 .left)
+    (sym (fault-is d) ∙ fit .if1 .left)
     in (
       (λ i. Made (record { steps = a .both .steps; handler = handler-length m i; proof = proof-long m i })) ∙ sym (ap composed e),
       (
@@ -106,7 +118,7 @@ pub write-both-spec : {M : Type 1} → statement M
 write-both-spec =
     tie.close
     (tie.spec (λ c κs. search needs) (λ c κs. search needs) (λ c κs. search needs) returns write-handler-requires write-proof-requires
-    (λ c. omega (arith, within (c .before .before .before .before .before .before .before .before .before)))
-    (λ c. omega (arith, within (c .before .before .before .before .before .before .before .before .before .before)))
-    (λ c. omega (arith, within (c .before .before .before .before .before .before .before .before .before .before .before)))
+    (λ c. omega (arith, fits (c .before .before .before)))
+    (λ c. omega (arith, fits (c .before .before .before .before)))
+    (λ c. omega (arith, fits (c .before .before .before .before .before)))
     (λ c. search needs) (λ c. search needs) returns-2)

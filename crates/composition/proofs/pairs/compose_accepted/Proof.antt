@@ -1,5 +1,6 @@
 -- Both pairs are read; other sizes are 90, and the rest is decided over the same variables.
 use mathlib.Core.Path.{_≡_, sym, _∙_, ap, subst}
+use native.Mathlib.Omega.{arith}
 use borrow.Author.Needs.{needs}
 use Rattle.semantics.specs.States.{product}
 use Rattle.handler.specs.Header.{headOf}
@@ -80,5 +81,6 @@ returns c =
 pub compose-accepted-spec : {M : Type 1} → statement M
 compose-accepted-spec =
     tie.close
-    (tie.spec (λ c κs. search needs) (λ c κs. search needs) (λ c κs. search needs) (λ c κs. search needs) (λ c κs. search needs) compose-sides-requires
+    (tie.spec (λ c κs. search needs) (λ c κs. search needs) (λ c κs. search needs) (λ c κs. search needs) (λ c κs. search needs) (λ c. omega (arith, start (firstRead (joined c)) .fits))
+    (λ c. omega (arith, start (firstRead (joined c)) .fits)) compose-sides-requires
     (λ c κs. search needs) (λ c. search needs) (λ c. search needs) returns returns-2)
