@@ -61,14 +61,7 @@ struct Lengths {
 }
 
 // How long the files will be, from what was read and numbered.
-fn measure(
-    n: u32,
-    both: Handlers,
-    f: Form,
-    g: Form,
-    m: SetNumbers,
-    k: RelationNumbers,
-) -> Lengths
+fn measure(n: u32, both: Handlers, f: Form, g: Form, m: SetNumbers, k: RelationNumbers) -> Lengths
     requires { ⌜ (n ≤ capacity) × (m .count ≤ mostTables) × (k .right .count ≤ mostTables) × Placed (both .first) × Placed (both .second) ⌝ }
     ensures { λ r. ⌜ LengthsAre n both f g m k r ⌝ }
 {
@@ -83,22 +76,14 @@ fn measure(
 fn length_fault(l: Lengths, steps: u64, room: usize, space: usize) -> u32
     ensures { λ r. ⌜ r ≡ lengthFault (l .handler) (l .proof) steps room space ⌝ }
 {
-    if l.handler > MOST_HANDLER_BYTES {
-        return LIMIT_PASSED;
-    }
-    if l.proof > MOST_PROOF_BYTES {
-        return LIMIT_PASSED;
-    }
-    if steps > MOST_STEPS {
-        return LIMIT_PASSED;
-    }
-    if room < l.handler {
+    let fit = (l.handler <= MOST_HANDLER_BYTES) & (l.proof <= MOST_PROOF_BYTES);
+    if fit & (steps <= MOST_STEPS) {
+        if (l.handler <= room) & (l.proof <= space) {
+            return 0;
+        }
         return SHORT_BUFFER;
     }
-    if space < l.proof {
-        return SHORT_BUFFER;
-    }
-    0
+    LIMIT_PASSED
 }
 
 // Writes both files, whose lengths are known before the first byte is written.
@@ -152,13 +137,7 @@ fn higher(a: u32, b: u32) -> u32
 }
 
 // Whether the result is within the limits of counts and levels, and has at most 16 sets and 16 relations.
-fn is_small(
-    both: Handlers,
-    f: ProofHead,
-    g: ProofHead,
-    sets: usize,
-    relations: usize,
-) -> bool
+fn is_small(both: Handlers, f: ProofHead, g: ProofHead, sets: usize, relations: usize) -> bool
     ensures { λ r. ⌜ r ≡ smallCounts (both .first) (both .second) f g sets relations ⌝ }
 {
     let a = both.first;

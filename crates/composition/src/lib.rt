@@ -91,9 +91,7 @@ fn compose_checked(
         Verdict::Refused(fault) => Composed::Refused(1, fault),
         Verdict::Accepted(steps) => match check(h2, p2, mode, work) {
             Verdict::Refused(fault) => Composed::Refused(2, fault),
-            Verdict::Accepted(more) => {
-                compose_accepted(h1, p1, steps, h2, p2, more, hout, pout)
-            }
+            Verdict::Accepted(more) => compose_accepted(h1, p1, steps, h2, p2, more, hout, pout),
         },
     }
 }
