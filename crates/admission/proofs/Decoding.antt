@@ -7,6 +7,7 @@ use native.Mathlib.Omega.{arith}
 use borrow.Author.Tests.{ne-eqb}
 use lib.Dec.{eqb}
 use lib.ListN.{length}
+use Rattle.pair.specs.Modes.{rows}
 use Rattle.search.specs.declared.Named.the-variants.{Nothing}
 use Rattle.checker.specs.declared.Place.the-variants.{Bit}
 use Rattle.checker.specs.declared.Fault.{Fault}
@@ -50,9 +51,9 @@ released-coded f place =
 pub admit-coded : (f : Frame) (place : ℕ) (hb pb : List ℕ) (ticks words : ℕ) → Coded (admit f place hb pb ticks words .answer)
 unfolding admit
 admit-coded f place hb pb ticks words =
-    let v = Verdicts.answer hb pb words .verdict in
+    let v = Verdicts.answer hb pb rows words .verdict in
     admitted-cases (λ o. Coded (o .answer)) f place (plain 0 (omega arith)) (plain 2 (omega arith)) ticks (plain 1 (omega arith)) (plain 4 (omega arith)) v
-    (λ fault e. refused fault (subst Lossless e (lossless v (bounded hb pb words)))) (λ k e over. plain 3 (omega arith)) (λ k e fits there free well. done)
+    (λ fault e. refused fault (subst Lossless e (lossless v (bounded hb pb rows words)))) (λ k e over. plain 3 (omega arith)) (λ k e fits there free well. done)
 
 -- If the number is 0, the record that is read from the numbers is the call's.
 pub served-read : (o : Outcome) (hb pb : List ℕ) (ticks : ℕ) (numbers : List ℕ) → length (o .frame .slots) ≡ places → Coded (o .answer)

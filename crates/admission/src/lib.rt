@@ -6,6 +6,7 @@ use frame::Frame;
 use frame::Outcome;
 use frame::PLACES;
 use frame::Slot;
+use pair::rows;
 use slots::Extent;
 use slots::NO_SLOT;
 use slots::added;
@@ -118,7 +119,7 @@ pub fn admit(
     if (ticks < 1) | (ticks > MOST_TICKS) {
         return turned_away(frame, Answer::WrongTicks);
     }
-    match check(handler, proof, work) {
+    match check(handler, proof, rows(), work) {
         Verdict::Refused(fault) => turned_away(frame, Answer::Refused(fault)),
         Verdict::Accepted(steps) => grant(frame, place, end, steps as u64 * ticks as u64),
     }

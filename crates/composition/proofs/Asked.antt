@@ -9,14 +9,13 @@ use lib.Dec.{eqb}
 use lib.ListN.{length, getD, replicate, List·getD-append}
 use Rattle.states.specs.Search.{implies, all}
 use Rattle.states.proofs.Search.{and-left, and-right, and-both, bool-ext, all-intro, all-at, all-cong}
-use Rattle.semantics.specs.StepNumber.{steps}
 use Rattle.semantics.specs.Derivations.{Spec}
 use Rattle.semantics.specs.Conditions.{setLiesIn, relationLiesIn}
 use Rattle.handler.specs.declared.head.Head.{Head}
 use Rattle.handler.specs.Header.{headOf}
 use Rattle.joint.proofs.Sizes.{sizes-same}
 use Rattle.joint.specs.Joining.{rootSpec}
-use Rattle.joint.specs.Composing.{Side, N, metP, statement, handlerFile, proofFile, Composition, made, refused, plain, asked, sameSizes, staysIn, inLimits, composition}
+use Rattle.joint.specs.Composing.{Side, N, metPKept, secondAllowed, firstAllowed, limited, Composition, refused, plain, asked, sameSizes, staysIn, composition}
 use Rattle.composition.specs.Refinement.{firstUnmet}
 
 -- Heads with equal counts are padded alike, so all four sizes can be compared.
@@ -68,21 +67,17 @@ module _ (n : ℕ) (a b : Spec) (x : Bool) (first : x ≡ relationLiesIn n (b .G
     unmet-93 in-second z held third e = rw (sym first ∙ not-false x in-first, sym second ∙ not-false y in-second, sym third ∙ e)
 
 -- 91 to 93 of both roots' tables.
-module _ (h h′ : List ℕ) (a b : Side) where
+module _ (h h′ : List ℕ) (a b : Side) (steps : ℕ) where
   abbrev unmetHere : ℕ
   unmetHere = firstUnmet (N h h′ a b) (a .tables) (b .tables)
 
   -- They are what the definition asks of both sides.
-  pub asked-by-number : composition h h′ a b
-      ≡ asked 90 (sameSizes (a .sizes) (b .sizes)) (cond (eqb unmetHere 0)
-      (asked 94 (inLimits h h′ a b) (made (steps (N h h′ a b) (statement h h′ a b)) (handlerFile h h′ a b) (proofFile h h′ a b)))
-      (refused 0 (plain unmetHere)))
+  pub asked-by-number : composition h h′ a b steps
+      ≡ asked 90 (sameSizes (a .sizes) (b .sizes)) (cond (eqb unmetHere 0) (limited h h′ a b steps) (refused 0 (plain unmetHere)))
   unfolding composition firstUnmet
   asked-by-number =
       ap (asked 90 (sameSizes (a .sizes) (b .sizes)))
-      (by (relationLiesIn (N h h′ a b) (b .tables .G) (a .tables .R)) (relationLiesIn (N h h′ a b) (a .tables .G) (b .tables .R))
-      (staysIn (N h h′ a b) (metP h h′ a b) (a .tables .G) && staysIn (N h h′ a b) (metP h h′ a b) (b .tables .G)) (asked 94 (inLimits h h′ a b)
-      (made (steps (N h h′ a b) (statement h h′ a b)) (handlerFile h h′ a b) (proofFile h h′ a b))))
+      (by (secondAllowed h h′ a b) (firstAllowed h h′ a b) (metPKept h h′ a b) (limited h h′ a b steps))
     where
       by : (x y z : Bool) (next : Composition)
           → asked 91 x (asked 92 y (asked 93 z next))

@@ -1,15 +1,15 @@
 -- Which answer the lengths of the files and the room for them give.
-use Prim.Native.Nat.{ℕ, _-_, _^_, _≤_}
-use mathlib.Core.Bool.{Bool, true, false, cond, _&&_}
+use Prim.Native.Nat.{ℕ, _≤_}
+use mathlib.Core.Bool.{Bool, true, false, cond, _&&_, and-eq-true-iff}
 use mathlib.Core.List.{List}
 use mathlib.Core.Path.{_≡_, refl}
 use native.Mathlib.Omega.{arith}
 use borrow.Author.Tests.{leb-true}
 use lib.Dec.{leb}
 use lib.ListN.{length}
-use Rattle.states.proofs.Search.{and-left, and-right}
-use Rattle.joint.specs.Composing.{Composition, made, refused, plain, asked, withRoom}
-use Rattle.composition.specs.Refinement.{lengthFault}
+use Rattle.pair.specs.Limits.{mostHandlerBytes, mostProofBytes}
+use Rattle.joint.specs.Composing.{Composition, made, refused, plain, withRoom}
+use Rattle.composition.specs.Refinement.{lengthsFit, lengthFault, ifFit}
 
 -- The fault by the two tests.
 abbrev faultOf : Bool → Bool → ℕ
@@ -17,7 +17,7 @@ faultOf t u = cond t (cond u 0 95) 94
 
 module _ (handler proof : List ℕ) (steps room space : ℕ) where
   abbrev limits : Bool
-  limits = leb (length handler) 16384 && leb (length proof) 16384 && leb steps (2 ^ 32 - 1)
+  limits = lengthsFit (length handler) (length proof) steps
 
   abbrev fits : Bool
   fits = leb (length handler) room && leb (length proof) space
@@ -26,7 +26,7 @@ module _ (handler proof : List ℕ) (steps room space : ℕ) where
   fault = lengthFault (length handler) (length proof) steps room space
 
   abbrev whole : Composition
-  whole = withRoom (asked 94 limits (made steps handler proof)) room space
+  whole = withRoom (ifFit steps handler proof) room space
 
   -- The answer by the tests.
   by-tests : (t u : Bool) → limits ≡ t → fits ≡ u
@@ -46,22 +46,28 @@ module _ (handler proof : List ℕ) (steps room space : ℕ) where
   some-fault e = by-tests limits fits refl refl .1 e
 
 -- Without a fault every test holds.
-pub within-all : (handler proof steps room space : ℕ) → lengthFault handler proof steps room space ≡ 0
-    → (handler ≤ 16384) × (proof ≤ 16384) × (steps ≤ 4294967295) × (handler ≤ room) × (proof ≤ space)
+pub record Within (handler proof steps room space : ℕ) : Type 0 where
+  pub handler-most : handler ≤ mostHandlerBytes
+  pub proof-most : proof ≤ mostProofBytes
+  pub steps-most : steps ≤ 4294967295
+  pub handler-room : handler ≤ room
+  pub proof-room : proof ≤ space
+
+pub within-all : (handler proof steps room space : ℕ) → lengthFault handler proof steps room space ≡ 0 → Within handler proof steps room space
 unfolding lengthFault
-within-all handler proof steps room space e =
-    by (leb handler 16384 && leb proof 16384 && leb steps (2 ^ 32 - 1)) (leb handler room && leb proof space) refl refl e
+within-all handler proof steps room space e = by (lengthsFit handler proof steps) (leb handler room && leb proof space) refl refl e
   where
-    by : (t u : Bool) → (leb handler 16384 && leb proof 16384 && leb steps (2 ^ 32 - 1)) ≡ t → (leb handler room && leb proof space) ≡ u
-        → faultOf t u ≡ 0
-        → (handler ≤ 16384) × (proof ≤ 16384) × (steps ≤ 4294967295) × (handler ≤ room) × (proof ≤ space)
+    by : (t u : Bool) → lengthsFit handler proof steps ≡ t → (leb handler room && leb proof space) ≡ u → faultOf t u ≡ 0
+        → Within handler proof steps room space
     by true true l f e =
-        let both = and-left (leb handler 16384 && leb proof 16384) _ l in (
-          leb-true handler 16384 (and-left (leb handler 16384) _ both),
-          leb-true proof 16384 (and-right (leb handler 16384) _ both),
-          leb-true steps _ (and-right (leb handler 16384 && leb proof 16384) _ l),
-          leb-true handler room (and-left (leb handler room) _ f),
-          leb-true proof space (and-right (leb handler room) _ f),
-        )
+        let fit = simp and-eq-true-iff at l in
+        let room-for = simp and-eq-true-iff at f in
+        record {
+          handler-most = omega (arith, leb-true);
+          proof-most = omega (arith, leb-true);
+          steps-most = omega (arith, leb-true);
+          handler-room = omega (arith, leb-true);
+          proof-room = omega (arith, leb-true);
+        }
     by true false l f e = absurd (omega arith)
     by false u l f e = absurd (omega arith)

@@ -9,6 +9,8 @@ use borrow.Author.Tests.{lt-ltb, le-ltb}
 use lib.Dec.{ltb, leb}
 use lib.ListN.{length}
 use Rattle.search.specs.declared.Named.the-variants.{Nothing}
+use Rattle.pair.specs.Limits.{mostHandlerBytes, mostProofBytes}
+use Rattle.pair.specs.Modes.{rows}
 use Rattle.checker.specs.declared.Place.{Place}
 use Rattle.checker.specs.declared.Place.the-variants.{Bit, Node}
 use Rattle.checker.specs.declared.Fault.{Fault}
@@ -28,9 +30,9 @@ use Rattle.joint.proofs.Outcomes.{Success, Refusal, few-words, first-long, seco
 use Rattle.joint.proofs.Theorems.{limits}
 
 -- A fault of the check is small.
-own-small : (h p : List ℕ) (words pair : ℕ) → pair ≤ 2 → (f : Fault) → answer h p words .verdict ≡ Refused f → Small (Composed.Refused pair f)
+own-small : (h p : List ℕ) (words pair : ℕ) → pair ≤ 2 → (f : Fault) → answer h p rows words .verdict ≡ Refused f → Small (Composed.Refused pair f)
 own-small h p words pair few f e =
-    let b : Bounded (Refused f) = subst Bounded e (bounded h p words) in (few, b .0, omega arith, place-small (f .place) (b .2))
+    let b : Bounded (Refused f) = subst Bounded e (bounded h p rows words) in (few, b .0, omega arith, place-small (f .place) (b .2))
 
 plain-small : (pair k : ℕ) → pair ≤ 2 → 0 < k → k ≤ 95 → Small (Composed.Refused pair (plain k))
 unfolding indexOf
@@ -51,8 +53,8 @@ module _ (h p h′ p′ : List ℕ) (words : ℕ) where
 
   success-small : (k : ℕ) (hout pout : List ℕ) → Success h p h′ p′ words k hout pout → Small (composed (made k hout pout))
   success-small k hout pout s =
-      let l = limits h h′ (sideOf h p) (sideOf h′ p′) (s .within-limits) in
-      rw (s .handler-is, s .proof-is, s .steps-are) (omega (arith, l .steps-most), l .handler-length, l .proof-length)
+      let l = limits h h′ (sideOf h p) (sideOf h′ p′) k (s .within-limits) in
+      rw (s .handler-is, s .proof-is) (omega (arith, l .steps-most), l .handler-length, l .proof-length)
 
   pub answer-small : (room room′ : ℕ) → Small (composed (withRoom (compose h p h′ p′ words) room room′))
   unfolding withRoom
@@ -68,7 +70,7 @@ module _ (h p h′ p′ : List ℕ) (words : ℕ) where
           room-small (made k H P) (success-small k H P (succeeded h p h′ p′ words k H P e)) (leb (length H) room && leb (length P) room′)
 
 -- The parts of the number where files were written, and of that of a refusal.
-made-parts : (steps handler proof : ℕ) → steps < 2 ^ 32 → handler ≤ 16384 → proof ≤ 16384
+made-parts : (steps handler proof : ℕ) → steps < 2 ^ 32 → handler ≤ mostHandlerBytes → proof ≤ mostProofBytes
     → (code : ℕ) → code ≡ steps + 2 ^ 32 * handler + 2 ^ 47 * proof
     → (ltb code (2 ^ 63) ≡ true) × (code % 2 ^ 32 ≡ steps) × (code / 2 ^ 32 % 2 ^ 15 ≡ handler) × (code / 2 ^ 47 ≡ proof)
 made-parts steps handler proof s h p code e = (lt-ltb code (2 ^ 63) (omega arith), omega arith, omega arith, omega arith)

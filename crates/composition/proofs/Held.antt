@@ -4,11 +4,11 @@ use mathlib.Core.List.{List}
 use mathlib.Core.Path.{_≡_, _∙_, ap, subst, fun-ext}
 use Rattle.states.specs.Sets.{has}
 use Rattle.states.specs.Relations.{rel}
-use Rattle.handler.specs.declared.HandlerSummary.{HandlerSummary}
 use Rattle.rules.specs.Words.{wordRelation, wordSpec}
 use Rattle.form.specs.Members.{setWhere, relationWhere}
 use Rattle.composition.specs.declared.tables.Roots.{Roots}
 use Rattle.composition.specs.declared.forms.Form.{Form}
+use Rattle.composition.specs.declared.joining.Handlers.{Handlers}
 use Rattle.composition.specs.declared.numbering.SetNumbers.{SetNumbers}
 use Rattle.composition.specs.declared.numbering.RelationNumbers.{RelationNumbers}
 use Rattle.joint.specs.Composing.{Side}
@@ -24,8 +24,8 @@ relations-by : (r r′ g g′ q q′ lr lr′ lg lg′ lq lq′ : ℕ) (xs xs′
 relations-by r r′ g g′ q q′ lr lr′ lg lg′ lq lq′ xs xs′ rr rr′ rg rg′ rq rq′ ys ys′ held k e₁ e₂ e₃ e₄ e₅ e₆ e₇ e₈ e₉ e₁₀ e₁₁ so =
     rw (← e₁, ← e₂, ← e₃, ← e₄, ← e₅, ← e₆, ← e₇, ← e₈, ← e₉, ← e₁₀, ← e₁₁) so
 
-module _ (n : ℕ) (A B : Side) (a b : HandlerSummary) (f g : Form) (words others : List ℕ) (ra : Ready n A a f words) (rb : Ready n B b g others)
-    (roots : Roots) (joint : Joint n (wordSpec n words (f .names)) (wordSpec n others (g .names)) roots) (m : SetNumbers) (k : RelationNumbers)
+module _ (n : ℕ) (A B : Side) (both : Handlers) (f g : Form) (words others : List ℕ)
+    (ra : Ready n A (both .first) f words) (rb : Ready n B (both .second) g others) (roots : Roots) (joint : Joint n (wordSpec n words (f .names)) (wordSpec n others (g .names)) roots) (m : SetNumbers) (k : RelationNumbers)
     (S T : List ℕ) where
   -- The new tables by the sides' own.
   joint-of : Joint n (A .tables) (B .tables) roots
@@ -38,7 +38,7 @@ module _ (n : ℕ) (A B : Side) (a b : HandlerSummary) (f g : Form) (words other
   by-pairs rows r same = ap (relationWhere n) (fun-ext (λ s. fun-ext (λ t. same s t)))
 
   pub held-sets : SetsNumbered (setWhere n (has (roots .p))) (setsHeld n words (f .head .sets)) (setsHeld n others (g .head .sets)) S m
-      → HeldSets n A B a b f g words others ra rb m k S T S
+      → HeldSets n A B both f g words others ra rb m k S T S
   held-sets so =
       sets-by _ _ _ _ _ _ S m (ap (setWhere n) (fun-ext (joint-of .P-is))) (ap (setsHeld n words) (ra .of-form .set-count) ∙ ra .of-form .sets-are)
       (ap (setsHeld n others) (rb .of-form .set-count) ∙ rb .of-form .sets-are) so
@@ -47,7 +47,7 @@ module _ (n : ℕ) (A B : Side) (a b : HandlerSummary) (f g : Form) (words other
       (relationWhere n (rel n (roots .left))) (relationWhere n (wordRelation n words (f .names .g))) (relationWhere n (wordRelation n words (f .names .q)))
       (relationsHeld n words (f .head .relations)) (relationWhere n (rel n (roots .right))) (relationWhere n (wordRelation n others (g .names .g)))
       (relationWhere n (wordRelation n others (g .names .q))) (relationsHeld n others (g .head .relations)) T k
-      → HeldRelations n A B a b f g words others ra rb m k S T T
+      → HeldRelations n A B both f g words others ra rb m k S T T
   held-relations so =
       let j = joint-of in
       relations-by _ _ _ _ _ _ _ _ _ _ _ _ _ _ _ _ _ _ _ _ _ _ T k (by-pairs _ _ (j .R-is)) (by-pairs _ _ (j .G-is)) (by-pairs _ _ (j .Q-is))

@@ -13,6 +13,7 @@ mod TableFields
 mod HandlerFields
 mod NewNodes
 mod Deciding
+mod Leaving
 mod Absorbed
 mod JoinedNames
 mod JoinedParts

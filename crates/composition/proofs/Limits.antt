@@ -1,6 +1,6 @@
 -- What 94 asks of the result, from the counts that the code has; and the files of a result that passes no limit.
 use Prim.Native.Nat.{ℕ, suc, _+_, _-_, _^_, _≤_, max}
-use mathlib.Core.Bool.{Bool, true, false, _&&_}
+use mathlib.Core.Bool.{Bool, true, false, _&&_, and-eq-true-iff}
 use mathlib.Core.List.{List}
 use mathlib.Core.Path.{_≡_, refl, sym, _∙_, ap, subst}
 use native.Mathlib.Omega.{arith}
@@ -8,23 +8,24 @@ use borrow.Author.Tests.{le-leb, lt-leb, leb-true, leb-false}
 use lib.Dec.{leb}
 use lib.ListN.{length}
 use Rattle.writer.specs.Packing.{packed}
-use Rattle.states.proofs.Search.{and-left, and-right}
 use Rattle.semantics.specs.Language.{par}
-use Rattle.semantics.specs.StepNumber.{steps}
 use Rattle.semantics.specs.Derivations.{Derivation, nodes, levels}
 use Rattle.handler.specs.declared.HandlerSummary.{HandlerSummary}
 use Rattle.handler.specs.Kinds.{stmtWidth}
 use Rattle.handler.specs.StatementTable.{statements, stmtLevels}
+use Rattle.derivation.specs.declared.ProofHead.{ProofHead}
 use Rattle.derivation.proofs.NodeTable.{Known}
+use Rattle.pair.specs.Limits.{mostHandlerBytes, mostProofBytes}
 use Rattle.form.specs.Members.{setWhere, relationWhere}
 use Rattle.form.specs.Form.{setsIn, relationsIn, formOf}
 use Rattle.form.proofs.Numbered.{numbered-known}
 use Rattle.composition.specs.declared.forms.Form.{Form}
+use Rattle.composition.specs.declared.joining.Handlers.{Handlers}
 use Rattle.composition.specs.declared.numbering.SetNumbers.{SetNumbers}
 use Rattle.composition.specs.declared.numbering.RelationNumbers.{RelationNumbers}
 use Rattle.joint.specs.Joining.{rootSpec, leftSpec, rightSpec, joined, handlerParts}
-use Rattle.joint.specs.Composing.{Side, Composition, made, refused, plain, asked, inLimits, limited, handlerFile, proofFile}
-use Rattle.composition.specs.Refinement.{Kept, SetsNumbered, RelationsNumbered, AllSmall, nodeParts, proofParts, filesOf, smallCounts, Ready}
+use Rattle.joint.specs.Composing.{Side, refused, plain, inLimits, limited, handlerFile, proofFile}
+use Rattle.composition.specs.Refinement.{Kept, SetsNumbered, RelationsNumbered, AllSmall, nodeParts, proofParts, bothParts, lengthsFit, ifFit, filesOf, smallCounts, Ready}
 use Rattle.composition.proofs.Absorbed.{sets-joined, relations-joined}
 use Rattle.composition.proofs.JoinedNames.{FewTables, ResultSets, ResultRelations, numbered-joined}
 use Rattle.composition.proofs.JoinedParts.{nodes-joined, levels-joined, joined-parts}
@@ -37,14 +38,16 @@ kept-test held seen count k long = by (leb count 16) refl
     by true e = sym (le-leb (length seen) 16 (omega (arith, leb-true count 16 e, long, ap length (k .0 (leb-true count 16 e)))))
     by false e = sym (lt-leb (length seen) 16 (k .1 (leb-false count 16 e)))
 
-pub few-tables : (s l n d s′ l′ n′ d′ p q : ℕ) → smallCounts s l n d s′ l′ n′ d′ p q ≡ true → (p ≤ 16) × (q ≤ 16)
-unfolding smallCounts
-few-tables s l n d s′ l′ n′ d′ p q e =
-    let four = leb (1 + s + s′) 63 && leb (suc (max l l′)) 16 && leb (3 + n + n′) 127 && leb (suc (suc (max d d′))) 24 in
-    (leb-true p 16 (and-right four (leb p 16) (and-left (four && leb p 16) (leb q 16) e)), leb-true q 16 (and-right (four && leb p 16) (leb q 16) e))
+and-three : (t x y z : Bool) → (t && x && y && z) ≡ (t && (x && y && z))
+and-three true x y z = refl
+and-three false x y z = refl
 
-module _ (n : ℕ) (A B : Side) (a b : HandlerSummary) (f g : Form) (words others : List ℕ) (ra : Ready n A a f words) (rb : Ready n B b g others)
-    (m : SetNumbers) (k : RelationNumbers) (S T : List ℕ) where
+pub few-tables : (a b : HandlerSummary) (f g : ProofHead) (p q : ℕ) → smallCounts a b f g p q ≡ true → (p ≤ 16) × (q ≤ 16)
+unfolding smallCounts
+few-tables a b f g p q e = let tests = simp and-eq-true-iff at e in (omega (arith, leb-true), omega (arith, leb-true))
+
+module _ (n : ℕ) (A B : Side) (both : Handlers) (f g : Form) (words others : List ℕ)
+    (ra : Ready n A (both .first) f words) (rb : Ready n B (both .second) g others) (m : SetNumbers) (k : RelationNumbers) (S T : List ℕ) where
   abbrev x : Derivation
   x = A .derivation
 
@@ -72,8 +75,7 @@ module _ (n : ℕ) (A B : Side) (a b : HandlerSummary) (f g : Form) (words other
     kept-T = subst (Kept T (k .right .count)) (sym (relations-joined n (A .tables) (B .tables) x y)) (relations .kept)
 
     abbrev small : Bool
-    small = smallCounts (a .statements) (a .levels) (f .head .nodes) (f .head .levels) (b .statements) (b .levels) (g .head .nodes) (g .head .levels)
-        (m .count) (k .right .count)
+    small = smallCounts (both .first) (both .second) (f .head) (g .head) (m .count) (k .right .count)
 
     abbrev counts : Bool
     counts =
@@ -97,22 +99,21 @@ module _ (n : ℕ) (A B : Side) (a b : HandlerSummary) (f g : Form) (words other
 
     -- 94 without the lengths and the step number.
     module _ (h h′ : List ℕ) where
-      limits-are : inLimits h h′ A B
-          ≡ (small && leb (length (handlerFile h h′ A B)) 16384 && leb (length (proofFile h h′ A B)) 16384
-          && leb (steps n (par (A .statement) (B .statement))) (2 ^ 32 - 1))
+      limits-are : inLimits h h′ A B (both .steps)
+          ≡ (small && lengthsFit (length (handlerFile h h′ A B)) (length (proofFile h h′ A B)) (both .steps))
       unfolding inLimits
       limits-are =
           rw (← ra .states-are)
-          (λ i. sym small-is i && leb (length (packed (handlerParts h (A .at) (stmtWidth (A .statement)) h′ (B .at) (stmtWidth (B .statement))))) 16384
-          && leb (length (formOf n D)) 16384 && leb (steps n (par (A .statement) (B .statement))) (2 ^ 32 - 1))
+          (ap (λ t. t && leb (length (handlerFile h h′ A B)) mostHandlerBytes && leb (length (formOf n D)) mostProofBytes && leb (both .steps) (2 ^ 32 - 1)) (sym small-is)
+          ∙ and-three small _ _ _)
 
-      pub limited-not : small ≡ false → limited h h′ A B ≡ refused 0 (plain 94)
+      pub limited-not : small ≡ false → limited h h′ A B (both .steps) ≡ refused 0 (plain 94)
       limited-not e = rw (limits-are, e)
 
       -- Where no count is over its limit.
       module _ (few : small ≡ true) where
         rooms : (m .count ≤ 16) × (k .right .count ≤ 16)
-        rooms = few-tables _ _ _ _ _ _ _ _ (m .count) (k .right .count) few
+        rooms = few-tables _ _ _ _ (m .count) (k .right .count) few
 
         room-S : m .count ≤ 16
         room-S = rooms .0
@@ -159,13 +160,12 @@ module _ (n : ℕ) (A B : Side) (a b : HandlerSummary) (f g : Form) (words other
               (omega (arith, right .R-below, most), omega (arith, right .G-below, most), omega (arith, right .Q-below, most)),
             )
 
-        handler-is : packed (handlerParts h (A .at) (stmtWidth (A .statement)) h′ (B .at) (stmtWidth (B .statement)))
-            ≡ packed (handlerParts h (a .at) (a .end - a .at) h′ (b .at) (b .end - b .at))
+        handler-is : handlerFile h h′ A B ≡ packed (bothParts h h′ both)
         handler-is =
             let ha = ra .of-handler in
             let hb = rb .of-handler in
-            let width : stmtWidth (A .statement) ≡ a .end - a .at = omega (arith, ha .end-is, ha .at-is) in
-            let width′ : stmtWidth (B .statement) ≡ b .end - b .at = omega (arith, hb .end-is, hb .at-is) in
+            let width : stmtWidth (A .statement) ≡ both .first .end - both .first .at = omega (arith, ha .end-is, ha .at-is) in
+            let width′ : stmtWidth (B .statement) ≡ both .second .end - both .second .at = omega (arith, hb .end-is, hb .at-is) in
             λ i. packed (handlerParts h (sym (ha .at-is) i) (width i) h′ (sym (hb .at-is) i) (width′ i))
 
         proof-is : formOf n D ≡ packed (proofParts n S T (nodeParts k m f g))
@@ -177,16 +177,8 @@ module _ (n : ℕ) (A B : Side) (a b : HandlerSummary) (f g : Form) (words other
             few-D m k all-sets all-relations room-S room-T)
             ∙ (λ i. packed (proofParts n (sym is-S i) (sym is-T i) (nodeParts k m f g)))
 
-        steps-are : steps n (par (A .statement) (B .statement)) ≡ a .steps + b .steps + 1
-        steps-are = λ i. sym (ra .of-handler .steps-are) i + sym (rb .of-handler .steps-are) i + 1
-
-        abbrev answerOf : ℕ → List ℕ → List ℕ → Composition
-        answerOf number handler proof =
-            asked 94 (leb (length handler) 16384 && leb (length proof) 16384 && leb number (2 ^ 32 - 1)) (made number handler proof)
-
-        limited-by : limited h h′ A B
-            ≡ answerOf (steps n (par (A .statement) (B .statement))) (packed (handlerParts h (A .at) (stmtWidth (A .statement)) h′ (B .at) (stmtWidth (B .statement)))) (formOf n D)
+        limited-by : limited h h′ A B (both .steps) ≡ ifFit (both .steps) (handlerFile h h′ A B) (formOf n D)
         limited-by = rw (limits-are, few, ← ra .states-are)
 
-        pub limited-is : limited h h′ A B ≡ filesOf n h a f h′ b g S m T k
-        limited-is = limited-by ∙ (λ i. answerOf (steps-are i) (handler-is i) (proof-is i))
+        pub limited-is : limited h h′ A B (both .steps) ≡ filesOf n h h′ both f g S m T k
+        limited-is = limited-by ∙ (λ i. ifFit (both .steps) (handler-is i) (proof-is i))

@@ -9,18 +9,21 @@ use lib.Dec.{ltb}
 use lib.ListN.{length, getD, take, drop, length-append}
 use lib.Seq.{take-at}
 use Rattle.semantics.specs.declared.Names.{Names}
+use Rattle.semantics.specs.Language.{nil}
 use Rattle.semantics.specs.States.{product, machineOf}
 use Rattle.semantics.specs.Derivations.{Derivation, setOf, relationOf, namesOf, specOf}
 use Rattle.derivation.specs.declared.ProofHead.{ProofHead}
 use Rattle.derivation.specs.declared.ProofFile.{ProofFile}
 use Rattle.derivation.specs.declared.ProofFound.the-variants as Found
-use Rattle.derivation.specs.Tables.{workWords, tabulate, written}
+use Rattle.derivation.specs.Tables.{workWords, rowAt, tabulate, tableWord, written}
 use Rattle.derivation.specs.NodeTable.{nodeIn}
 use Rattle.derivation.specs.Reading.{proof, readProof, proofFile, loadedWord}
 use Rattle.derivation.proofs.NodeTable.{names-known}
+use Rattle.pair.specs.Limits.{mostProofBytes}
+use Rattle.pair.specs.declared.Arrangement.the-variants.{Rows}
+use Rattle.pair.specs.Reading.{Pair}
+use Rattle.pair.specs.Modes.{rows, tablesIn}
 use Rattle.rules.specs.Words.{wordSet, wordRelation, wordSpec}
-use Rattle.checker.specs.Verdicts.{tablesOf}
-use Rattle.checker.proofs.Acceptance.{accepted-exactly}
 use Rattle.checker.proofs.Loaded.{set-loaded, relation-loaded}
 use Rattle.form.specs.Members.{setWhere, relationWhere}
 use Rattle.form.specs.Form.{setsIn, relationsIn, numbered, formOf}
@@ -65,12 +68,27 @@ module _ (sizes : List ℕ) (x : Derivation) (room : Writable (product sizes) x)
   abbrev R : List ℕ
   R = relationsIn x
 
-  module _ (loaded : work ≡ written (loadedWord file n (readProof file n)) before) where
-    set-is : (i : ℕ) → i < length S → wordSet n work i ≡ setOf (tablesOf file sizes (length S)) i
-    set-is = set-loaded file sizes before (length S) (length R) _ (numbered x) (any-read n x room) enough (room .states-most) work loaded
+  -- What it holds. The statement is not looked at.
+  abbrev held : Pair
+  held = record {
+    sizes = sizes;
+    statement-bit = 0;
+    statement = nil;
+    sets = length S;
+    relations = length R;
+    root-bit = rowAt n (length S) (length R) 0;
+    derivation = numbered x;
+  }
 
-    relation-is : (r : ℕ) → r < length R → wordRelation n work r ≡ relationOf (tablesOf file sizes (length S)) r
-    relation-is = relation-loaded file sizes before (length S) (length R) _ (numbered x) (any-read n x room) enough (room .states-most) work loaded
+  module _ (loaded : work ≡ written (loadedWord file n (readProof file n)) before) where
+    words-are : work ≡ written (tableWord file n (length S) (length R)) before
+    words-are = loaded ∙ ap (λ r. written (loadedWord file n r) before) (any-read n x room)
+
+    set-is : (i : ℕ) → i < length S → wordSet n work i ≡ setOf (tablesIn file rows held) i
+    set-is = set-loaded file held before work (any-read n x room) enough (room .states-most) Rows words-are
+
+    relation-is : (r : ℕ) → r < length R → wordRelation n work r ≡ relationOf (tablesIn file rows held) r
+    relation-is = relation-loaded file held before work (any-read n x room) enough (room .states-most) Rows words-are
 
     held-sets : setsHeld n work (length S) ≡ S
     unfolding setsHeld formOf
@@ -123,26 +141,23 @@ module _ (hb pb : List ℕ) (was : WasAccepted hb pb) where
   known = accepted-side hb pb (was .words) (was .steps) (was .accepted)
 
   is-formed : Canonical.Formed hb pb out
-  is-formed =
-      let a = accepted-exactly hb pb (was .words) (was .steps) .0 (was .accepted) in
-      record {
-        handler-length = a .handler-length;
-        proof-length = a .proof-length;
-        pair = known .pair;
-        is-form = ap (λ s. formOf (product (s .sizes)) (s .derivation)) (known .is-side);
-      }
+  is-formed = record {
+    held = known .held;
+    read = known .read;
+    is-form = ap (λ s. formOf (product (s .sizes)) (s .derivation)) (known .is-side);
+  }
 
-  form-short : length out ≤ 16384
+  form-short : length out ≤ mostProofBytes
   form-short = Canonical.form-short hb pb out is-formed
 
-  -- Its form is written where there is room for 16,384 bytes, and stands at their front.
-  module _ (bytes : List ℕ) (room : length bytes ≡ 16384) (o : Outcome) (answer : o ≡ outcome (canonical hb pb) (length bytes))
+  -- Its form is written where there is room for the longest proof file, and is at the front of the bytes.
+  module _ (bytes : List ℕ) (room : length bytes ≡ mostProofBytes) (o : Outcome) (answer : o ≡ outcome (canonical hb pb) (length bytes))
       (count : ℕ) (counted : (k : ℕ) → o ≡ Written k → count ≡ k) (after : List ℕ) (is-after : after ≡ outAfter (canonical hb pb) bytes) where
     has-form : canonical hb pb ≡ form out
     has-form = Canonical.form-of hb pb out is-formed
 
     enough-room : ltb (length bytes) (length out) ≡ false
-    enough-room = rw room (le-ltb 16384 (length out) form-short)
+    enough-room = rw room (le-ltb mostProofBytes (length out) form-short)
 
     length-is : count ≡ length out
     unfolding outcome

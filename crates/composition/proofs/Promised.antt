@@ -9,13 +9,15 @@ use lib.Dec.{leb}
 use lib.ListN.{length, take, drop}
 use lib.Seq.{take-at}
 use Rattle.derivation.specs.Tables.{workWords}
+use Rattle.pair.specs.Limits.{tooLong}
+use Rattle.pair.specs.Modes.{rows}
 use Rattle.checker.specs.declared.Fault.{Fault}
 use Rattle.checker.specs.declared.Verdict.the-variants.{Accepted}
 use Rattle.checker.specs.Verdicts.{answer}
 use Rattle.composition.specs.declared.Made.{Made}
 use Rattle.composition.specs.declared.Composed.{Composed}
 use Rattle.composition.specs.declared.Composed.the-variants as Composed
-use Rattle.joint.specs.Composing.{Composition, made, refused, plain, asked, tooLong, compose, workAfter, withRoom, composeInto, handlerAfter, proofAfter}
+use Rattle.joint.specs.Composing.{Composition, made, refused, plain, asked, compose, workAfter, withRoom, composeInto, handlerAfter, proofAfter}
 use Rattle.composition.specs.Answers.{composed, MadeIsAccepted}
 use Rattle.joint.proofs.Theorems.{made-accepted}
 
@@ -48,7 +50,7 @@ module _ (h p h′ p′ : List ℕ) (words : ℕ) (hout pout : List ℕ) where
   made-promised k H P e = record {
     always = λ m is words′ enough.
         let same : record { steps = k; handler = length H; proof = length P } ≡ m = cc in
-        subst (λ (x : Made). answer (take (x .handler) (H ++ drop (length H) hout)) (take (x .proof) (P ++ drop (length P) pout)) words′ .verdict ≡ Accepted (x .steps)) same
+        subst (λ (x : Made). answer (take (x .handler) (H ++ drop (length H) hout)) (take (x .proof) (P ++ drop (length P) pout)) rows words′ .verdict ≡ Accepted (x .steps)) same
         (rw (take-at H (drop (length H) hout) (length H) refl, take-at P (drop (length P) pout) (length P) refl)
         (made-accepted h p h′ p′ words k H P e words′ enough));
   }

@@ -4,6 +4,7 @@ use mathlib.Core.List.{List}
 use mathlib.Core.Path.{_≡_}
 use lib.ListN.{length, take}
 use Rattle.derivation.specs.Tables.{workWords}
+use Rattle.pair.specs.Modes.{rows}
 use Rattle.checker.specs.declared.Verdict.the-variants.{Accepted}
 use Rattle.checker.specs.Verdicts.{answer}
 use Rattle.joint.specs.Composing.{Composition, made, refused}
@@ -19,4 +20,4 @@ composed (made k handler proof) = Composed.Made (record { steps = k; handler = l
 -- What is promised of files that were written: the check accepts them, with any 1,040 work words or more, and with this step number.
 pub record MadeIsAccepted (answered : Composed) (hout pout : List ℕ) : Type 0 where
   pub always : (m : Made) → answered ≡ Composed.Made m → (words : ℕ) → workWords ≤ words
-      → answer (take (m .handler) hout) (take (m .proof) pout) words .verdict ≡ Accepted (m .steps)
+      → answer (take (m .handler) hout) (take (m .proof) pout) rows words .verdict ≡ Accepted (m .steps)

@@ -11,13 +11,15 @@ use Rattle.states.specs.Relations.{rel}
 use Rattle.semantics.specs.Derivations.{Derivation, Spec, namesOf, nodes, levels}
 use Rattle.semantics.specs.Conditions.{relationLiesIn}
 use Rattle.semantics.specs.States.{product}
-use Rattle.semantics.specs.StepNumber.{steps}
 use Rattle.handler.specs.declared.HandlerSummary.{HandlerSummary}
 use Rattle.handler.specs.Kinds.{stmtWidth}
 use Rattle.handler.specs.StatementTable.{statements, stmtLevels}
 use Rattle.derivation.specs.Tables.{mostTables, tabulate}
 use Rattle.derivation.specs.declared.Node.{Node}
+use Rattle.derivation.specs.declared.ProofHead.{ProofHead}
 use Rattle.derivation.specs.NodeTable.{nodeTable}
+use Rattle.pair.specs.Limits.{mostHandlerBytes, mostProofBytes}
+use Rattle.pair.specs.Modes.{rows}
 use Rattle.rules.specs.Words.{wordSet, wordRelation, wordSpec}
 use Rattle.checker.specs.declared.Verdict.the-variants.{Accepted}
 use Rattle.checker.specs.Verdicts.{answer}
@@ -31,6 +33,7 @@ use Rattle.composition.specs.declared.Composed.{Composed}
 use Rattle.composition.specs.declared.Composed.the-variants as Composed
 use Rattle.composition.specs.declared.tables.Roots.{Roots}
 use Rattle.composition.specs.declared.forms.Form.{Form}
+use Rattle.composition.specs.declared.joining.Handlers.{Handlers}
 use Rattle.composition.specs.declared.joining.Lengths.{Lengths}
 use Rattle.composition.specs.declared.numbering.SetNumbers.{SetNumbers}
 use Rattle.composition.specs.declared.numbering.SideNumbers.{SideNumbers}
@@ -91,7 +94,7 @@ pub record Merged (before xs after : List ℕ) (count : ℕ) (names : List ℕ) 
 pub record WasAccepted (hb pb : List ℕ) : Type 0 where
   pub words : ℕ
   pub steps : ℕ
-  pub accepted : answer hb pb words .verdict ≡ Accepted steps
+  pub accepted : answer hb pb rows words .verdict ≡ Accepted steps
 
 -- What is taken from a pair of files over n states, as its proof file's one form holds it, with the tables in words.
 pub record Formed (n : ℕ) (side : Side) (words : List ℕ) (f : Form) : Type 0 where
@@ -197,74 +200,78 @@ firstUnmet n a b =
     let P = rootSpec n a b .P in
     cond (relationLiesIn n (b .G) (a .R)) (cond (relationLiesIn n (a .G) (b .R)) (cond (staysIn n P (a .G) && staysIn n P (b .G)) 0 93) 92) 91
 
--- A statement that lies within a file, and whose step number is stated.
+-- A statement that lies within a file.
 pub record Placed (s : HandlerSummary) : Type 0 where
   pub starts : s .at ≤ s .end
-  pub ends : s .end ≤ 131072
-  pub counted : s .steps ≤ 4294967295
+  pub ends : s .end ≤ 8 * mostHandlerBytes
 
--- The lengths of both files, and the step number.
-pub record LengthsAre (n : ℕ) (a : HandlerSummary) (f : Form) (b : HandlerSummary) (g : Form) (m : SetNumbers) (k : RelationNumbers) (l : Lengths) : Type 0 where
-  pub handler-is : l .handler ≡ bytesFor (a .at + 3 + (a .end - a .at) + (b .end - b .at))
+-- The fields of the handler file.
+abbrev pub bothParts : List ℕ → List ℕ → Handlers → List Part
+bothParts h h′ x = handlerParts h (x .first .at) (x .first .end - x .first .at) h′ (x .second .at) (x .second .end - x .second .at)
+
+-- The lengths of both files.
+pub record LengthsAre (n : ℕ) (x : Handlers) (f g : Form) (m : SetNumbers) (k : RelationNumbers) (l : Lengths) : Type 0 where
+  pub handler-is : l .handler ≡ bytesFor (x .first .at + 3 + (x .first .end - x .first .at) + (x .second .end - x .second .at))
   pub proof-is : l .proof ≡ bytesFor (proofBits n m k f g)
-  pub steps-are : l .steps ≡ a .steps + b .steps + 1
+
+-- Whether files of these lengths with this step number are within the limits of 94 that are no counts.
+abbrev pub lengthsFit : ℕ → ℕ → ℕ → Bool
+lengthsFit handler proof steps = leb handler mostHandlerBytes && leb proof mostProofBytes && leb steps (2 ^ 32 - 1)
 
 -- 94 or 95 for files of these lengths and this step number, or 0.
 unfoldable pub lengthFault : ℕ → ℕ → ℕ → ℕ → ℕ → ℕ
-lengthFault handler proof steps room space =
-    cond (leb handler 16384 && leb proof 16384 && leb steps (2 ^ 32 - 1)) (cond (leb handler room && leb proof space) 0 95) 94
+lengthFault handler proof steps room space = cond (lengthsFit handler proof steps) (cond (leb handler room && leb proof space) 0 95) 94
 
 -- Both files where no count is over its limit: 94 is asked of their lengths and of the step number.
-abbrev pub filesOf : ℕ → List ℕ → HandlerSummary → Form → List ℕ → HandlerSummary → Form → List ℕ → SetNumbers → List ℕ → RelationNumbers → Composition
-filesOf n h a f h′ b g S m T k =
-    let handler = packed (handlerParts h (a .at) (a .end - a .at) h′ (b .at) (b .end - b .at)) in
-    let proof = packed (proofParts n S T (nodeParts k m f g)) in
-    asked 94 (leb (length handler) 16384 && leb (length proof) 16384 && leb (a .steps + b .steps + 1) (2 ^ 32 - 1))
-    (made (a .steps + b .steps + 1) handler proof)
+abbrev pub ifFit : ℕ → List ℕ → List ℕ → Composition
+ifFit steps handler proof = asked 94 (lengthsFit (length handler) (length proof) steps) (made steps handler proof)
+
+abbrev pub filesOf : ℕ → List ℕ → List ℕ → Handlers → Form → Form → List ℕ → SetNumbers → List ℕ → RelationNumbers → Composition
+filesOf n h h′ x f g S m T k = ifFit (x .steps) (packed (bothParts h h′ x)) (packed (proofParts n S T (nodeParts k m f g)))
 
 -- Whether the result is within the limits of 94 that are counts: statements and levels of both handlers, nodes and levels of both proofs, and
 -- the sets and relations of the result.
-unfoldable pub smallCounts : ℕ → ℕ → ℕ → ℕ → ℕ → ℕ → ℕ → ℕ → ℕ → ℕ → Bool
-smallCounts s l n d s′ l′ n′ d′ sets relations =
-    leb (1 + s + s′) 63 && leb (suc (max l l′)) 16 && leb (3 + n + n′) 127 && leb (suc (suc (max d d′))) 24 && leb sets 16 && leb relations 16
+unfoldable pub smallCounts : HandlerSummary → HandlerSummary → ProofHead → ProofHead → ℕ → ℕ → Bool
+smallCounts a b f g sets relations =
+    leb (1 + a .statements + b .statements) 63 && leb (suc (max (a .levels) (b .levels))) 16
+    && leb (3 + f .nodes + g .nodes) 127 && leb (suc (suc (max (f .levels) (g .levels)))) 24 && leb sets 16 && leb relations 16
 
--- What reading the handler file of a side over n states gives.
-pub record HandlerOf (n : ℕ) (side : Side) (s : HandlerSummary) : Type 0 where
+-- What reading the handler file of a side gives.
+pub record HandlerOf (side : Side) (s : HandlerSummary) : Type 0 where
   pub at-is : s .at ≡ side .at
   pub end-is : s .end ≡ side .at + stmtWidth (side .statement)
   pub statements-are : s .statements ≡ statements (side .statement)
   pub levels-are : s .levels ≡ stmtLevels (side .statement)
-  pub steps-are : s .steps ≡ steps n (side .statement)
   pub placed : Placed s
 
 -- A side that is ready to be joined: its handler file was read, and the one form of its proof file is in words.
 pub record Ready (n : ℕ) (side : Side) (s : HandlerSummary) (f : Form) (words : List ℕ) : Type 0 where
   pub states-are : n ≡ product (side .sizes)
-  pub of-handler : HandlerOf n side s
+  pub of-handler : HandlerOf side s
   pub of-form : Formed n side words f
   pub room : Writable n (side .derivation)
 
-pub record BothReady (n : ℕ) (a : HandlerSummary) (f : Form) (words : List ℕ) (b : HandlerSummary) (g : Form) (others : List ℕ) : Type 0 where
+pub record BothReady (n : ℕ) (x : Handlers) (f : Form) (words : List ℕ) (g : Form) (others : List ℕ) : Type 0 where
   pub A : Side
   pub B : Side
-  pub first : Ready n A a f words
-  pub second : Ready n B b g others
+  pub first : Ready n A (x .first) f words
+  pub second : Ready n B (x .second) g others
 
 -- Two accepted pairs over the same n states, and what reading their handler files gives.
-pub record SameStates (n : ℕ) (h p : List ℕ) (a : HandlerSummary) (h′ p′ : List ℕ) (b : HandlerSummary) : Type 0 where
+pub record SameStates (n : ℕ) (h p h′ p′ : List ℕ) (x : Handlers) : Type 0 where
   pub first : WasAccepted h p
   pub second : WasAccepted h′ p′
   pub first-states : n ≡ product (sideOf h p .sizes)
   pub second-states : n ≡ product (sideOf h′ p′ .sizes)
-  pub first-handler : HandlerOf n (sideOf h p) a
-  pub second-handler : HandlerOf n (sideOf h′ p′) b
+  pub first-handler : HandlerOf (sideOf h p) (x .first)
+  pub second-handler : HandlerOf (sideOf h′ p′) (x .second)
 
 -- The result over the same variables: 91 to 93, then the rest.
-unfoldable pub metOf : ℕ → List ℕ → List ℕ → Side → Side → Composition
-metOf n h h′ A B =
-    cond (eqb (firstUnmet n (A .tables) (B .tables)) 0) (limited h h′ A B) (refused 0 (plain (firstUnmet n (A .tables) (B .tables))))
+unfoldable pub metOf : ℕ → List ℕ → List ℕ → Side → Side → ℕ → Composition
+metOf n h h′ A B steps =
+    cond (eqb (firstUnmet n (A .tables) (B .tables)) 0) (limited h h′ A B steps) (refused 0 (plain (firstUnmet n (A .tables) (B .tables))))
 
 -- An answer whose parts are small enough for one number of 64 bits.
 abbrev pub Small : Composed → Type 0
-Small (Composed.Made m) = (m .steps < 2 ^ 32) × (m .handler ≤ 16384) × (m .proof ≤ 16384)
+Small (Composed.Made m) = (m .steps < 2 ^ 32) × (m .handler ≤ mostHandlerBytes) × (m .proof ≤ mostProofBytes)
 Small (Composed.Refused pair f) = (pair ≤ 2) × (0 < f .number) × (f .number ≤ 95) × (indexOf (f .place) < 2 ^ 32)

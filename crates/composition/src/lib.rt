@@ -1,11 +1,12 @@
 // Two handlers on one core (docs/COMPOSITION.md): the parallel of two accepted pairs, with a proof of it.
 use checker::Fault;
-use checker::MOST_BYTES;
 use checker::Place;
 use checker::Verdict;
 use checker::WORK_WORDS;
 use checker::check;
 use derivation::words::clear;
+use pair::rows;
+use pair::too_long;
 use pairs::compose_accepted;
 use report::code_of;
 use search::Named;
@@ -14,9 +15,10 @@ ghost use mathlib.Core.Path.{_≡_};
 ghost use Prim.Native.Nat.{_≤_};
 ghost use lib.ListN.{length};
 ghost use Rattle.derivation.specs.Tables.{workWords, written};
+ghost use Rattle.pair.specs.Limits.{tooLong};
 ghost use Rattle.composition.specs.declared.Composed.the-variants.{Refused};
 ghost use Rattle.composition.specs.Coding.{numberOf, ofNumber, withoutStates};
-ghost use Rattle.joint.specs.Composing.{plain, tooLong, composeInto, workAfter, handlerAfter, proofAfter};
+ghost use Rattle.joint.specs.Composing.{plain, composeInto, workAfter, handlerAfter, proofAfter};
 ghost use Rattle.composition.specs.Answers.{composed, MadeIsAccepted};
 ghost use Rattle.composition.specs.Refinement.{Small};
 
@@ -62,13 +64,6 @@ const FEW_WORDS: u32 = 1;
 
 const LONG_FILE: u32 = 2;
 
-// Whether a file of a pair is over its length.
-fn too_long(handler: &[u8], proof: &[u8]) -> bool
-    ensures { λ r. ⌜ r ≡ tooLong (now (handler .entry)) (now (proof .entry)) ⌝ }
-{
-    (handler.len() > MOST_BYTES) | (proof.len() > MOST_BYTES)
-}
-
 // Both checks, and then the composition of what they accepted. The work words hold the tables of the pair that was checked last.
 fn compose_checked(
     h1: &[u8],
@@ -91,11 +86,12 @@ fn compose_checked(
         ⌜ now (pout .exit) ≡ proofAfter (composeInto (now (h1 .entry)) (now (p1 .entry)) (now (h2 .entry)) (now (p2 .entry))
         (now (work .entry)) (now (hout .entry)) (now (pout .entry))) (now (pout .entry)) ⌝ }
 {
-    match check(h1, p1, work) {
+    let mode = rows();
+    match check(h1, p1, mode, work) {
         Verdict::Refused(fault) => Composed::Refused(1, fault),
-        Verdict::Accepted(steps) => match check(h2, p2, work) {
+        Verdict::Accepted(steps) => match check(h2, p2, mode, work) {
             Verdict::Refused(fault) => Composed::Refused(2, fault),
-            Verdict::Accepted(more) => compose_accepted(h1, p1, h2, p2, hout, pout),
+            Verdict::Accepted(more) => compose_accepted(h1, p1, steps, h2, p2, more, hout, pout),
         },
     }
 }

@@ -9,11 +9,12 @@ use writer::put;
 use writer::sets::put_set;
 ghost use mathlib.Core.Path.{_≡_};
 ghost use mathlib.Core.List.{_∷_, _++_, map};
-ghost use Prim.Native.Nat.{_+_, _-_, _*_, _^_, _≤_};
+ghost use Prim.Native.Nat.{_+_, _-_, _*_, _^_, _≤_, _<_};
 ghost use lib.ListN.{length};
 ghost use Rattle.states.specs.Sets.{capacity};
 ghost use Rattle.rules.specs.Words.{wordRelation};
 ghost use Rattle.derivation.specs.Tables.{mostTables};
+ghost use Rattle.pair.specs.Limits.{mostHandlerBytes};
 ghost use Rattle.writer.specs.Writing.{putBits};
 ghost use Rattle.writer.specs.Packing.{part, putParts, bytesFor, packed};
 ghost use Rattle.form.specs.Members.{relationWhere};
@@ -84,7 +85,7 @@ pub(crate) fn write_tables(
 
 // How many bytes so many bits take.
 pub(crate) fn file_bytes(bits: usize) -> usize
-    requires { ⌜ bits ≤ 2 ^ 21 ⌝ }
+    requires { ⌜ bits < 2 ^ 63 ⌝ }
     ensures { λ r. ⌜ r ≡ bytesFor bits ⌝ }
 {
     (bits + 7) / 8
@@ -101,7 +102,7 @@ pub(crate) fn write_handler(
     to: usize,
     out: &mut [u8],
 )
-    requires { ⌜ (at ≤ end) × (end ≤ 2 ^ 18) × (from ≤ to) × (to ≤ 2 ^ 18)
+    requires { ⌜ (at ≤ end) × (end ≤ 8 * mostHandlerBytes) × (from ≤ to) × (to ≤ 8 * mostHandlerBytes)
         × (bytesFor (at + 3 + (end - at) + (to - from)) ≤ length (now out)) ⌝ }
     ensures { λ _. ⌜ now (out .exit) ≡ atFront (packed (handlerParts (now (first .entry)) at (end - at) (now (second .entry)) from (to - from)))
         (now (out .entry)) ⌝ }

@@ -2,13 +2,15 @@
 use Prim.Native.Nat.{ℕ, _*_, _^_, _≤_, _<_}
 use mathlib.Core.Bool.{true, false}
 use mathlib.Core.Option.{none}
-use mathlib.Core.Path.{_≡_, refl, sym, ap, _∙_}
+use mathlib.Core.Path.{_≡_, refl, sym, ap, _∙_, subst}
 use native.Mathlib.Nat.{mul-le-mul}
 use native.Mathlib.Omega.{arith}
 use borrow.Author.Needs.{needs}
 use borrow.Author.Tests.{lt-ltb, le-ltb}
 use lib.Dec.{ltb}
+use lib.ListN.{length}
 use Rattle.checker.specs.declared.Verdict.{Verdict}
+use Rattle.checker.specs.Verdicts as Check
 use Rattle.frame.specs.declared.Outcome.{Outcome}
 use Rattle.frame.specs.Slots.{held, total, holds, wellFormed}
 use Rattle.frame.specs.Calls.{beforeCheck, onVerdict}
@@ -67,7 +69,7 @@ returns-4 c =
 
 -- When the check is reached, its verdict alone decides.
 looked : (c : tie.After-check) → tie.After-known-told
-looked c = c .before .before .before
+looked c = c .before .before .before .before
 
 begun : (c : tie.After-check) → tie.Start
 unfolding looked
@@ -78,7 +80,7 @@ unfolding start looked begun
 none-there c =
     let l = looked c .before .before .before in
     let a = begun c .args in
-    reached (a .frame) (a .place) (a .ticks) (there l) (free l) (found (looked c) .0) (c .before .before .if3 .left)
+    reached (a .frame) (a .place) (a .ticks) (there l) (free l) (found (looked c) .0) (c .before .before .before .if3 .left)
 
 -- The need of any step number and any ticks is a number of 64 bits.
 product-fits : {m n : ℕ} → m < 2 ^ 32 → n < 2 ^ 32 → m * n < 2 ^ 64
@@ -96,17 +98,21 @@ mul-grant c =
 grant-requires : tie.Need-grant-requires
 unfolding start
 grant-requires c κs =
-    let k = c .before .before .before .before .before .before .before .before in
+    let k = c .before .before .before .before .before .before .before .before .before in
     let l = k .before .before .before in
     (found k .0, free l, omega (arith, l .before .before .before .if1 .left), found k .1)
 
 -- What follows from the verdict is the whole promise.
 decided : (q : tie.After-check) (v : Verdict) (o : Outcome) → let a = begun q .args in q .check .result ≡ v → o ≡ onVerdict (a .frame) (a .place) (a .ticks) v
-    → Promised (a .frame) (a .place) (a .handler .now) (a .proof .now) (a .ticks) (a .work .now) o (q .check .last .1 .1 .0)
+    → Promised (a .frame) (a .place) (a .handler .now) (a .proof .now) (a .ticks) (a .work .now) o (q .check .last .1 .1 .1 .0)
 unfolding start looked begun
 decided q v o is follows =
     let a = begun q .args in
-    checked _ _ _ _ _ _ _ _ _ (none-there q) (q .check .ensures .0) (q .check .ensures .1 .0) (q .check .ensures .1 .1)
+    let told = q .before .before .rows .ensures in
+    checked _ _ _ _ _ _ _ _ _ (none-there q)
+    (q .check .ensures .0 ∙ ap (λ m. Check.answer (a .handler .now) (a .proof .now) m (length (a .work .now)) .verdict) told)
+    (q .check .ensures .1 .0 ∙ ap (λ m. Check.workAfter (a .handler .now) (a .proof .now) m (a .work .now)) told)
+    (subst (λ m. Check.AcceptedIsSound (a .handler .now) (a .proof .now) m (q .check .result)) told (q .check .ensures .1 .1))
     (follows ∙ ap (onVerdict (a .frame) (a .place) (a .ticks)) (sym is))
 
 returns-5 : tie.Need-returns-5
@@ -129,7 +135,7 @@ admit-spec =
     returns-3
     (λ c κs. search needs)
     returns-4
-    (λ c κs. search needs) (λ c. search needs) (λ c κs. search needs) (λ c. search needs) (λ c. search needs)
+    (λ c κs. search needs) (λ c κs. search needs) (λ c. search needs) (λ c κs. search needs) (λ c. search needs) (λ c. search needs)
     mul-grant
     grant-requires
     (λ c. search needs)

@@ -1,21 +1,21 @@
--- Both handler files are read; other sizes are 90, and the rest is decided over the same variables.
+-- Both pairs are read; other sizes are 90, and the rest is decided over the same variables.
 use mathlib.Core.Path.{_≡_, sym, _∙_, ap, subst}
+use native.Mathlib.Omega.{arith}
 use borrow.Author.Needs.{needs}
-use lib.ListN.{length}
 use Rattle.semantics.specs.States.{product}
 use Rattle.handler.specs.Header.{headOf}
-use Rattle.joint.specs.Composing.{Side, sideOf, sameSizes, handlerAfter, proofAfter, withRoom}
-use Rattle.composition.specs.Answers.{composed}
+use Rattle.joint.specs.Composing.{Side, sideOf, sameSizes, plain}
 use Rattle.composition.specs.Refinement.{HandlerOf}
 use Rattle.joint.proofs.Sizes.{sizes-same}
 use Rattle.composition.proofs.BothPairs.{few-sizes, found-is, head-is, handler-of, other-sizes, same-variables}
+use Rattle.composition.proofs.Leaving.{leaves-same, leaves-refused}
 use Rattle.composition.proofs.pairs.compose_accepted.Statement.{statement}
 use Rattle.composition.proofs.pairs.compose_accepted.Tie as tie
 
-abbrev start : tie.After-read-handler → tie.Start
+abbrev start : tie.After-read-pair → tie.Start
 start c = c .before .before .before .before .before .before .before
 
-abbrev firstRead : tie.After-same-sizes → tie.After-read-handler
+abbrev firstRead : tie.After-same-sizes → tie.After-read-pair
 firstRead c = c .before .before .before .before
 
 abbrev firstSide : tie.After-same-sizes → Side
@@ -29,21 +29,15 @@ compared : (c : tie.After-same-sizes) → c .same-sizes .result ≡ sameSizes (f
 compared c =
     let r = firstRead c in
     let p = start r .pre in
-    c .same-sizes .ensures _ _ (ap (λ f. f .head) (r .read-handler .ensures) ∙ head-is _ _ (p .0))
-    (ap (λ f. f .head) (c .before .before .before .read-handler2 .ensures) ∙ head-is _ _ (p .1)) (few-sizes _ _ (p .0)) (few-sizes _ _ (p .1))
+    c .same-sizes .ensures _ _ (ap (λ f. f .head) (r .read-pair .ensures) ∙ head-is _ _ (p .0))
+    (ap (λ f. f .head) (c .before .before .before .read-pair2 .ensures) ∙ head-is _ _ (p .1)) (few-sizes _ _ (p .0)) (few-sizes _ _ (p .1))
 
 returns-2 : tie.Need-returns-2
-unfolding withRoom
 returns-2 c =
     let d = c .before .before in
     let a = start (firstRead d) .args in
-    let e = other-sizes (a .h1 .now) (a .h2 .now) (firstSide d) (secondSide d) (sym (compared d) ∙ c .before .if1 .left) in (
-      c .refused .ensures ∙ sym (ap (λ o. composed (withRoom o (length (a .hout .now)) (length (a .pout .now)))) e),
-      (
-        sym (ap (λ o. handlerAfter (withRoom o (length (a .hout .now)) (length (a .pout .now))) (a .hout .now)) e),
-        sym (ap (λ o. proofAfter (withRoom o (length (a .hout .now)) (length (a .pout .now))) (a .pout .now)) e),
-      ),
-    )
+    leaves-refused (a .hout .now) (a .pout .now) _ 0 (plain 90)
+    (other-sizes (a .h1 .now) (a .h2 .now) (firstSide d) (secondSide d) _ (sym (compared d) ∙ c .before .if1 .left)) _ (c .refused .ensures)
 
 -- Over the same variables.
 abbrev joined : tie.After-summary-of2 → tie.After-same-sizes
@@ -52,9 +46,9 @@ joined c = c .before .before .before
 same : (c : tie.After-summary-of2) → firstSide (joined c) .sizes ≡ secondSide (joined c) .sizes
 same c = sizes-same _ _ (sym (compared (joined c)) ∙ c .before .before .if1 .taken)
 
-states : (c : tie.After-same-sizes) → firstRead c .read-handler .result .head .states ≡ product (firstSide c .sizes)
+states : (c : tie.After-same-sizes) → firstRead c .read-pair .result .head .states ≡ product (firstSide c .sizes)
 unfolding headOf
-states c = ap (λ f. f .states) (ap (λ f. f .head) (firstRead c .read-handler .ensures) ∙ head-is _ _ (start (firstRead c) .pre .0))
+states c = ap (λ f. f .states) (ap (λ f. f .head) (firstRead c .read-pair .ensures) ∙ head-is _ _ (start (firstRead c) .pre .0))
 
 compose-sides-requires : tie.Need-compose-sides-requires
 compose-sides-requires c κs =
@@ -69,10 +63,10 @@ compose-sides-requires c κs =
       second = p .1;
       first-states = n;
       second-states = m;
-      first-handler = subst (HandlerOf _ _) (sym (s .before .summary-of .ensures _ (ap (λ f. f .found) (r .read-handler .ensures) ∙ found-is _ _ (p .0))))
-          (handler-of _ _ (p .0) _ n);
-      second-handler = subst (HandlerOf _ _) (sym (s .summary-of2 .ensures _ (ap (λ f. f .found) (d .before .before .before .read-handler2 .ensures) ∙ found-is _ _ (p .1))))
-          (handler-of _ _ (p .1) _ m);
+      first-handler = subst (HandlerOf _) (sym (s .before .summary-of .ensures _ (ap (λ f. f .found) (r .read-pair .ensures) ∙ found-is _ _ (p .0))))
+          (handler-of _ _ (p .0));
+      second-handler = subst (HandlerOf _) (sym (s .summary-of2 .ensures _ (ap (λ f. f .found) (d .before .before .before .read-pair2 .ensures) ∙ found-is _ _ (p .1))))
+          (handler-of _ _ (p .1));
     }
 
 returns : tie.Need-returns
@@ -81,16 +75,12 @@ returns c =
     let s = c .before .before .before .before .before .before .before in
     let d = joined s in
     let a = start (firstRead d) .args in
-    let e = same-variables (a .h1 .now) (a .h2 .now) (firstSide d) (secondSide d) _ (states d) (sym (compared d) ∙ s .before .before .if1 .taken) in (
-      j .0 ∙ sym (ap (λ o. composed (withRoom o (length (a .hout .now)) (length (a .pout .now)))) e),
-      (
-        j .1 .0 ∙ sym (ap (λ o. handlerAfter (withRoom o (length (a .hout .now)) (length (a .pout .now))) (a .hout .now)) e),
-        j .1 .1 ∙ sym (ap (λ o. proofAfter (withRoom o (length (a .hout .now)) (length (a .pout .now))) (a .pout .now)) e),
-      ),
-    )
+    leaves-same (a .hout .now) (a .pout .now) _ _
+    (same-variables (a .h1 .now) (a .h2 .now) (firstSide d) (secondSide d) _ _ (states d) (sym (compared d) ∙ s .before .before .if1 .taken)) _ _ _ j
 
 pub compose-accepted-spec : {M : Type 1} → statement M
 compose-accepted-spec =
     tie.close
-    (tie.spec (λ c κs. search needs) (λ c κs. search needs) (λ c κs. search needs) (λ c κs. search needs) (λ c κs. search needs) compose-sides-requires
+    (tie.spec (λ c κs. search needs) (λ c κs. search needs) (λ c κs. search needs) (λ c κs. search needs) (λ c κs. search needs) (λ c. omega (arith, start (firstRead (joined c)) .fits))
+    (λ c. omega (arith, start (firstRead (joined c)) .fits)) compose-sides-requires
     (λ c κs. search needs) (λ c. search needs) (λ c. search needs) returns returns-2)

@@ -2,12 +2,11 @@
 use mathlib.Core.Path.{_≡_, sym, _∙_, ap}
 use native.Mathlib.Omega.{arith}
 use borrow.Author.Needs.{needs}
-use lib.ListN.{length}
 use Rattle.composition.specs.declared.Composed.the-variants.{Refused}
-use Rattle.joint.specs.Composing.{Side, sideOf, plain, handlerAfter, proofAfter, withRoom}
-use Rattle.composition.specs.Answers.{composed}
+use Rattle.joint.specs.Composing.{Side, sideOf, plain}
 use Rattle.composition.specs.Refinement.{firstUnmet, Ready}
 use Rattle.composition.proofs.BothPairs.{room-of, ready, met-not, met-all}
+use Rattle.composition.proofs.Leaving.{leaves-same, leaves-refused}
 use Rattle.composition.proofs.pairs.compose_sides.Statement.{statement}
 use Rattle.composition.proofs.pairs.compose_sides.Tie as tie
 
@@ -39,29 +38,24 @@ unmet-requires c κs =
     room-of _ _ (p .first) _ (p .first-states) .states-most
 
 returns : tie.Need-returns
-unfolding withRoom
 returns c =
     let d = c .before .before in
     let a = start (first (second d)) .args in
     let is = fault-is d in
-    let e = met-not (a .n) (a .h1 .now) (a .h2 .now) (firstSide d) (secondSide d) (λ z. c .before .if1 .taken (is ∙ z)) in (
-      c .refused .ensures ∙ ap (λ k. Refused 0 (plain k)) is ∙ sym (ap (λ o. composed (withRoom o (length (a .hout .now)) (length (a .pout .now)))) e),
-      (
-        sym (ap (λ o. handlerAfter (withRoom o (length (a .hout .now)) (length (a .pout .now))) (a .hout .now)) e),
-        sym (ap (λ o. proofAfter (withRoom o (length (a .hout .now)) (length (a .pout .now))) (a .pout .now)) e),
-      ),
-    )
+    leaves-refused (a .hout .now) (a .pout .now) _ 0 _
+    (met-not (a .n) (a .h1 .now) (a .h2 .now) (firstSide d) (secondSide d) _ (λ z. c .before .if1 .taken (is ∙ z)))
+    _ (c .refused .ensures ∙ ap (λ k. Refused 0 (plain k)) is)
 
 -- Both sides are ready to be joined.
 first-ready : (c : tie.After-unmet) → let l = first (second c) in let a = start l .args in
-    Ready (a .n) (firstSide c) (a .a) (l .load-form .result) (l .load-form .last .1 .1 .1 .0)
+    Ready (a .n) (firstSide c) (a .both .first) (l .load-form .result) (l .load-form .last .1 .1 .1 .0)
 first-ready c =
     let l = first (second c) in
     let p = start l .pre in
     ready _ _ (p .first) _ (p .first-states) _ _ _ (p .first-handler) (l .load-form .ensures)
 
 second-ready : (c : tie.After-unmet) → let l = second c in let a = start (first l) .args in
-    Ready (a .n) (secondSide c) (a .b) (l .load-form2 .result) (l .load-form2 .last .1 .1 .1 .0)
+    Ready (a .n) (secondSide c) (a .both .second) (l .load-form2 .result) (l .load-form2 .last .1 .1 .1 .0)
 second-ready c =
     let l = second c in
     let p = start (first l) .pre in
@@ -81,13 +75,9 @@ returns-2 c =
     let B = secondSide d in
     let x = first-ready d in
     let y = second-ready d in
-    let e = met-all (a .n) (a .h1 .now) (a .h2 .now) A B (sym (fault-is d) ∙ c .before .before .before .before .before .before .before .before .before .before .before .if1 .left) in (
-      j .0 A B x y ∙ sym (ap (λ o. composed (withRoom o (length (a .hout .now)) (length (a .pout .now)))) e),
-      (
-        j .1 .0 A B x y ∙ sym (ap (λ o. handlerAfter (withRoom o (length (a .hout .now)) (length (a .pout .now))) (a .hout .now)) e),
-        j .1 .1 A B x y ∙ sym (ap (λ o. proofAfter (withRoom o (length (a .hout .now)) (length (a .pout .now))) (a .pout .now)) e),
-      ),
-    )
+    leaves-same (a .hout .now) (a .pout .now) _ _
+    (met-all (a .n) (a .h1 .now) (a .h2 .now) A B _ (sym (fault-is d) ∙ c .before .before .before .before .before .before .before .before .before .before .before .if1 .left))
+    _ _ _ (j .0 A B x y, (j .1 .0 A B x y, j .1 .1 A B x y))
 
 pub compose-sides-spec : {M : Type 1} → statement M
 compose-sides-spec =
