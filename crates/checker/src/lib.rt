@@ -25,7 +25,7 @@ pub mod nodes;
 pub const WORK_WORDS: usize = derivation::WORK_WORDS;
 
 // The largest step number that is stated.
-const MOST_STEPS: u64 = 4294967295;
+pub const MOST_STEPS: u64 = 4294967295;
 
 // The numbers that the check itself gives (docs/FORMAT.md, "Limits").
 const FEW_WORDS: u32 = 1;

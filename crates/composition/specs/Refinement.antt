@@ -10,13 +10,16 @@ use Rattle.states.specs.Sets.{capacity, has}
 use Rattle.states.specs.Relations.{rel}
 use Rattle.semantics.specs.Derivations.{Derivation, Spec, namesOf, nodes, levels}
 use Rattle.semantics.specs.Conditions.{relationLiesIn}
+use Rattle.semantics.specs.StepNumber.{mostSteps}
 use Rattle.semantics.specs.States.{product}
 use Rattle.handler.specs.declared.HandlerSummary.{HandlerSummary}
 use Rattle.handler.specs.Kinds.{stmtWidth}
+use Rattle.handler.specs.Statements.{mostStatements, mostStatementLevels}
 use Rattle.handler.specs.StatementTable.{statements, stmtLevels}
 use Rattle.derivation.specs.Tables.{mostTables, tabulate}
 use Rattle.derivation.specs.declared.Node.{Node}
 use Rattle.derivation.specs.declared.ProofHead.{ProofHead}
+use Rattle.derivation.specs.Nodes.{mostNodes, mostNodeLevels}
 use Rattle.derivation.specs.NodeTable.{nodeTable}
 use Rattle.pair.specs.Limits.{mostHandlerBytes, mostProofBytes}
 use Rattle.pair.specs.Modes.{rows}
@@ -216,7 +219,7 @@ pub record LengthsAre (n : ℕ) (x : Handlers) (f g : Form) (m : SetNumbers) (k 
 
 -- Whether files of these lengths with this step number are within the limits of 94 that are no counts.
 abbrev pub lengthsFit : ℕ → ℕ → ℕ → Bool
-lengthsFit handler proof steps = leb handler mostHandlerBytes && leb proof mostProofBytes && leb steps (2 ^ 32 - 1)
+lengthsFit handler proof steps = leb handler mostHandlerBytes && leb proof mostProofBytes && leb steps mostSteps
 
 -- 94 or 95 for files of these lengths and this step number, or 0.
 unfoldable pub lengthFault : ℕ → ℕ → ℕ → ℕ → ℕ → ℕ
@@ -233,8 +236,9 @@ filesOf n h h′ x f g S m T k = ifFit (x .steps) (packed (bothParts h h′ x)) 
 -- the sets and relations of the result.
 unfoldable pub smallCounts : HandlerSummary → HandlerSummary → ProofHead → ProofHead → ℕ → ℕ → Bool
 smallCounts a b f g sets relations =
-    leb (1 + a .statements + b .statements) 63 && leb (suc (max (a .levels) (b .levels))) 16
-    && leb (3 + f .nodes + g .nodes) 127 && leb (suc (suc (max (f .levels) (g .levels)))) 24 && leb sets 16 && leb relations 16
+    leb (1 + a .statements + b .statements) mostStatements && leb (suc (max (a .levels) (b .levels))) mostStatementLevels
+    && leb (3 + f .nodes + g .nodes) mostNodes && leb (suc (suc (max (f .levels) (g .levels)))) mostNodeLevels
+    && leb sets mostTables && leb relations mostTables
 
 -- What reading the handler file of a side gives.
 pub record HandlerOf (side : Side) (s : HandlerSummary) : Type 0 where

@@ -12,12 +12,14 @@ use crate::refused;
 use crate::tables::roots_of;
 use crate::writing::file_bytes;
 use crate::writing::write_handler;
+use checker::MOST_STEPS;
 use derivation::MOST_LEVELS;
 use derivation::MOST_NODES;
 use derivation::MOST_TABLES;
 use derivation::ProofHead;
 use handler::HandlerSummary;
 use handler::MOST_STATEMENTS;
+use handler::MOST_STATEMENT_LEVELS;
 use pair::MOST_HANDLER_BYTES;
 use pair::MOST_PROOF_BYTES;
 use states::SET_WORDS;
@@ -35,13 +37,10 @@ const LIMIT_PASSED: u32 = 94;
 
 const SHORT_BUFFER: u32 = 95;
 
-// The largest step number that is stated.
-const MOST_STEPS: u64 = 4294967295;
-
 // The limits of what is counted: the statements and nodes that the readers take, and their levels.
 const STATEMENTS: u64 = MOST_STATEMENTS as u64;
 
-const STATEMENT_LEVELS: u64 = 16;
+const STATEMENT_LEVELS: u64 = MOST_STATEMENT_LEVELS as u64;
 
 const NODES: u64 = MOST_NODES as u64;
 
