@@ -7,6 +7,7 @@ use native.Mathlib.Omega.{arith}
 use borrow.Author.Tests.{leb-true}
 use lib.Dec.{leb}
 use lib.ListN.{length}
+use Rattle.semantics.specs.StepNumber.{mostSteps}
 use Rattle.pair.specs.Limits.{mostHandlerBytes, mostProofBytes}
 use Rattle.joint.specs.Composing.{Composition, made, refused, plain, withRoom}
 use Rattle.composition.specs.Refinement.{lengthsFit, lengthFault, ifFit}
@@ -49,7 +50,7 @@ module _ (handler proof : List ℕ) (steps room space : ℕ) where
 pub record Within (handler proof steps room space : ℕ) : Type 0 where
   pub handler-most : handler ≤ mostHandlerBytes
   pub proof-most : proof ≤ mostProofBytes
-  pub steps-most : steps ≤ 4294967295
+  pub steps-most : steps ≤ mostSteps
   pub handler-room : handler ≤ room
   pub proof-room : proof ≤ space
 

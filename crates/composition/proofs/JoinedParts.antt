@@ -7,6 +7,7 @@ use native.Mathlib.Omega.{arith}
 use lib.ListN.{length, take}
 use Rattle.writer.specs.Packing.{part, widthOf}
 use Rattle.semantics.specs.Derivations.{Derivation, Spec, nodes, levels}
+use Rattle.derivation.specs.Nodes.{mostNodes}
 use Rattle.derivation.specs.declared.Node.{Node}
 use Rattle.derivation.specs.Tables.{mostTables}
 use Rattle.derivation.specs.NodeTable.{nodeBits, nodeRecord, nodeTable}
@@ -30,17 +31,17 @@ use Rattle.composition.proofs.JoinedNames.{FewTables, ResultSets, Resul
 -- A form whose table holds the nodes of x under their numbers.
 pub record NodesHeld (x : Derivation) (f : Form) : Type 0 where
   pub few-tables : FewTables x
-  pub nodes-most : nodes x ≤ 127
+  pub nodes-most : nodes x ≤ mostNodes
   pub node-count : f .head .nodes ≡ nodes x
   pub table-is : f .nodes ≡ nodeTable (f .head .root) (numbered x)
 
 module _ (x : Derivation) (f : Form) (is : NodesHeld x f) where
   held-nodes : {A : Type 0} (own : Node → List A) → ((i bit : ℕ) (d : Derivation) → own (nodeRecord i bit d) ≡ own (rootNode d))
-      → heldIn own (take (min (f .head .nodes) 127) (f .nodes)) ≡ inOrder own (numbered x)
+      → heldIn own (take (min (f .head .nodes) mostNodes) (f .nodes)) ≡ inOrder own (numbered x)
   unfolding numbered
   held-nodes own alike =
       let same : nodes (numbered x) ≡ nodes x = nodes-rename _ _ x in
-      let count : min (f .head .nodes) 127 ≡ nodes (numbered x) = omega (arith, is .node-count, is .nodes-most, same) in
+      let count : min (f .head .nodes) mostNodes ≡ nodes (numbered x) = omega (arith, is .node-count, is .nodes-most, same) in
       rw (count, is .table-is)
       (nodes-held (length (setsIn x)) (length (relationsIn x)) (is .few-tables .sets-most) (is .few-tables .relations-most) own alike
       (f .head .root) (numbered x) (numbered-known x) (omega (arith, is .nodes-most, same)))
@@ -52,7 +53,7 @@ module _ (x : Derivation) (f : Form) (is : NodesHeld x f) where
   side-parts node sets relations =
       ap (λ l. partsOf (newNode 6 node) ++ l) (held-nodes _ (λ i bit d. refl) ∙ sym (parts-renamed (nameIn sets) (nameIn relations) (numbered x)))
 
-  width-held : widthOf (heldIn partsOf (take (min (f .head .nodes) 127) (f .nodes))) ≡ nodeBits x
+  width-held : widthOf (heldIn partsOf (take (min (f .head .nodes) mostNodes) (f .nodes))) ≡ nodeBits x
   unfolding numbered partsOf
   width-held = ap widthOf (held-nodes partsOf (λ i bit d. refl)) ∙ width-nodes (numbered x) ∙ nodeBits-rename _ _ x
 
@@ -62,7 +63,7 @@ module _ (n : ℕ) (a b : Spec) (x y : Derivation) (f g : Form) (in-f : NodesHel
 
   pub joined-width : (S T : List ℕ) → widthOf (fileParts n S T (numbered D))
       ≡ 10 + n * length S + n * n * length T
-      + (57 + widthOf (heldIn partsOf (take (min (f .head .nodes) 127) (f .nodes))) + widthOf (heldIn partsOf (take (min (g .head .nodes) 127) (g .nodes))))
+      + (57 + widthOf (heldIn partsOf (take (min (f .head .nodes) mostNodes) (f .nodes))) + widthOf (heldIn partsOf (take (min (g .head .nodes) mostNodes) (g .nodes))))
   unfolding numbered joined
   joined-width S T =
       let bits : nodeBits (numbered D) ≡ nodeBits D = nodeBits-rename _ _ D in

@@ -1,5 +1,5 @@
 -- What 94 asks of the result, from the counts that the code has; and the files of a result that passes no limit.
-use Prim.Native.Nat.{ℕ, suc, _+_, _-_, _^_, _≤_, max}
+use Prim.Native.Nat.{ℕ, suc, _+_, _-_, _≤_, max}
 use mathlib.Core.Bool.{Bool, true, false, _&&_, and-eq-true-iff}
 use mathlib.Core.List.{List}
 use mathlib.Core.Path.{_≡_, refl, sym, _∙_, ap, subst}
@@ -9,11 +9,15 @@ use lib.Dec.{leb}
 use lib.ListN.{length}
 use Rattle.writer.specs.Packing.{packed}
 use Rattle.semantics.specs.Language.{par}
+use Rattle.semantics.specs.StepNumber.{mostSteps}
 use Rattle.semantics.specs.Derivations.{Derivation, nodes, levels}
 use Rattle.handler.specs.declared.HandlerSummary.{HandlerSummary}
 use Rattle.handler.specs.Kinds.{stmtWidth}
+use Rattle.handler.specs.Statements.{mostStatements, mostStatementLevels}
 use Rattle.handler.specs.StatementTable.{statements, stmtLevels}
 use Rattle.derivation.specs.declared.ProofHead.{ProofHead}
+use Rattle.derivation.specs.Nodes.{mostNodes, mostNodeLevels}
+use Rattle.derivation.specs.Tables.{mostTables}
 use Rattle.derivation.proofs.NodeTable.{Known}
 use Rattle.pair.specs.Limits.{mostHandlerBytes, mostProofBytes}
 use Rattle.form.specs.Members.{setWhere, relationWhere}
@@ -30,19 +34,19 @@ use Rattle.composition.proofs.Absorbed.{sets-joined, relations-joined}
 use Rattle.composition.proofs.JoinedNames.{FewTables, ResultSets, ResultRelations, numbered-joined}
 use Rattle.composition.proofs.JoinedParts.{nodes-joined, levels-joined, joined-parts}
 
--- A count over 16 means that the list is longer than 16.
-kept-test : (held seen : List ℕ) (count : ℕ) → Kept held count seen → length held ≡ count → leb count 16 ≡ leb (length seen) 16
-kept-test held seen count k long = by (leb count 16) refl
+-- A count over the limit means that the list is longer than it.
+kept-test : (held seen : List ℕ) (count : ℕ) → Kept held count seen → length held ≡ count → leb count mostTables ≡ leb (length seen) mostTables
+kept-test held seen count k long = by (leb count mostTables) refl
   where
-    by : (t : Bool) → leb count 16 ≡ t → t ≡ leb (length seen) 16
-    by true e = sym (le-leb (length seen) 16 (omega (arith, leb-true count 16 e, long, ap length (k .0 (leb-true count 16 e)))))
-    by false e = sym (lt-leb (length seen) 16 (k .1 (leb-false count 16 e)))
+    by : (t : Bool) → leb count mostTables ≡ t → t ≡ leb (length seen) mostTables
+    by true e = sym (le-leb (length seen) mostTables (omega (arith, leb-true count mostTables e, long, ap length (k .0 (leb-true count mostTables e)))))
+    by false e = sym (lt-leb (length seen) mostTables (k .1 (leb-false count mostTables e)))
 
 and-three : (t x y z : Bool) → (t && x && y && z) ≡ (t && (x && y && z))
 and-three true x y z = refl
 and-three false x y z = refl
 
-pub few-tables : (a b : HandlerSummary) (f g : ProofHead) (p q : ℕ) → smallCounts a b f g p q ≡ true → (p ≤ 16) × (q ≤ 16)
+pub few-tables : (a b : HandlerSummary) (f g : ProofHead) (p q : ℕ) → smallCounts a b f g p q ≡ true → (p ≤ mostTables) × (q ≤ mostTables)
 unfolding smallCounts
 few-tables a b f g p q e = let tests = simp and-eq-true-iff at e in (omega (arith, leb-true), omega (arith, leb-true))
 
@@ -79,8 +83,10 @@ module _ (n : ℕ) (A B : Side) (both : Handlers) (f g : Form) (words others : L
 
     abbrev counts : Bool
     counts =
-        leb (statements (par (A .statement) (B .statement))) 63 && leb (stmtLevels (par (A .statement) (B .statement))) 16
-        && leb (nodes D) 127 && leb (levels D) 24 && leb (length (setsIn D)) 16 && leb (length (relationsIn D)) 16
+        leb (statements (par (A .statement) (B .statement))) mostStatements
+        && leb (stmtLevels (par (A .statement) (B .statement))) mostStatementLevels
+        && leb (nodes D) mostNodes && leb (levels D) mostNodeLevels
+        && leb (length (setsIn D)) mostTables && leb (length (relationsIn D)) mostTables
 
     nodes-are : 3 + f .head .nodes + g .head .nodes ≡ nodes D
     nodes-are = (λ i. 3 + ra .of-form .node-count i + rb .of-form .node-count i) ∙ sym (nodes-joined n (A .tables) (B .tables) x y)
@@ -92,9 +98,9 @@ module _ (n : ℕ) (A B : Side) (both : Handlers) (f g : Form) (words others : L
     small-is : small ≡ counts
     unfolding smallCounts
     small-is = λ i.
-        leb (1 + ra .of-handler .statements-are i + rb .of-handler .statements-are i) 63
-        && leb (suc (max (ra .of-handler .levels-are i) (rb .of-handler .levels-are i))) 16
-        && leb (nodes-are i) 127 && leb (levels-are i) 24
+        leb (1 + ra .of-handler .statements-are i + rb .of-handler .statements-are i) mostStatements
+        && leb (suc (max (ra .of-handler .levels-are i) (rb .of-handler .levels-are i))) mostStatementLevels
+        && leb (nodes-are i) mostNodes && leb (levels-are i) mostNodeLevels
         && kept-test S (setsIn D) (m .count) kept-S long-S i && kept-test T (relationsIn D) (k .right .count) kept-T long-T i
 
     -- 94 without the lengths and the step number.
@@ -104,7 +110,7 @@ module _ (n : ℕ) (A B : Side) (both : Handlers) (f g : Form) (words others : L
       unfolding inLimits
       limits-are =
           rw (← ra .states-are)
-          (ap (λ t. t && leb (length (handlerFile h h′ A B)) mostHandlerBytes && leb (length (formOf n D)) mostProofBytes && leb (both .steps) (2 ^ 32 - 1)) (sym small-is)
+          (ap (λ t. t && leb (length (handlerFile h h′ A B)) mostHandlerBytes && leb (length (formOf n D)) mostProofBytes && leb (both .steps) mostSteps) (sym small-is)
           ∙ and-three small _ _ _)
 
       pub limited-not : small ≡ false → limited h h′ A B (both .steps) ≡ refused 0 (plain 94)
@@ -112,13 +118,13 @@ module _ (n : ℕ) (A B : Side) (both : Handlers) (f g : Form) (words others : L
 
       -- Where no count is over its limit.
       module _ (few : small ≡ true) where
-        rooms : (m .count ≤ 16) × (k .right .count ≤ 16)
+        rooms : (m .count ≤ mostTables) × (k .right .count ≤ mostTables)
         rooms = few-tables _ _ _ _ (m .count) (k .right .count) few
 
-        room-S : m .count ≤ 16
+        room-S : m .count ≤ mostTables
         room-S = rooms .0
 
-        room-T : k .right .count ≤ 16
+        room-T : k .right .count ≤ mostTables
         room-T = rooms .1
 
         is-S : S ≡ setsIn D

@@ -9,6 +9,7 @@ use Rattle.writer.specs.Packing.{Part, part, widthOf, putParts, putAll, bytesFo
 use Rattle.writer.proofs.Packed.{width-append, parts-append, length-parts, all-fits, length-packed, packed-front}
 use Rattle.writer.proofs.Copied.{cleared-within}
 use Rattle.states.specs.Sets.{capacity}
+use Rattle.derivation.specs.Nodes.{mostNodes}
 use Rattle.derivation.specs.declared.Node.{Node}
 use Rattle.derivation.specs.Tables.{mostTables}
 use Rattle.form.specs.Members.{nodeBy}
@@ -39,24 +40,24 @@ pub new-width : (rule : ℕ) (m : Three) → (rule ≡ 5 → ⊥) → widthOf (p
 new-width rule m not = other-width (newNode rule m) not
 
 module _ (node : Three) (sets relations nodes : List ℕ) (count : ℕ) where
-  pub side-width : widthOf (sideParts node sets relations nodes count) ≡ 19 + widthOf (heldIn partsOf (take (min count 127) nodes))
+  pub side-width : widthOf (sideParts node sets relations nodes count) ≡ 19 + widthOf (heldIn partsOf (take (min count mostNodes) nodes))
   unfolding sideParts
   side-width =
       omega (
         arith,
-        width-append (partsOf (newNode 6 node)) (heldIn (λ x. partsOf (nodeBy (nameIn sets) (nameIn relations) x)) (take (min count 127) nodes)),
+        width-append (partsOf (newNode 6 node)) (heldIn (λ x. partsOf (nodeBy (nameIn sets) (nameIn relations) x)) (take (min count mostNodes) nodes)),
         new-width 6 node (λ e. omega arith),
-        held-width sets relations (take (min count 127) nodes),
+        held-width sets relations (take (min count mostNodes) nodes),
       )
 
   pub side-written : (out o₁ o₂ : List ℕ) (at : ℕ) (x : Node) → x ≡ newNode 6 node
-      → Room out at (19 + widthOf (heldIn partsOf (take (min count 127) nodes))) → o₁ ≡ putAll out at (partsOf x)
-      → o₂ ≡ putAll o₁ (at + 19) (heldIn (λ x. partsOf (nodeBy (nameIn sets) (nameIn relations) x)) (take (min count 127) nodes))
+      → Room out at (19 + widthOf (heldIn partsOf (take (min count mostNodes) nodes))) → o₁ ≡ putAll out at (partsOf x)
+      → o₂ ≡ putAll o₁ (at + 19) (heldIn (λ x. partsOf (nodeBy (nameIn sets) (nameIn relations) x)) (take (min count mostNodes) nodes))
       → o₂ ≡ putParts out at (sideParts node sets relations nodes count)
   unfolding sideParts
   side-written out o₁ o₂ at x is room e₁ e₂ =
       let w = new-width 6 node (λ e. omega arith) in
-      let h = held-width sets relations (take (min count 127) nodes) in
+      let h = held-width sets relations (take (min count mostNodes) nodes) in
       two-written out o₁ o₂ at (at + 19) (partsOf (newNode 6 node)) _ (omega (arith, w, h), omega (arith, w, h)) (omega (arith, w))
       (e₁ ∙ ap (λ n. putAll out at (partsOf n)) is) e₂
 
@@ -76,9 +77,9 @@ all-written out o₁ o₂ o₃ at second w root left right x is inside fits widt
     ∙ (λ i. putParts (first i) (after i) (left ++ right)) ∙ sym (parts-append out at (partsOf (newNode 3 root)) (left ++ right))
 
 -- The nodes of a form have at most 27 bits each.
-pub form-few : (f : Form) → formBits f ≤ 27 * 127
+pub form-few : (f : Form) → formBits f ≤ 27 * mostNodes
 unfolding formBits
-form-few f = omega (arith, nodes-most (take (min (f .head .nodes) 127) (f .nodes)), length-take (min (f .head .nodes) 127) (f .nodes))
+form-few f = omega (arith, nodes-most (take (min (f .head .nodes) mostNodes) (f .nodes)), length-take (min (f .head .nodes) mostNodes) (f .nodes))
 
 pub nodes-width : (k : RelationNumbers) (m : SetNumbers) (a b : Form) → widthOf (nodeParts k m a b) ≡ 57 + formBits a + formBits b
 unfolding nodeParts formBits

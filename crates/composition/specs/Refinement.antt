@@ -154,7 +154,7 @@ newNode rule m = record { rule = rule; names = record { p = 0; r = m .r; g = m .
 -- The fields of a weaken node and of the nodes of the form below it, under new names.
 unfoldable pub sideParts : Three → List ℕ → List ℕ → List ℕ → ℕ → List Part
 sideParts node sets relations nodes count =
-    partsOf (newNode 6 node) ++ heldIn (λ x. partsOf (nodeBy (nameIn sets) (nameIn relations) x)) (take (min count 127) nodes)
+    partsOf (newNode 6 node) ++ heldIn (λ x. partsOf (nodeBy (nameIn sets) (nameIn relations) x)) (take (min count mostNodes) nodes)
 
 -- Numbers of relations that a node has room for.
 abbrev pub SmallNames : Three → Type 0
@@ -165,7 +165,7 @@ AllSmall k = SmallNames (k .root) × SmallNames (k .left .node) × SmallNames (k
 
 -- How many bits the nodes of a form have.
 unfoldable pub formBits : Form → ℕ
-formBits f = widthOf (heldIn partsOf (take (min (f .head .nodes) 127) (f .nodes)))
+formBits f = widthOf (heldIn partsOf (take (min (f .head .nodes) mostNodes) (f .nodes)))
 
 -- The fields of all nodes, and of the whole proof file with sets S and relations T.
 unfoldable pub nodeParts : RelationNumbers → SetNumbers → Form → Form → List Part
@@ -182,12 +182,12 @@ unfoldable pub proofBits : ℕ → SetNumbers → RelationNumbers → Form → F
 proofBits n m k a b = 10 + n * m .count + n * n * k .right .count + (57 + formBits a + formBits b)
 
 -- The largest first bit of the nodes: after the counts, 16 sets and 16 relations; and the largest number of bits with the three new nodes and
--- 127 nodes of each form.
+-- as many nodes of each form as there can be.
 abbrev pub mostRootBit : ℕ
 mostRootBit = 10 + capacity * mostTables + capacity * capacity * mostTables
 
 abbrev pub mostProofBits : ℕ
-mostProofBits = mostRootBit + (57 + 27 * 127 + 27 * 127)
+mostProofBits = mostRootBit + (57 + 27 * mostNodes + 27 * mostNodes)
 
 -- The form that is loaded from a proof file with so many sets and relations, its root at a bit.
 abbrev pub formRead : ℕ → ℕ → ℕ → Derivation → Form

@@ -18,6 +18,7 @@ ghost use Prim.Native.Nat.{_+_, _*_, _≤_};
 ghost use lib.ListN.{length};
 ghost use Rattle.writer.specs.Packing.{putParts, bytesFor, packed};
 ghost use Rattle.states.specs.Sets.{capacity};
+ghost use Rattle.derivation.specs.Nodes.{mostNodes};
 ghost use Rattle.derivation.specs.Tables.{mostTables};
 ghost use Rattle.canonical.specs.Refinement.{Room};
 ghost use Rattle.joint.specs.Composing.{atFront};
@@ -76,7 +77,7 @@ fn write_side(
 
 // How many bits the nodes of a form have.
 fn form_bits(form: Form) -> usize
-    ensures { λ r. ⌜ (r ≡ formBits form) × (r ≤ 27 * 127) ⌝ }
+    ensures { λ r. ⌜ (r ≡ formBits form) × (r ≤ 27 * mostNodes) ⌝ }
 {
     let head = form.head;
     let nodes = form.nodes;

@@ -2,12 +2,13 @@
 use mathlib.Core.Path.{_≡_, sym}
 use borrow.Author.Needs.{needs}
 use lib.ListN.{length}
+use Rattle.derivation.specs.Nodes.{mostNodes}
 use Rattle.composition.specs.Refinement.{formBits}
 use Rattle.composition.proofs.NewNodes.{side-written}
 use Rattle.composition.proofs.proof.write_side.Statement.{statement}
 use Rattle.composition.proofs.proof.write_side.Tie as tie
 
-full : (c : tie.Start) → length (c .args .form .nodes) ≡ 127
+full : (c : tie.Start) → length (c .args .form .nodes) ≡ mostNodes
 full c = search needs
 
 of-the-form : tie.Need-slice-aggregate-write-nodes
