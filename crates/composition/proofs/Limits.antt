@@ -121,22 +121,16 @@ module _ (n : ℕ) (A B : Side) (both : Handlers) (f g : Form) (words others : L
         rooms : (m .count ≤ mostTables) × (k .right .count ≤ mostTables)
         rooms = few-tables _ _ _ _ (m .count) (k .right .count) few
 
-        room-S : m .count ≤ mostTables
-        room-S = rooms .0
-
-        room-T : k .right .count ≤ mostTables
-        room-T = rooms .1
-
         is-S : S ≡ setsIn D
-        is-S = kept-S .0 room-S
+        is-S = kept-S .0 (rooms .0)
 
         is-T : T ≡ relationsIn D
-        is-T = kept-T .0 room-T
+        is-T = kept-T .0 (rooms .1)
 
         few-D : FewTables D
         few-D = record {
-          sets-most = omega (arith, room-S, long-S, ap length is-S);
-          relations-most = omega (arith, room-T, long-T, ap length is-T);
+          sets-most = omega (arith, (rooms .0), long-S, ap length is-S);
+          relations-most = omega (arith, (rooms .1), long-T, ap length is-T);
         }
 
         few-x : FewTables x
@@ -155,7 +149,7 @@ module _ (n : ℕ) (A B : Side) (both : Handlers) (f g : Form) (words others : L
         pub names-small : AllSmall k
         names-small =
             let known = subst (Known (length (setsIn D)) (length (relationsIn D)))
-            (numbered-joined n (A .tables) (B .tables) x y few-D few-x few-y m k all-sets all-relations room-S room-T) (numbered-known D)
+            (numbered-joined n (A .tables) (B .tables) x y few-D few-x few-y m k all-sets all-relations (rooms .0) (rooms .1)) (numbered-known D)
             in
             let most = few-D .relations-most in
             let root = known .0 in
@@ -180,7 +174,7 @@ module _ (n : ℕ) (A B : Side) (both : Handlers) (f g : Form) (words others : L
             ap packed (joined-parts n (A .tables) (B .tables) x y f g
             (record { few-tables = few-x; nodes-most = ra .room .nodes-most; node-count = ra .of-form .node-count; table-is = ra .of-form .table-is })
             (record { few-tables = few-y; nodes-most = rb .room .nodes-most; node-count = rb .of-form .node-count; table-is = rb .of-form .table-is })
-            few-D m k all-sets all-relations room-S room-T)
+            few-D m k all-sets all-relations (rooms .0) (rooms .1))
             ∙ (λ i. packed (proofParts n (sym is-S i) (sym is-T i) (nodeParts k m f g)))
 
         limited-by : limited h h′ A B (both .steps) ≡ ifFit (both .steps) (handlerFile h h′ A B) (formOf n D)

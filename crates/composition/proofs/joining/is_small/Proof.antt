@@ -22,7 +22,7 @@ returns c =
     let nodes : a .f .nodes + a .g .nodes + 3 ≡ 3 + a .f .nodes + a .g .nodes = omega arith in
     let depth : c .higher2 .result + 2 ≡ suc (suc (max (a .f .levels) (a .g .levels))) = omega (arith, c .higher2 .ensures) in
     λ i. leb (statements i) mostStatements && leb (levels i) mostStatementLevels && leb (nodes i) mostNodes && leb (depth i) mostNodeLevels
-        && leb (a .sets) mostTables && leb (a .relations) mostTables
+    && leb (a .sets) mostTables && leb (a .relations) mostTables
 
 pub is-small-spec : {M : Type 1} → statement M
 is-small-spec =

@@ -70,16 +70,12 @@ within : (c : tie.Else1) → let m = c .before .before in let l = m .measure .re
     Within (l .handler) (l .proof) (a .both .steps) (length (a .hout .now)) (length (a .pout .now))
 within c = within-all _ _ _ _ _ (sym (c .before .length-fault .ensures) ∙ c .if1 .left)
 
--- So it is where both files are written.
+-- That point, from where the handler file is written, and this one from where the proof file is.
 abbrev bothFit : tie.After-write-handler → tie.Else1
 bothFit c = c .before .before .before .before
 
 abbrev handlerAt : tie.After-write-proof → tie.After-write-handler
 handlerAt c = c .before .before .before .before
-
-fits : (c : tie.After-write-proof) → let m = bothFit (handlerAt c) .before .before in let l = m .measure .result in let a = start m .args in
-    Within (l .handler) (l .proof) (a .both .steps) (length (a .hout .now)) (length (a .pout .now))
-fits c = within (bothFit (handlerAt c))
 
 write-handler-requires : tie.Need-write-handler-requires
 write-handler-requires c κs =
@@ -118,7 +114,7 @@ pub write-both-spec : {M : Type 1} → statement M
 write-both-spec =
     tie.close
     (tie.spec (λ c κs. search needs) (λ c κs. search needs) (λ c κs. search needs) returns write-handler-requires write-proof-requires
-    (λ c. omega (arith, fits (c .before .before .before)))
-    (λ c. omega (arith, fits (c .before .before .before .before)))
-    (λ c. omega (arith, fits (c .before .before .before .before .before)))
+    (λ c. omega (arith, within (bothFit (handlerAt (c .before .before .before)))))
+    (λ c. omega (arith, within (bothFit (handlerAt (c .before .before .before .before)))))
+    (λ c. omega (arith, within (bothFit (handlerAt (c .before .before .before .before .before)))))
     (λ c. search needs) (λ c. search needs) returns-2)
