@@ -88,37 +88,6 @@ returns c =
 small-variable : (k : tie.After-variable-of Inv-loop μ-loop) → isSmall (k .variable-of .result) ≡ true
 small-variable k = ap isSmall (k .variable-of .ensures) ∙ variable-small _ _
 
-store-requires : tie.Need-store-requires Inv-loop μ-loop
-store-requires c κs =
-    let l = c .before .before .before in
-    let s = l .loop .s in
-    let x = l .before .before .variable-of in
-    let present = l .before .variable-row in
-    let row = l .before .before .before .before .before .before .values-at in
-    let all : x .result .states ≡ machineIn (l .before .before .before .before .before .before .before .before .args .head) .states
-    = ap (λ y. y .states) (x .ensures) ∙ variable-states _ _ in
-    let h = small-variable (l .before .before) in (
-      h,
-      omega (arith, small _ h),
-      toZ-ofZ {w = w64} {z = getD (present .result) s (pos 0)} (sfits-of (c .before .store-arg .given)) ∙ present .ensures s (omega arith),
-      rw (toZ-ofZ {w = w64} {z = getD (row .result .integers) s (pos 0)} (sfits-of (c .store-arg2 .given)))
-          (row .ensures .small s (rw (← all) (omega arith))),
-    )
-
-loop-again : tie.Need-loop-again Inv-loop μ-loop
-loop-again c =
-    let d = c .before .before .before .before in
-    let l = d .before .before .before .before in
-    let x = l .before .before .variable-of .result in
-    let integers = l .before .before .before .before .before .before .values-at .result .integers in
-    let same = toZ-ofZ {w = w64} {z = getD integers (l .loop .s) (pos 0)} (sfits-of (d .before .store-arg2 .given)) in (
-      omega arith,
-      rw (c .before .put-entry .ensures)
-          (rows-more (ends x integers) (l .loop .s) _ _ (omega (arith, small x (small-variable (l .before .before))))
-          (λ t. c .before .before .single .ensures t ∙ ap (λ e. ltb t capacity && eqb e t) (d .store .ensures ∙ ap (storedBy x (l .loop .s)) same))
-          (l .loop .inv .1)),
-    )
-
 returns-2 : tie.Need-returns-2 Inv-loop μ-loop
 unfolding after
 returns-2 c =
@@ -135,8 +104,33 @@ pub successors-spec : {M : Type 1} → statement M
 successors-spec =
     tie.close
     (tie.spec Inv-loop μ-loop (λ c κs. search needs) returns (λ c κs. search needs)
-    (λ c κs. let known = small _ (small-variable c) in (known .few, known .weighs, known .sized))
-    (λ c. (omega arith, rows-none _)) (λ c. search needs) (λ c. search needs)
-    (λ c. omega (arith, small _ (small-variable (c .before .before .before)))) (λ c. search needs) (λ c. search needs)
-    (λ c. omega (arith, small _ (small-variable (c .before .before .before .before)))) store-requires (λ c. search needs)
-    (λ c. search needs) (λ c. search needs) (λ c κs. search needs) (λ c. search needs) (λ c. search needs) loop-again returns-2)
+    (λ c κs. let known = small _ (small-variable c) in (known .few, known .weighs, known .sized)) (λ c. (omega arith, rows-none _))
+    (λ c. search needs) (λ c. search needs) (λ c. omega (arith, small _ (small-variable (c .before .before .before)))) (λ c. search needs)
+    (λ c. search needs) (λ c. omega (arith, small _ (small-variable (c .before .before .before .before))))
+    (λ c κs. let l = c .before .before .before in
+        let s = l .loop .s in
+        let x = l .before .before .variable-of in
+        let present = l .before .variable-row in
+        let row = l .before .before .before .before .before .before .values-at in
+        let all : x .result .states ≡ machineIn (l .before .before .before .before .before .before .before .before .args .head) .states
+        = ap (λ y. y .states) (x .ensures) ∙ variable-states _ _ in
+        let h = small-variable (l .before .before) in (
+          h,
+          omega (arith, small _ h),
+          toZ-ofZ {w = w64} {z = getD (present .result) s (pos 0)} (sfits-of (c .before .store-arg .given)) ∙ present .ensures s (omega arith),
+          rw (toZ-ofZ {w = w64} {z = getD (row .result .integers) s (pos 0)} (sfits-of (c .store-arg2 .given)))
+              (row .ensures .small s (rw (← all) (omega arith))),
+        ))
+    (λ c. search needs) (λ c. search needs) (λ c. search needs) (λ c κs. search needs) (λ c. search needs) (λ c. search needs)
+    (λ c. let d = c .before .before .before .before in
+        let l = d .before .before .before .before in
+        let x = l .before .before .variable-of .result in
+        let integers = l .before .before .before .before .before .before .values-at .result .integers in
+        let same = toZ-ofZ {w = w64} {z = getD integers (l .loop .s) (pos 0)} (sfits-of (d .before .store-arg2 .given)) in (
+          omega arith,
+          rw (c .before .put-entry .ensures)
+              (rows-more (ends x integers) (l .loop .s) _ _ (omega (arith, small x (small-variable (l .before .before))))
+              (λ t. c .before .before .single .ensures t ∙ ap (λ e. ltb t capacity && eqb e t) (d .store .ensures ∙ ap (storedBy x (l .loop .s)) same))
+              (l .loop .inv .1)),
+        ))
+    returns-2)

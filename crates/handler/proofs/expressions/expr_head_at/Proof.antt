@@ -28,9 +28,5 @@ returns-3 c =
 pub expr-head-at-spec : {M : Type 1} → statement M
 expr-head-at-spec =
     tie.close
-    (tie.spec
-    (λ c κs. search needs) (λ c. search needs) (λ c. search needs) (λ c κs. search needs)
-    returns
-    returns-2
-    (λ c κs. search needs)
+    (tie.spec (λ c κs. search needs) (λ c. search needs) (λ c. search needs) (λ c κs. search needs) returns returns-2 (λ c κs. search needs)
     returns-3)

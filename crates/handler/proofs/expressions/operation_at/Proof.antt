@@ -18,10 +18,6 @@ returns-2 c =
     rw
     (← c .before .before .before .before .read .ensures, c .before .before .o .given .1, eq-eqb _ _ (c .if1 .taken))
 
-cast-t8 : tie.Need-cast-t8
-cast-t8 c =
-    omega (arith, there _ _ _ _ _ (sym (c .before .before .before .before .read .ensures) ∙ c .before .before .o .given .1))
-
 returns-3 : tie.Need-returns-3
 unfolding operationHead
 returns-3 c =
@@ -31,9 +27,5 @@ returns-3 c =
 pub operation-at-spec : {M : Type 1} → statement M
 operation-at-spec =
     tie.close
-    (tie.spec
-    (λ c κs. search needs) (λ c. search needs) (λ c. search needs) (λ c κs. search needs)
-    returns
-    returns-2
-    cast-t8
-    returns-3)
+    (tie.spec (λ c κs. search needs) (λ c. search needs) (λ c. search needs) (λ c κs. search needs) returns returns-2
+    (λ c. omega (arith, there _ _ _ _ _ (sym (c .before .before .before .before .read .ensures) ∙ c .before .before .o .given .1))) returns-3)

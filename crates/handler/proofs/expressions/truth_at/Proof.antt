@@ -13,6 +13,4 @@ unfolding truthHead
 returns-2 c = rw (← c .before .before .before .read .ensures, c .before .n .given .1)
 
 pub truth-at-spec : {M : Type 1} → statement M
-truth-at-spec =
-    tie.close
-    (tie.spec (λ c κs. search needs) (λ c. search needs) (λ c. search needs) (λ c κs. search needs) returns returns-2)
+truth-at-spec = tie.close (tie.spec (λ c κs. search needs) (λ c. search needs) (λ c. search needs) (λ c κs. search needs) returns returns-2)

@@ -64,9 +64,6 @@ before-size : (c : tie.After-known-told) → let a = c .before .before .before .
     Begun (a .src .now) (a .k) (a .file) (c .before .end .given .0 .0)
 before-size c = begun _ _ _ _ (c .before .before .before .before .pre .1) (c .before .end .given .1)
 
-returns : tie.Need-returns
-returns c = still-faulty _ _ _ _ _ (c .before .before .before .pre .1) (c .enum-told .given .1)
-
 returns-2 : tie.Need-returns-2
 unfolding sizeRead
 returns-2 c =
@@ -121,9 +118,6 @@ returns-4 c =
     let over = rw (so-far at .is) at (c .before .if3 .taken) in
     rw (c .faulty3 .ensures, next-is at, le-ltb _ 2 (at .before .before .before .if1 .left), small-enough (at .before .before), lt-ltb capacity _ over)
 
-cast-sizes : tie.Need-cast-sizes
-cast-sizes c = omega (arith, size-small (c .before .before))
-
 add-t18 : tie.Need-add-t18
 unfolding headOf
 add-t18 c =
@@ -142,19 +136,7 @@ returns-5 c =
 pub add-size-spec : {M : Type 1} → statement M
 add-size-spec =
     tie.close
-    (tie.spec
-    (λ c. search needs) (λ c. search needs)
-    returns
-    (λ c κs. search needs) (λ c. search needs) (λ c. search needs) (λ c κs. search needs) (λ c κs. search needs)
-    returns-2
-    (λ c κs. search needs)
-    returns-3
-    (λ c. search needs)
-    mul-states
-    (λ c κs. search needs)
-    returns-4
-    cast-sizes
-    (λ c. search needs) (λ c. search needs)
-    add-t18
-    (λ c. search needs)
-    returns-5)
+    (tie.spec (λ c. search needs) (λ c. search needs) (λ c. still-faulty _ _ _ _ _ (c .before .before .before .pre .1) (c .enum-told .given .1))
+    (λ c κs. search needs) (λ c. search needs) (λ c. search needs) (λ c κs. search needs) (λ c κs. search needs) returns-2 (λ c κs. search needs)
+    returns-3 (λ c. search needs) mul-states (λ c κs. search needs) returns-4 (λ c. omega (arith, size-small (c .before .before)))
+    (λ c. search needs) (λ c. search needs) add-t18 (λ c. search needs) returns-5)

@@ -34,9 +34,6 @@ loop-holds c =
     let known = there _ _ _ _ _ (sym (c .before .before .before .before .before .read .ensures) ∙ c .before .before .before .count .given .1) in
     (search needs, ltb-false 4 _ (c .if2 .left), rw (known .moved))
 
-loop-again : tie.Need-loop-again Inv-loop μ-loop
-loop-again c = (search needs, c .before .before .loop .inv .1, c .add-size .ensures)
-
 returns-3 : tie.Need-returns-3 Inv-loop μ-loop
 unfolding headAt countRead
 returns-3 c =
@@ -53,16 +50,6 @@ returns-3 c =
 pub read-head-spec : {M : Type 1} → statement M
 read-head-spec =
     tie.close
-    (tie.spec
-    Inv-loop
-    μ-loop
-    (λ c κs. search needs) (λ c. search needs) (λ c. search needs) (λ c κs. search needs) (λ c κs. search needs)
-    returns
-    (λ c κs. search needs)
-    returns-2
-    loop-holds
-    (λ c κs. (search needs, c .before .loop .inv .2))
-    (λ c. search needs)
-    (λ c. search needs)
-    loop-again
-    returns-3)
+    (tie.spec Inv-loop μ-loop (λ c κs. search needs) (λ c. search needs) (λ c. search needs) (λ c κs. search needs) (λ c κs. search needs) returns
+    (λ c κs. search needs) returns-2 loop-holds (λ c κs. (search needs, c .before .loop .inv .2)) (λ c. search needs) (λ c. search needs)
+    (λ c. (search needs, c .before .before .loop .inv .1, c .add-size .ensures)) returns-3)

@@ -104,25 +104,15 @@ returns-2 c =
       rw fault (c .before .before .faulty2 .ensures .1 ∙ ap (λ n. replicate n 0) (c .before .before .before .before .before .before .before .before .before .exprs2 .given)),
     )
 
-returns-3 : tie.Need-returns-3
-returns-3 c =
-    let f = head-found (c .before .before .before .before .before .before .before .before .before) in
-    let walk = c .before .before .before .before .before .before .stmt-walk in
-    let e = found-by (c .before .before) in (
-      file-is _ (f .sizes) _ _ (f .read) (f .is) _ _ e (c .enum-told .given .1) _ (walk .ensures .1 .0),
-      terms-are _ (f .sizes) _ _ (f .read) (f .is) _ _ e (c .enum-told .given .1) _ _ (walk .ensures .1 .1),
-    )
-
 pub read-handler-spec : {M : Type 1} → statement M
 read-handler-spec =
     tie.close
-    (tie.spec
-    (λ c κs. search needs) (λ c. search needs) (λ c κs. search needs) (λ c. search needs) (λ c. search needs)
-    stmt-walk-requires
-    (λ c κs. search needs) (λ c. search needs) (λ c κs. search needs) (λ c. search needs)
-    (λ c. search needs)
-    returns
-    (λ c. search needs)
-    returns-2
-    (λ c. search needs)
-    returns-3)
+    (tie.spec (λ c κs. search needs) (λ c. search needs) (λ c κs. search needs) (λ c. search needs) (λ c. search needs) stmt-walk-requires
+    (λ c κs. search needs) (λ c. search needs) (λ c κs. search needs) (λ c. search needs) (λ c. search needs) returns (λ c. search needs)
+    returns-2 (λ c. search needs)
+    (λ c. let f = head-found (c .before .before .before .before .before .before .before .before .before) in
+        let walk = c .before .before .before .before .before .before .stmt-walk in
+        let e = found-by (c .before .before) in (
+          file-is _ (f .sizes) _ _ (f .read) (f .is) _ _ e (c .enum-told .given .1) _ (walk .ensures .1 .0),
+          terms-are _ (f .sizes) _ _ (f .read) (f .is) _ _ e (c .enum-told .given .1) _ _ (walk .ensures .1 .1),
+        )))

@@ -20,10 +20,6 @@ returns-2 c =
     (← c .before .before .before .before .read .ensures, c .before .before .code .given .1)
     (⊎-elim (λ h. rw (eq-eqb _ 0 (h .taken))) (λ h. rw (ne-eqb _ 0 (h .0 .left), h .1 .taken)) (c .if1 .came))
 
-cast-code-at : tie.Need-cast-code-at
-cast-code-at c =
-    omega (arith, there _ _ _ _ _ (sym (c .before .before .before .before .before .read .ensures) ∙ c .before .before .before .code .given .1))
-
 returns-3 : tie.Need-returns-3
 unfolding stmtHead markHead
 returns-3 c =
@@ -38,10 +34,7 @@ returns-3 c =
 pub stmt-head-at-spec : {M : Type 1} → statement M
 stmt-head-at-spec =
     tie.close
-    (tie.spec
-    (λ c κs. search needs) (λ c. search needs) (λ c. search needs) (λ c κs. search needs)
-    returns
-    returns-2
-    cast-code-at
-    (λ c κs. search needs)
-    returns-3)
+    (tie.spec (λ c κs. search needs) (λ c. search needs) (λ c. search needs) (λ c κs. search needs) returns returns-2
+    (λ c.
+        omega (arith, there _ _ _ _ _ (sym (c .before .before .before .before .before .read .ensures) ∙ c .before .before .before .code .given .1)))
+    (λ c κs. search needs) returns-3)
