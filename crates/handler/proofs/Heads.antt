@@ -13,7 +13,7 @@ use Rattle.states.specs.Sets.{capacity}
 use Rattle.bits.specs.Fields.{fieldAt}
 use Rattle.bits.specs.declared.Field.{Field}
 use Rattle.bits.specs.declared.Field.the-variants.{Value, Missing}
-use Rattle.bits.proofs.Laws.{there}
+use Rattle.bits.proofs.Places.{by-field}
 use Rattle.states.proofs.Search.{and-left, and-right, and-both, all-intro, all-at}
 use Rattle.semantics.specs.States.{product, Machine, machineOf}
 use Rattle.handler.specs.declared.head.Head.{Head}
@@ -40,9 +40,14 @@ each-snoc P [] size one new old (suc v) = one
 each-snoc P (first ∷ sizes) size one new old zero = old 0
 each-snoc P (first ∷ sizes) size one new old (suc v) = each-snoc P sizes size one new (λ i. old (suc i)) v
 
-neither : (a b : Bool) → (a || b) ≡ false → (a ≡ false) × (b ≡ false)
+pub neither : (a b : Bool) → (a || b) ≡ false → (a ≡ false) × (b ≡ false)
 neither true b e = absurd (true≢false e)
 neither false b e = (refl, e)
+
+-- What holds of either answer, if the test says so, holds of the one that the test chooses.
+pub by-test : {A : Type 0} (P : A → Type 0) (b : Bool) (x y : A) → (b ≡ true → P x) → (b ≡ false → P y) → P (cond b x y)
+by-test P true x y first second = first refl
+by-test P false x y first second = second refl
 
 module _ (s : List ℕ) where
   abbrev Upto : ℕ → HeadRead → Type 0
@@ -52,32 +57,20 @@ module _ (s : List ℕ) where
   next-size : (k : ℕ) (h : HeadRead) → Upto k h → Upto (suc k) (addSize s h)
   unfolding addSize sizeRead
   next-size k (fault code place) u = tt
-  next-size k (declared sizes at) u = by (fieldAt s at 5) refl
-    where
-      fits : (size next : ℕ) → fieldAt s at 5 ≡ Value size next → (ltb size 2 || ltb 16 size) ≡ false → (b : Bool) → ltb capacity (product sizes * size) ≡ b
-          → Upto (suc k) (cond b (fault 13 at) (declared (sizes ++ size ∷ []) next))
-      fits size next e in-range true t = tt
-      fits size next e in-range false t =
-          let here = there s at 5 size next e in
-          let range = neither (ltb size 2) (ltb 16 size) in-range in
-          let least : 2 ≤ size = ltb-false size 2 (range .0) in
-          let most : size ≤ 16 = ltb-false 16 size (range .1) in
-          record {
-            counted = simp length-append (omega (arith, u .counted));
-            starts = omega arith;
-            least = rw (product-snoc sizes size) (omega (arith, mul-le-mul-left (product sizes) least));
-            most = rw (product-snoc sizes size) (ltb-false capacity (product sizes * size) t);
-            each = each-snoc (λ x. (1 ≤ x) × (x ≤ 16)) sizes size (omega arith) (omega arith) (u .each);
-          }
-
-      tests : (size next : ℕ) → fieldAt s at 5 ≡ Value size next → (b : Bool) → (ltb size 2 || ltb 16 size) ≡ b
-          → Upto (suc k) (cond b (fault 12 at) (cond (ltb capacity (product sizes * size)) (fault 13 at) (declared (sizes ++ size ∷ []) next)))
-      tests size next e true t = tt
-      tests size next e false t = fits size next e t (ltb capacity (product sizes * size)) refl
-
-      by : (f : Field) → fieldAt s at 5 ≡ f → Upto (suc k) (sizeRead s sizes at f)
-      by Missing e = tt
-      by (Value size next) e = tests size next e _ refl
+  next-size k (declared sizes at) u =
+      by-field s (Upto (suc k)) at 5 (sizeRead s sizes at) tt (λ size next t.
+      by-test (Upto (suc k)) (ltb size 2 || ltb 16 size) _ _ (λ e. tt) (λ in-range.
+      by-test (Upto (suc k)) (ltb capacity (product sizes * size)) _ _ (λ e. tt) (λ few.
+      let range = neither (ltb size 2) (ltb 16 size) in-range in
+      let least : 2 ≤ size = ltb-false size 2 (range .0) in
+      let most : size ≤ 16 = ltb-false 16 size (range .1) in
+      record {
+        counted = simp length-append (omega (arith, u .counted));
+        starts = omega arith;
+        least = rw (product-snoc sizes size) (omega (arith, mul-le-mul-left (product sizes) least));
+        most = rw (product-snoc sizes size) (ltb-false capacity (product sizes * size) few);
+        each = each-snoc (λ x. (1 ≤ x) × (x ≤ 16)) sizes size (omega arith) (omega arith) (u .each);
+      })))
 
   upto : (k : ℕ) → Upto k (sizesRead s k)
   unfolding sizesRead

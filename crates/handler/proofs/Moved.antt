@@ -184,7 +184,7 @@ module _ (a b : List ℕ) where
       left g o m later (bad k place) first = tt
       left g o m later (good l n i) first = right g o m later l n i first (exprAt levels a count n i) refl
 
-      by : (h : ExprHead) → Headed count nodes x h → (g : ExprHead) → NodeMoves count x y h g → Below
+      by : (h : ExprHead) → Headed a count nodes x h → (g : ExprHead) → NodeMoves count x y h g → Below
           → ExprMoves x y (onExprHead h nodes (exprAt levels a count)) (onExprHead g nodes (exprAt levels b count))
       by (Integer z next) p g m later = λ s. rw (m s)
       by (Truth t next) p g m later = λ s. rw (m s)

@@ -163,7 +163,7 @@ module _ (a b : List ℕ) where
       test-moved code m (bad k place) first = tt
       test-moved code m (good e nodes i) first = body-moved code m e nodes i first (stmtAt levels a count (suc so-far) i) refl
 
-      level-moves : (h : StmtHead) → Marked count levels so-far x h → Marks h
+      level-moves : (h : StmtHead) → Marked a count levels so-far x h → Marks h
           → StmtMoves (suc below) before x y (onStmtHead h (wholeExpr a count) so-far (stmtAt levels a count)) here
       unfolding Marked
       level-moves (Nil next) p m = λ s deep few.

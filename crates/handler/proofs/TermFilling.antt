@@ -35,7 +35,7 @@ pub head-fits : (bytes : List ℕ) (count nodes at : ℕ) (h : ExprHead) → exp
 unfolding Headed
 head-fits bytes count nodes at h e = by h (headed-as bytes count nodes at h e)
   where
-    by : (h : ExprHead) → Headed count nodes at h → HeadFits h
+    by : (h : ExprHead) → Headed bytes count nodes at h → HeadFits h
     by (head.Integer z next) p = omega (arith, p .2)
     by (head.Truth b next) p = tt
     by (head.Variable v next) p = omega (arith, p .3)
