@@ -1,4 +1,4 @@
--- Each arm is one law of StmtShapes, one of Filling and one of TermFilling, applied to what the head and the walks of the parts ensure.
+-- Each arm is one law of StmtShapes and one of Filling, applied to what the head and the walks of the parts ensure.
 use Prim.Native.Nat.{ℕ, _+_, _-_, _*_, _≤_, _<_}
 use mathlib.Core.Path.{_≡_, sym, ap, _∙_}
 use native.Mathlib.Nat.{pos-of-ne-zero}
@@ -18,7 +18,6 @@ use Rattle.handler.proofs.Shapes.{shaped, shape-small}
 use Rattle.handler.proofs.StmtFolds.{stmt-step, Marked, marked, whole-read, stmt-read}
 use Rattle.handler.proofs.StmtShapes.{stmt-shaped, shape-high, assign-shape, left-side-fault, pair-shape, test-fault, body-fault, test-shape}
 use Rattle.handler.proofs.Filling.{fault-filled, nil-filled, assign-filled, pair-filled, test-filled}
-use Rattle.handler.proofs.TermFilling.{exprs-fault, nil-exprs, assign-exprs, pair-exprs, test-exprs}
 use Rattle.handler.proofs.statements.stmt_walk.Reads as stmt-walk
 use Rattle.handler.proofs.statements.stmt_walk.Kinds as stmt-walk-kinds
 use Rattle.handler.proofs.statements.+stmt_walk.Lts-stmt_walk as lts
@@ -180,7 +179,7 @@ nil-returns t c =
     let head = head-is t h _ (k .before .next .given .1) in
     let terms : start t h .args .terms + 0 ≡ start t h .args .terms = omega arith in (
       c .nil-of .ensures ∙ rw (stmt-step _ _ _ _ _ _ (more t h) head, add-one, terms),
-      (nil-filled _ _ _ _ _ _ (more t h) _ head _ _ (c .before .before .before .store-statement .ensures), nil-exprs _ _ _ _ _ _ (more t h) _ head _),
+      nil-filled _ _ _ _ _ _ (more t h) _ head _ _ _ (c .before .before .before .store-statement .ensures),
     )
 
 fault-returns : (t : ℕ) → lts.Need-returns-9 (callees t) (stmt-walk-at t) stmt-walk.Post
@@ -201,7 +200,7 @@ pub +stmt-walk-spec : {M : Type 1} → statement M
         let h = head-of-pair t p in
         let e = left-side-fault _ _ _ _ _ _ _ (more t h) _ _ (head-is t h _ (p .before .code .given .1)) _ _
         (sym (c .before .before .before .before .before .before .stmt-walk .ensures .0) ∙ c .enum-told .given .1) in
-        (c .enum-told .given .1 ∙ e, (fault-filled _ _ _ _ _ _ (more t h) _ _ _ _ _ e, exprs-fault _ _ _ _ _ _ (more t h) _ _ _ _ _ e)))
+        (c .enum-told .given .1 ∙ e, fault-filled _ _ _ _ _ _ (more t h) _ _ _ _ _ _ _ e))
     (λ c κs. let l = c .before in
         let p = pair-of-left t l in
         omega (arith, pair-room t p, l .before .before .before .before .before .before .table3 .given, start t (head-of-pair t p) .pre))
@@ -223,7 +222,7 @@ pub +stmt-walk-spec : {M : Type 1} → statement M
         let h = head-of-test t k in
         let e = body-fault _ _ _ _ _ _ _ (more t h) _ _ (head-is t h _ (k .before .code2 .given .1)) _ (test-is t r) _ _
         (sym (c .before .before .before .before .before .before .stmt-walk3 .ensures .0) ∙ c .enum-told2 .given .1) in
-        (c .enum-told2 .given .1 ∙ e, (fault-filled _ _ _ _ _ _ (more t h) _ _ _ _ _ e, exprs-fault _ _ _ _ _ _ (more t h) _ _ _ _ _ e)))
+        (c .enum-told2 .given .1 ∙ e, fault-filled _ _ _ _ _ _ (more t h) _ _ _ _ _ _ _ e))
     (λ c κs. let k = test-of-expr t (expr-of-body t (c .before)) in
         omega (arith, test-room t k, c .before .before .before .before .before .before .before .table6 .given, start t (head-of-test t k) .pre))
     (λ c κs. let b = c .before .before .before .before in
@@ -235,10 +234,8 @@ pub +stmt-walk-spec : {M : Type 1} → statement M
         let head = head-is t h _ (k .before .v .given .1) in
         let assigned = c .before .before .before .expr-shape in (
           rw (c .assigned-of .ensures, assigned .ensures .0) (assign-shape _ _ _ _ _ _ _ (more t h) _ _ head),
-          (
-            assign-filled _ _ _ _ _ _ (more t h) _ _ head _ _ (c .before .before .before .before .before .before .before .store-statement2 .ensures),
-            assign-exprs _ _ _ _ _ _ (more t h) _ _ head _ _ (assigned .ensures .1),
-          ),
+          assign-filled _ _ _ _ _ _ (more t h) _ _ head _ _ _ _
+              (c .before .before .before .before .before .before .before .store-statement2 .ensures) (assigned .ensures .1),
         ))
     (λ c. search needs) (λ c. search needs)
     (λ c. let l = c .before .before .before .before .before .before .before .before .before .before .before .before in
@@ -250,18 +247,15 @@ pub +stmt-walk-spec : {M : Type 1} → statement M
         let second = c .before .before .before .before .before .stmt-walk2 in
         let terms = ap (λ x. x .terms) (left .is) in (
           rw (c .pair-of .ensures, second .ensures .0) (pair-shape _ _ _ _ _ _ _ (more t h) _ _ head _ (left-is t l)),
-          (
-            pair-filled _ _ _ _ _ _ (more t h) _ _ head (left .tree) _ _ (left .was) _ _ _ _
-                (first .ensures .1 .0) (c .before .before .before .before .before .before .before .before .before .before .store-statement3 .ensures) (rw terms at (second .ensures .1 .0)),
-            pair-exprs _ _ _ _ _ _ (more t h) _ _ head (left .tree) _ _ (left .was) _ _ _ (first .ensures .1 .1) (rw terms at (second .ensures .1 .1)),
-          ),
+          pair-filled _ _ _ _ _ _ (more t h) _ _ head (left .tree) _ _ (left .was) _ _ _ _ _ _ _ (first .ensures .1)
+              (c .before .before .before .before .before .before .before .before .before .before .store-statement3 .ensures) (rw terms at (second .ensures .1)),
         ))
     (λ c. search needs)
     (λ c. let k = c .before .before .before .before .before .before .before in
         let h = head-of-test t k in
         let e = test-fault _ _ _ _ _ _ _ (more t h) _ _ (head-is t h _ (k .before .code2 .given .1)) _ _
         (sym (c .before .before .before .before .before .expr-shape2 .ensures .0) ∙ c .before .fault .given .1) in
-        (e, (fault-filled _ _ _ _ _ _ (more t h) _ _ _ _ _ e, exprs-fault _ _ _ _ _ _ (more t h) _ _ _ _ _ e)))
+        (e, fault-filled _ _ _ _ _ _ (more t h) _ _ _ _ _ _ _ e))
     (λ c. search needs) (λ c. search needs)
     (λ c. let b = c .before .before .before .before .before in
         let r = expr-of-body t b in
@@ -272,10 +266,7 @@ pub +stmt-walk-spec : {M : Type 1} → statement M
         let body = stmt-shaped _ _ _ _ _ (body-is t b) in
         let second = b .before .before .before .before .before .before .before .stmt-walk3 in (
           c .tested-of .ensures ∙ test-shape _ _ _ _ _ _ _ (more t h) _ _ head _ (test-is t r) _ (body-is t b),
-          (
-            test-filled _ _ _ _ _ _ (more t h) _ _ head (test .tree) _ _ (test .was) (body .tree) _ _ (body .was) _ _ _
-                (second .ensures .1 .0) (c .before .before .before .store-statement4 .ensures),
-            test-exprs _ _ _ _ _ _ (more t h) _ _ head (test .tree) _ _ (test .was) _ _ _ (r .before .before .before .before .before .expr-shape2 .ensures .1) (second .ensures .1 .1),
-          ),
+          test-filled _ _ _ _ _ _ (more t h) _ _ head (test .tree) _ _ (test .was) (body .tree) _ _ (body .was) _ _ _ _ _ _
+              (r .before .before .before .before .before .expr-shape2 .ensures .1) (second .ensures .1) (c .before .before .before .store-statement4 .ensures),
         ))
     (fault-returns t)
