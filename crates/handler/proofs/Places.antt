@@ -1,29 +1,28 @@
 -- Every fault of a handler file has a number from 10 to 18, and its place is in the file or at its end. Reading keeps its cursor within the
 -- file, and names only its cursor, the file's length, a bit that is there or a part of what it has read. A statement that is read ends
 -- within the file.
-use Prim.Native.Nat.{ℕ, zero, suc, _+_, _*_, _≤_, _<_}
-use mathlib.Core.Bool.{true, _&&_, _||_}
+use Prim.Native.Nat.{ℕ, _+_, _*_, _≤_, _<_}
+use mathlib.Core.Bool.{true, _&&_}
 use mathlib.Core.List.{List}
 use mathlib.Core.Option.{Option, none, some}
 use mathlib.Core.Path.{_≡_, refl}
 use native.Mathlib.Omega.{arith}
-use lib.Dec.{leb, ltb}
+use lib.Dec.{leb}
 use lib.ListN.{length}
-use Rattle.bits.specs.Fields.{bitLength, fillAt}
+use Rattle.bits.specs.Fields.{fillAt}
 use Rattle.bits.specs.declared.Fill.{Fill}
 use Rattle.bits.specs.declared.Fill.the-variants.{Ends, Wrong}
-use Rattle.bits.proofs.Places.{FaultIn, either, by-field, fault-at, fault-missing, fill-inside}
-use Rattle.states.specs.Sets.{capacity}
+use Rattle.bits.proofs.Places.{FaultIn, either, fault-at, fill-inside}
 use Rattle.semantics.specs.declared.Kind.{Kind}
 use Rattle.semantics.specs.declared.Kind.the-variants.{Integer as integer-kind, Truth as truth-kind}
 use Rattle.semantics.specs.declared.Row.{Row}
 use Rattle.semantics.specs.declared.Row.the-variants.{Kinds, Unused}
 use Rattle.semantics.specs.Language.{int, truth, Expr, lit, var, op, Stmt, nil, assign, seq, par, if, while, rowOf, sameKind}
-use Rattle.semantics.specs.States.{product}
 use Rattle.handler.specs.Header as head
 use Rattle.handler.specs.Statements.{StmtRead, whole, fault, wholeStmt}
 use Rattle.handler.specs.Kinds.{width, orPlace, rowKindError, kindError, stmtWidth, stmtKindError}
 use Rattle.handler.specs.Reading.{HandlerRead, handler, refused, onKinds, onHandlerFill, onStmt, onHead, readHandler}
+use Rattle.handler.proofs.Heads.{HeadIn, head-in}
 use Rattle.handler.proofs.StmtFolds.{AllRead, all-read}
 
 -- A kind error is within the part that has it.
@@ -90,35 +89,8 @@ module _ (bytes : List ℕ) where
   abbrev Fine : ℕ → ℕ → Type 0
   Fine = FaultIn bytes 10 18
 
-  missing : Fine 10 (bitLength bytes)
-  missing = fault-missing bytes 10 18 10 refl
-
   at-cursor : (k : ℕ) → (leb 10 k && leb k 18) ≡ true → (at : ℕ) → at ≤ end → Fine k at
   at-cursor = fault-at bytes 10 18
-
-  -- The head of the file.
-  abbrev HeadIn : head.HeadRead → Type 0
-  HeadIn (head.declared sizes at) = at ≤ end
-  HeadIn (head.fault k place) = Fine k place
-
-  size-in : (h : head.HeadRead) → HeadIn h → HeadIn (head.addSize bytes h)
-  unfolding head.addSize head.sizeRead
-  size-in (head.fault k place) p = p
-  size-in (head.declared sizes at) p =
-      by-field bytes HeadIn at 5 (head.sizeRead bytes sizes at) missing (λ size next t.
-      either HeadIn (ltb size 2 || ltb 16 size) _ _ (at-cursor 12 refl at p)
-      (either HeadIn (ltb capacity (product sizes * size)) _ _ (at-cursor 13 refl at p) (omega arith)))
-
-  sizes-in : (count : ℕ) → 3 ≤ end → HeadIn (head.sizesRead bytes count)
-  unfolding head.sizesRead
-  sizes-in zero here = here
-  sizes-in (suc count) here = size-in (head.sizesRead bytes count) (sizes-in count here)
-
-  head-in : HeadIn (head.headAt bytes)
-  unfolding head.headAt head.countRead
-  head-in =
-      by-field bytes HeadIn 0 3 (head.countRead bytes) missing (λ count next t.
-      either HeadIn (leb 1 count && leb count 4) _ _ (sizes-in count (omega arith)) (at-cursor 11 refl 0 (omega arith)))
 
   -- The whole file.
   abbrev FileIn : HandlerRead → Type 0
@@ -137,14 +109,14 @@ module _ (bytes : List ℕ) where
   read-in sizes at (fault k place) known p = known p
   read-in sizes at (whole S after next) known p = fill-in sizes at next S (omega (arith, known .ends, known .inside)) (fillAt bytes next) refl
 
-  on-head : (h : head.HeadRead) → HeadIn h → FileIn (onHead bytes h)
+  on-head : (h : head.HeadRead) → HeadIn bytes h → FileIn (onHead bytes h)
   unfolding wholeStmt
   on-head (head.fault k place) p = p
-  on-head (head.declared sizes at) p = read-in sizes at (wholeStmt bytes (length sizes) at) (all-read 17 bytes (length sizes) 0 at) p
+  on-head (head.declared sizes at) p = read-in sizes at (wholeStmt bytes (length sizes) at) (all-read 17 bytes (length sizes) 0 at) (p .1)
 
   file-in : FileIn (readHandler bytes)
   unfolding readHandler
-  file-in = on-head (head.headAt bytes) head-in
+  file-in = on-head (head.headAt bytes) (head-in bytes)
 
   pub fault-inside : (k place : ℕ) → readHandler bytes ≡ refused k place → FaultIn bytes 10 18 k place
   fault-inside k place e = rw e at file-in
