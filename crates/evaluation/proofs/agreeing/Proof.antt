@@ -29,9 +29,6 @@ module _ (x : Variable) (s t : ℕ) where
   unfolding agreeIn
   agree-nowhere e = rw e
 
-returns-2 : tie.Need-returns-2
-returns-2 c t = let k = c .before .before .before in rw (agree-nowhere _ _ t (asked k false (c .before .if1 .left))) (c .empty .ensures t)
-
 pub agreeing-spec : {M : Type 1} → statement M
 agreeing-spec =
     tie.close
@@ -40,4 +37,4 @@ agreeing-spec =
     (λ c t. let k = c .before .before .before in
         let a = k .before .before .before .args in
         rw (agree-there (a .x) (a .s) t (asked (k .before .before) true (k .if1 .taken))) (c .states-with .ensures t))
-    returns-2)
+    (λ c t. let k = c .before .before .before in rw (agree-nowhere _ _ t (asked k false (c .before .if1 .left))) (c .empty .ensures t)))

@@ -77,36 +77,22 @@ module _ (head : Head) (table : List ℕ) (expr : ℕ) (row : Values) (known : E
       by (yes l) = rw (lt-ltb s (machineIn head .states) l) (below s l t)
       by (no l) = rw (le-ltb s (machineIn head .states) (omega arith)) (past s (omega arith) t)
 
-returns : tie.Need-returns Inv-loop μ-loop
-unfolding after
-returns c =
-    let known = c .before .before .values-at .ensures in
-    let none = rows-none (λ s t. false) .rest in
-    filled _ _ _ _ known _ _ (λ s l t. none s zero-le t ∙ nowhere _ _ _ _ known _ (c .if1 .taken) s l t) (λ s l. none s zero-le)
-
 -- The variable's numbers are small.
 small-variable : (k : tie.After-variable-of Inv-loop μ-loop) → isSmall (k .variable-of .result) ≡ true
 small-variable k = ap isSmall (k .variable-of .ensures) ∙ variable-small _ _
 
-returns-2 : tie.Need-returns-2 Inv-loop μ-loop
-unfolding after
-returns-2 c =
-    let l = c .before .loop in
-    let x = c .before .before .before .variable-of in
-    let k = c .before .before .before .before .before in
-    let known = k .before .before .values-at .ensures in
-    let head = k .before .before .before .before .args .head in
-    let all : machineIn head .states ≡ l .s = sym (variable-states head _) ∙ ap (λ y. y .states) (sym (x .ensures)) ∙ omega arith in
-    filled _ _ _ _ known _ (l .rows)
-    (λ s h t. l .inv .1 .hold s (omega arith) t ∙ stores _ _ _ _ known _ (k .if1 .left) _ (x .ensures) s h t) (λ s h. l .inv .1 .rest s (omega arith))
-
 pub successors-spec : {M : Type 1} → statement M
+unfolding after
 successors-spec =
     tie.close
-    (tie.spec Inv-loop μ-loop (λ c κs. search needs) returns (λ c κs. search needs)
-    (λ c κs. let known = small _ (small-variable c) in (known .few, known .weighs, known .sized)) (λ c. (omega arith, rows-none _))
-    (λ c. search needs) (λ c. search needs) (λ c. omega (arith, small _ (small-variable (c .before .before .before)))) (λ c. search needs)
-    (λ c. search needs) (λ c. omega (arith, small _ (small-variable (c .before .before .before .before))))
+    (tie.spec Inv-loop μ-loop (λ c κs. search needs)
+    (λ c. let known = c .before .before .values-at .ensures in
+        let none = rows-none (λ s t. false) .rest in
+        filled _ _ _ _ known _ _ (λ s l t. none s zero-le t ∙ nowhere _ _ _ _ known _ (c .if1 .taken) s l t) (λ s l. none s zero-le))
+    (λ c κs. search needs) (λ c κs. let known = small _ (small-variable c) in (known .few, known .weighs, known .sized))
+    (λ c. (omega arith, rows-none _)) (λ c. search needs) (λ c. search needs)
+    (λ c. omega (arith, small _ (small-variable (c .before .before .before)))) (λ c. search needs) (λ c. search needs)
+    (λ c. omega (arith, small _ (small-variable (c .before .before .before .before))))
     (λ c κs. let l = c .before .before .before in
         let s = l .loop .s in
         let x = l .before .before .variable-of in
@@ -133,4 +119,11 @@ successors-spec =
               (λ t. c .before .before .single .ensures t ∙ ap (λ e. ltb t capacity && eqb e t) (d .store .ensures ∙ ap (storedBy x (l .loop .s)) same))
               (l .loop .inv .1)),
         ))
-    returns-2)
+    (λ c. let l = c .before .loop in
+        let x = c .before .before .before .variable-of in
+        let k = c .before .before .before .before .before in
+        let known = k .before .before .values-at .ensures in
+        let head = k .before .before .before .before .args .head in
+        let all : machineIn head .states ≡ l .s = sym (variable-states head _) ∙ ap (λ y. y .states) (sym (x .ensures)) ∙ omega arith in
+        filled _ _ _ _ known _ (l .rows)
+        (λ s h t. l .inv .1 .hold s (omega arith) t ∙ stores _ _ _ _ known _ (k .if1 .left) _ (x .ensures) s h t) (λ s h. l .inv .1 .rest s (omega arith))))

@@ -59,25 +59,18 @@ module _ (head : Head) (table : List ℕ) (expr : ℕ) (row : Values) (known : E
   failed : row .kind ≡ truthsKind → (s n : ℕ) → n ≡ machineIn head .states → (ltb s capacity && ltb s n && not (has (row .truths) s)) ≡ test false s
   failed is s n all = tested false s n (not (has (row .truths) s)) all (rw is (not-as (has (row .truths) s)))
 
-returns : tie.Need-returns
-unfolding isTrue isFalse test
-returns c =
-    let none = none-true _ _ _ _ (c .before .before .before .values-at .ensures) (c .before .if1 .taken) in
-    (λ s. c .empty .ensures s ∙ none true s, λ s. c .empty .ensures s ∙ none false s)
-
-returns-2 : tie.Need-returns-2
-unfolding isTrue isFalse test
-returns-2 c =
-    let l = c .before .before .before in
-    let k = l .before .before in
-    let known = k .before .before .values-at in
-    let all = l .before .states-in .ensures in (
-      λ s. rw (c .before .meet .ensures s, l .below .ensures s) (held _ _ _ _ (known .ensures) (k .if1 .left) s _ all),
-      λ s. rw (c .narrow .ensures s, l .below .ensures s) (failed _ _ _ _ (known .ensures) (k .if1 .left) s _ all),
-    )
-
 pub truths-at-spec : {M : Type 1} → statement M
+unfolding isTrue isFalse test
 truths-at-spec =
     tie.close
-    (tie.spec (λ c κs. search needs) (λ c κs. search needs) returns (λ c κs. search needs) (λ c κs. search needs) (λ c κs. search needs)
-    (λ c κs. search needs) returns-2)
+    (tie.spec (λ c κs. search needs) (λ c κs. search needs)
+    (λ c. let none = none-true _ _ _ _ (c .before .before .before .values-at .ensures) (c .before .if1 .taken) in
+        (λ s. c .empty .ensures s ∙ none true s, λ s. c .empty .ensures s ∙ none false s))
+    (λ c κs. search needs) (λ c κs. search needs) (λ c κs. search needs) (λ c κs. search needs)
+    (λ c. let l = c .before .before .before in
+        let k = l .before .before in
+        let known = k .before .before .values-at in
+        let all = l .before .states-in .ensures in (
+          λ s. rw (c .before .meet .ensures s, l .below .ensures s) (held _ _ _ _ (known .ensures) (k .if1 .left) s _ all),
+          λ s. rw (c .narrow .ensures s, l .below .ensures s) (failed _ _ _ _ (known .ensures) (k .if1 .left) s _ all),
+        )))

@@ -122,13 +122,10 @@ small-right t c = shape-small _ _ _ _ _ _ _ (right-is t c)
 base-small : (t : ℕ) (c : LeftRead t) → start t (head-of t (operation-of t (row-of-left t c))) .args .base < 1954
 base-small t c = omega (arith, start t (head-of t (operation-of t (row-of-left t c))) .pre)
 
-returns : (t : ℕ) → lts.Need-returns (callees t) (now-at t) expr-walk.Post
-unfolding exprAt exprShape
-returns t c = (rw (c .if1 .taken), rw (c .if1 .taken) tt)
-
 pub +expr-walk-spec : {M : Type 1} → statement M
+unfolding exprAt exprShape
 +expr-walk-spec = close μ-expr-walk λ t. lts.spec (callees t) (now-at t) expr-walk.Post
-    (returns t) (λ c κs. search needs) (λ c. search needs) (λ c. search needs)
+    (λ c. (rw (c .if1 .taken), rw (c .if1 .taken) tt)) (λ c κs. search needs) (λ c. search needs) (λ c. search needs)
     (λ c κs. head-fits _ _ _ _ _ (sym (c .before .before .expr-head-at .ensures))) (λ c κs. c .leaf-term .ensures .1) (λ c κs. search needs)
     (λ c. search needs)
     (λ c. let k = c .before .before .before .before .before .before in

@@ -104,24 +104,6 @@ head-is t c head e = sym (c .stmt-head-at .ensures) ∙ e
 more : (t : ℕ) (c : StmtHeadRead t) → 0 < start t c .args .levels
 more t c = pos-of-ne-zero (c .before .if1 .left)
 
-nil-store : (t : ℕ) → lts.Need-store-statement-requires (callees t) (stmt-walk-at t) stmt-walk.Post
-unfolding Marked
-nil-store t c κs =
-    let h = c .before .before .before .before in
-    omega (arith, start t h .pre, marked _ _ _ _ _ _ (head-is t h _ (c .before .before .next .given .1)))
-
-assign-store : (t : ℕ) → lts.Need-store-statement-requires-2 (callees t) (stmt-walk-at t) stmt-walk.Post
-unfolding Marked
-assign-store t c κs =
-    let h = c .before .before .before .before in
-    omega (arith, start t h .pre, marked _ _ _ _ _ _ (head-is t h _ (c .before .before .v .given .1)))
-
-assigned-requires : (t : ℕ) → lts.Need-assigned-of-requires (callees t) (stmt-walk-at t) stmt-walk.Post
-unfolding wholeExpr
-assigned-requires t c κs =
-    let shape = c .before .before .expr-shape in
-    (omega (arith, start t (c .before .before .before .before .before .before .before .before .before .before .before) .pre), λ e is. shape-small 32 _ _ _ _ _ e (sym (shape .ensures .0) ∙ is) .room)
-
 -- There is room for the parts: what the head says, and what the left side leaves.
 pair-room : (t : ℕ) (c : PairRead t) → let a = start t (head-of-pair t c) .args in (a .before < 63) × (c .before .code .given .0 .1 .0 ≡ a .at + 3)
 unfolding Marked
@@ -190,10 +172,18 @@ fault-returns t c =
     (rw e, (rw e tt, rw e tt))
 
 pub +stmt-walk-spec : {M : Type 1} → statement M
+unfolding Marked wholeExpr
 +stmt-walk-spec = close μ-stmt-walk λ t. lts.spec (callees t) (stmt-walk-at t) stmt-walk.Post
-    (stmt-walk-returns t) (λ c. search needs) (λ c. search needs) (λ c κs. search needs) (λ c. search needs) (nil-store t) (λ c κs. search needs)
-    (λ c. search needs) (assign-store t) (λ c κs. omega (arith, start t (c .before .before .before .before .before .before .before .before) .pre))
-    (assigned-requires t) (λ c. search needs)
+    (stmt-walk-returns t) (λ c. search needs) (λ c. search needs) (λ c κs. search needs) (λ c. search needs)
+    (λ c κs. let h = c .before .before .before .before in
+        omega (arith, start t h .pre, marked _ _ _ _ _ _ (head-is t h _ (c .before .before .next .given .1))))
+    (λ c κs. search needs) (λ c. search needs)
+    (λ c κs. let h = c .before .before .before .before in
+        omega (arith, start t h .pre, marked _ _ _ _ _ _ (head-is t h _ (c .before .before .v .given .1))))
+    (λ c κs. omega (arith, start t (c .before .before .before .before .before .before .before .before) .pre))
+    (λ c κs. let shape = c .before .before .expr-shape in
+        (omega (arith, start t (c .before .before .before .before .before .before .before .before .before .before .before) .pre), λ e is. shape-small 32 _ _ _ _ _ e (sym (shape .ensures .0) ∙ is) .room))
+    (λ c. search needs)
     (λ c κs. let h = head-of-pair t (c .before .before) in omega (arith, more t h, pair-room t (c .before .before), start t h .pre))
     (λ c. search needs) (λ c. search needs) (λ c. search needs) (λ c. search needs)
     (λ c. let p = c .before .before .before .before .before .before .before .before .before in
