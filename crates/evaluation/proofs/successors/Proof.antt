@@ -1,7 +1,6 @@
 -- Row s holds the state after the store at s. The loop fills the rows below s; those from N on stay empty, because no store starts
 -- there.
 use Prim.Native.Nat.{ℕ, zero, suc, _-_, _≤_, _<_, zero-le}
-use native.Mathlib.Decide.{decLt}
 use native.Mathlib.Omega.{arith}
 use mathlib.Core.Bool.{Bool, true, false, _&&_}
 use mathlib.Core.List.{List, [], _∷_}
@@ -27,6 +26,7 @@ use Rattle.evaluation.specs.declared.Variable.{Variable}
 use Rattle.handler.specs.Terms.{exprIn}
 use Rattle.evaluation.specs.Values.{leadsTo, variableIn, isSmall}
 use Rattle.evaluation.specs.Refinement.{integersKind, integerIn, valueIn, Evaluated, storedBy}
+use Rattle.evaluation.proofs.Sizes.{split}
 use Rattle.evaluation.proofs.Laws.{states-most, after-below, small, variable-small, variable-states, store-variable}
 use Rattle.evaluation.proofs.successors.Statement.{statement}
 use Rattle.evaluation.proofs.successors.Tie as tie
@@ -71,11 +71,8 @@ module _ (head : Head) (table : List ℕ) (expr : ℕ) (row : Values) (known : E
   filled : (rows : List ℕ) → ((s : ℕ) → s < machineIn head .states → (t : ℕ) → mem (entryAt rows s) t ≡ after s t)
       → ((s : ℕ) → machineIn head .states ≤ s → (t : ℕ) → mem (entryAt rows s) t ≡ false)
       → (s t : ℕ) → mem (entryAt rows s) t ≡ (ltb s (machineIn head .states) && after s t)
-  filled rows below past s t = by (decLt s (machineIn head .states))
-    where
-      by : Dec (s < machineIn head .states) → mem (entryAt rows s) t ≡ (ltb s (machineIn head .states) && after s t)
-      by (yes l) = rw (lt-ltb s (machineIn head .states) l) (below s l t)
-      by (no l) = rw (le-ltb s (machineIn head .states) (omega arith)) (past s (omega arith) t)
+  filled rows below past s t =
+      split s (machineIn head .states) (λ l. rw (lt-ltb s (machineIn head .states) l) (below s l t)) (λ l. rw (le-ltb s (machineIn head .states) l) (past s l t))
 
 -- The variable's numbers are small.
 small-variable : (k : tie.After-variable-of Inv-loop μ-loop) → isSmall (k .variable-of .result) ≡ true

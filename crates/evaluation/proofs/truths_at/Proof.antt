@@ -1,7 +1,6 @@
 -- A row of truth values says where the test is true; at the rest of the N states it is false. Any other row has no truth value at
 -- any state.
-use Prim.Native.Nat.{ℕ, zero, suc, _<_}
-use native.Mathlib.Decide.{decLt}
+use Prim.Native.Nat.{ℕ, zero, suc}
 use native.Mathlib.Omega.{arith}
 use mathlib.Core.Bool.{Bool, true, false, not, _&&_, and-false}
 use mathlib.Core.List.{List, [], _∷_}
@@ -21,6 +20,7 @@ use Rattle.handler.specs.Header.{machineIn}
 use Rattle.evaluation.specs.declared.Values.{Values}
 use Rattle.handler.specs.Terms.{exprIn}
 use Rattle.evaluation.specs.Refinement.{truthsKind, integerIn, valueIn, Evaluated}
+use Rattle.evaluation.proofs.Sizes.{split}
 use Rattle.evaluation.proofs.Laws.{states-most}
 use Rattle.evaluation.proofs.truths_at.Statement.{statement}
 use Rattle.evaluation.proofs.truths_at.Tie as tie
@@ -42,11 +42,10 @@ module _ (head : Head) (table : List ℕ) (expr : ℕ) (row : Values) (known : E
   tested : (wanted : Bool) (s n : ℕ) (b : Bool) → n ≡ machineIn head .states → b ≡ isTruth wanted (valueIn row s)
       → (ltb s capacity && ltb s n && b) ≡ test wanted s
   unfolding test
-  tested wanted s n b all is = by (decLt s n)
-    where
-      by : Dec (s < n) → (ltb s capacity && ltb s n && b) ≡ test wanted s
-      by (yes l) = rw (← all, lt-ltb s n l, lt-ltb s capacity (omega (arith, states-most head))) (is ∙ ap (isTruth wanted) (known .each s (rw (← all) l)))
-      by (no l) = rw (← all, le-ltb s n (omega arith), and-false (ltb s capacity))
+  tested wanted s n b all is =
+      split s n
+      (λ l. rw (← all, lt-ltb s n l, lt-ltb s capacity (omega (arith, states-most head))) (is ∙ ap (isTruth wanted) (known .each s (rw (← all) l))))
+      (λ l. rw (← all, le-ltb s n l, and-false (ltb s capacity)))
 
   none-true : (row .kind ≡ truthsKind → ⊥) → (wanted : Bool) (s : ℕ) → false ≡ test wanted s
   none-true other wanted s =
