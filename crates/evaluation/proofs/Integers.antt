@@ -1,17 +1,13 @@
 -- The magnitude of a sum or a difference is at most the sum of the magnitudes plus 1, so the result fits. By cases on the signs.
 use Prim.Native.Nat.{ℕ, zero, suc, _+_, _-_, _≤_}
 use native.Mathlib.Omega.{arith}
-use mathlib.Core.Bool.{Bool, true, false, cond}
 use lib.Dec.{ltb}
 use lib.IntN.{ℤ, pos, negsuc, subℕ, _+ℤ_, _-ℤ_}
 use lib.Signed.{mag}
+use Rattle.handler.proofs.Heads.{by-test}
 
 mag-sub : (a b k : ℕ) → a ≤ k → b ≤ suc k → mag (subℕ a b) ≤ k
-mag-sub a b k ha hb = by (ltb a b)
-  where
-    by : (t : Bool) → mag (cond t (negsuc (b - suc a)) (pos (a - b))) ≤ k
-    by true = omega arith
-    by false = omega arith
+mag-sub a b k ha hb = by-test (λ z. mag z ≤ k) (ltb a b) _ _ (λ e. omega arith) (λ e. omega arith)
 
 pub mag-add : (x y : ℤ) → mag (x +ℤ y) ≤ mag x + mag y + 1
 mag-add (pos a) (pos b) = omega arith

@@ -3,8 +3,9 @@ use Prim.Native.Nat.{ℕ, suc, _/_, _≤_, _<_}
 use native.Mathlib.Nat.{mod-one, mod-lt}
 use native.Mathlib.Omega.{arith}
 use borrow.Author.Tests.{leb-true, ltb-true, lt-ltb, le-ltb, le-leb, eqb-true, eq-eqb}
-use mathlib.Core.Bool.{Bool, true, false, cond, _&&_, false≢true}
+use mathlib.Core.Bool.{Bool, true, false, _&&_, false≢true}
 use mathlib.Core.List.{List}
+use mathlib.Core.Logic.{⊎-elim}
 use mathlib.Core.Option.{Option, none, some}
 use mathlib.Core.Path.{_≡_, refl, sym, ap, _∙_}
 use lib.Dec.{leb, ltb, eqb}
@@ -12,7 +13,7 @@ use lib.IntN.{ℤ, pos}
 use lib.ListN.{getD}
 use lib.Signed.{mag}
 use Rattle.states.specs.Sets.{capacity}
-use Rattle.states.proofs.Search.{and-left, and-right, and-both, bool-ext}
+use Rattle.states.proofs.Search.{and-left, and-right, and-both, bool-ext, true-or-false}
 use Rattle.semantics.specs.Language.{Val, int, truth, Expr, eqZ}
 use Rattle.semantics.specs.States.{product, weight, valueOf, machineOf, value, storeOf}
 use Rattle.semantics.specs.Conditions.{afterStore}
@@ -33,19 +34,11 @@ get-past head v s t h = rw (size-past head v h) (ap pos (mod-one (s / weight (si
 -- A head with a state is one that a file can have.
 pub state-head : (head : Head) (s : ℕ) → s < machineIn head .states → isHead head ≡ true
 unfolding machineIn
-state-head head s = by (isHead head)
-  where
-    by : (b : Bool) → s < cond b (head .states) 0 → b ≡ true
-    by true below = refl
-    by false below = absurd (omega arith)
+state-head head s below = ⊎-elim (λ h. h) (λ h. absurd (let none = rw h at below in omega arith)) (true-or-false (isHead head))
 
 pub states-most : (head : Head) → machineIn head .states ≤ capacity
 unfolding machineIn
-states-most head = by (isHead head) refl
-  where
-    by : (b : Bool) → isHead head ≡ b → machineIn head .states ≤ capacity
-    by true h = rw h (omega (arith, known-head head h))
-    by false h = rw h (omega arith)
+states-most head = ⊎-elim (λ h. rw h (omega (arith, known-head head h))) (λ h. rw h (omega arith)) (true-or-false (isHead head))
 
 -- A store leads from a state to a state.
 stored-below : (sizes : List ℕ) (v : ℕ) (e : Expr) (s t : ℕ) → s < product sizes
@@ -97,30 +90,23 @@ small x h =
 -- The variables of a head, as the code holds them: their numbers are small, and their values and stores are those of the machine.
 pub variable-small : (head : Head) (v : ℕ) → isSmall (variableIn head v) ≡ true
 unfolding variableIn isSmall
-variable-small head v = by (isHead head) refl
-  where
-    by : (b : Bool) → isHead head ≡ b → isSmall (variableIn head v) ≡ true
-    by true h =
-        let known = known-head head h in
-        let w = later-sizes (sizesIn head) (suc v) (known .least) in
-        let z = one-size (sizesIn head) v (known .least) in
-        rw (
-          h,
-          le-leb (head .states) capacity (omega (arith, known)),
-          lt-ltb 0 (weight (sizesIn head) v) (w .0),
-          le-leb (weight (sizesIn head) v) capacity (omega (arith, known)),
-          lt-ltb 0 (getD (sizesIn head) v 1) (z .0),
-          le-leb (getD (sizesIn head) v 1) capacity (omega (arith, known)),
-        )
-    by false h = rw h
+variable-small head v =
+    ⊎-elim (λ h.
+    let known = known-head head h in
+    let w = later-sizes (sizesIn head) (suc v) (known .least) in
+    let z = one-size (sizesIn head) v (known .least) in
+    rw (
+      h,
+      le-leb (head .states) capacity (omega (arith, known)),
+      lt-ltb 0 (weight (sizesIn head) v) (w .0),
+      le-leb (weight (sizesIn head) v) capacity (omega (arith, known)),
+      lt-ltb 0 (getD (sizesIn head) v 1) (z .0),
+      le-leb (getD (sizesIn head) v 1) capacity (omega (arith, known)),
+    )) (λ h. rw h) (true-or-false (isHead head))
 
 pub variable-states : (head : Head) (v : ℕ) → variableIn head v .states ≡ machineIn head .states
 unfolding variableIn machineIn
-variable-states head v = by (isHead head) refl
-  where
-    by : (b : Bool) → isHead head ≡ b → variableIn head v .states ≡ machineIn head .states
-    by true h = rw h
-    by false h = rw h
+variable-states head v = ⊎-elim (λ h. rw h) (λ h. rw h) (true-or-false (isHead head))
 
 pub variable-values : (head : Head) (v n : ℕ) (x : Variable) (values : List ℤ) → x ≡ variableIn head v → n ≡ machineIn head .states
     → ((s : ℕ) → s < n → getD values s (pos 0) ≡ pos (valueBy x s))

@@ -2,7 +2,7 @@
 use Prim.Native.Nat.{ℕ, _+_, _-_, _^_, _≤_, _<_}
 use native.Mathlib.Nat.{zero-div}
 use native.Mathlib.Omega.{arith}
-use mathlib.Core.Bool.{Bool, true, false, cond}
+use mathlib.Core.Bool.{cond}
 use mathlib.Core.List.{List}
 use mathlib.Core.Path.{_≡_, refl, ap₂, _∙_}
 use borrow.Author.Tests.{eqb-false}
@@ -10,6 +10,7 @@ use lib.Dec.{eqb}
 use Rattle.semantics.specs.Language.{Expr, lit, var, op}
 use Rattle.semantics.specs.Conditions.{occurrences}
 use Rattle.handler.specs.declared.terms.Term.{Term}
+use Rattle.handler.proofs.Heads.{by-test}
 use Rattle.handler.specs.Terms.{termIn, onTerm, exprFrom}
 use Rattle.evaluation.specs.Values.{inMask}
 use Rattle.evaluation.specs.Refinement.{exprLevels, doubled}
@@ -41,26 +42,17 @@ module _ (table : List ℕ) (mask levels i : ℕ) where
     few r h = omega (arith, doubled-step 1 levels more, doubled-least 1 (levels - 1))
 
     constant : (x : Term) (l r : Expr) → x .tag < 2 → 0 ≡ occurrences (inMask mask) (onTerm x l r)
-    constant x l r first = by (eqb (x .tag) 0) (eqb (x .tag) 1) refl refl
-      where
-        by : (a b : Bool) → eqb (x .tag) 0 ≡ a → eqb (x .tag) 1 ≡ b → 0 ≡ occurrences (inMask mask) (onTerm x l r)
-        by true b p q = rw p
-        by false true p q = rw (p, q)
-        by false false p q =
-            let no = eqb-false (x .tag) 0 p in
-            let nor = eqb-false (x .tag) 1 q in
-            absurd (omega arith)
+    constant x l r first =
+        let None : Expr → Type 0 = λ e. 0 ≡ occurrences (inMask mask) e in
+        by-test None (eqb (x .tag) 0) _ _ (λ p. refl) (λ p. by-test None (eqb (x .tag) 1) _ _ (λ q. refl)
+        (λ q. let no = eqb-false (x .tag) 0 p in let nor = eqb-false (x .tag) 1 q in absurd (omega arith)))
 
     pub constant-occurs : termIn table i .tag < 2 → Counted 0
     constant-occurs first = (rw (term-step table levels i more) (constant (termIn table i) _ _ first), few 0 (omega arith))
 
-    one : (b : Bool) → cond b 1 0 ≤ 1
-    one true = omega arith
-    one false = omega arith
-
     pub variable-occurs : (r : ℕ) → termIn table i .tag ≡ 2 → r ≡ cond (inMask mask (termIn table i .value)) 1 0 → Counted r
     variable-occurs r is counted =
-        (counted ∙ rw (term-step table levels i more, is), few r (rw counted (one (inMask mask (termIn table i .value)))))
+        (counted ∙ rw (term-step table levels i more, is), few r (rw counted (by-test (λ n. n ≤ 1) (inMask mask (termIn table i .value)) _ _ (λ e. omega arith) (λ e. omega arith))))
 
     pub both-occur : 3 ≤ termIn table i .tag → (a b : ℕ)
         → (a ≡ occurrences (inMask mask) (exprFrom (levels - 1) table (i + 1))) × (a < doubled 1 (levels - 1))

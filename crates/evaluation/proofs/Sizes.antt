@@ -1,6 +1,7 @@
--- The sizes of a head. If their product is not 0, the product of the later ones is not 0 and no larger.
+-- A case distinction, and the sizes of a head. If their product is not 0, the product of the later ones is not 0 and no larger.
 use Prim.Native.Nat.{ℕ, zero, suc, _*_, _≤_, _<_}
 use native.Mathlib.Nat.{mul-comm, le-mul-of-pos-right, zero-mul, mul-zero}
+use native.Mathlib.Decide.{decLt}
 use native.Mathlib.Omega.{arith}
 use mathlib.Core.List.{List, [], _∷_}
 use mathlib.Core.Path.{_≡_, refl}
@@ -8,6 +9,14 @@ use lib.ListN.{getD, drop, length-take, drop-of-length-le}
 use Rattle.semantics.specs.States.{product}
 use Rattle.handler.specs.declared.head.Head.{Head}
 use Rattle.handler.specs.Header.{sizesIn}
+
+-- What holds below n and from n on holds.
+pub split : {P : Type 0} (t n : ℕ) → (t < n → P) → (n ≤ t → P) → P
+split {P} t n below past = by (decLt t n)
+  where
+    by : Dec (t < n) → P
+    by (yes l) = below l
+    by (no l) = past (omega arith)
 
 -- A factor of a product that is not 0 is not 0 and no larger.
 factor : (a b : ℕ) → 0 < a * b → (0 < b) × (b ≤ a * b)

@@ -3,13 +3,12 @@
 use Prim.Native.Nat.{ℕ, zero, suc, _+_, _-_, _*_, _≤_, _<_}
 use native.Mathlib.Numerals.{add-one}
 use native.Mathlib.Omega.{arith}
-use mathlib.Core.Bool.{Bool, true, false, cond}
 use mathlib.Core.List.{List, [], _∷_}
 use mathlib.Core.Option.{Option, none, some}
 use mathlib.Core.Path.{_≡_, refl, sym, ap, _∙_}
-use borrow.Author.Tests.{ne-eqb, ltb-true, ltb-false}
+use borrow.Author.Tests.{ne-eqb}
 use lib.Dec.{ltb, eqb}
-use lib.IntN.{ℤ, pos, negsuc}
+use lib.IntN.{ℤ, pos}
 use lib.ListN.{length, getD, replicate, getD-replicate, List·getD-eq-default}
 use lib.Signed.{mag}
 use Rattle.states.specs.declared.StateSet.{StateSet}
@@ -19,9 +18,11 @@ use Rattle.semantics.specs.States.{Machine, value, both}
 use Rattle.handler.specs.declared.head.Head.{Head}
 use Rattle.handler.specs.declared.terms.Term.{Term}
 use Rattle.handler.specs.Header.{machineIn}
+use Rattle.handler.proofs.Heads.{by-test}
 use Rattle.handler.specs.Terms.{signed16, termOf, termIn, onTerm, exprFrom, exprIn}
 use Rattle.evaluation.specs.declared.Values.{Values}
 use Rattle.evaluation.specs.Refinement.{integersKind, truthsKind, nothingKind, exprLevels, doubled, leafBound, valueBound, integerIn, valueIn, Applied, LeafRow, Walked, Evaluated}
+use Rattle.evaluation.proofs.Sizes.{split}
 
 -- Doubling.
 pub doubled-step : (b k : ℕ) → 0 < k → doubled b k ≡ 2 * doubled b (k - 1)
@@ -50,11 +51,9 @@ is-operation x l r last = rw (ne-eqb (x .tag) 0 (omega arith), ne-eqb (x .tag) 1
 -- Past the end of the table there are integers only, so the node after an operation has a number that fits.
 pub operation-inside : (table : List ℕ) (i : ℕ) → 3 ≤ termIn table i .tag → i < length table
 unfolding termIn termOf
-operation-inside table i last = by (ltb i (length table)) refl
-  where
-    by : (b : Bool) → ltb i (length table) ≡ b → i < length table
-    by true t = ltb-true i (length table) t
-    by false t = absurd (let none : getD table i 0 ≡ 0 = List·getD-eq-default table 0 (ltb-false i (length table) t) in omega (arith, last, none))
+operation-inside table i last =
+    split i (length table) (λ l. l)
+    (λ l. absurd (let none : getD table i 0 ≡ 0 = List·getD-eq-default table 0 l in omega (arith, last, none)))
 
 pub value-small : (table : List ℕ) (i : ℕ) → termIn table i .value < 65536
 unfolding termIn termOf
@@ -69,11 +68,7 @@ both-none f (some a) = refl
 
 signed-small : (n : ℕ) → n < 65536 → mag (signed16 n) < leafBound
 unfolding signed16
-signed-small n h = by (ltb n 32768)
-  where
-    by : (b : Bool) → mag (cond b (pos n) (negsuc (65535 - n))) < leafBound
-    by true = h
-    by false = omega arith
+signed-small n h = by-test (λ z. mag z < leafBound) (ltb n 32768) _ _ (λ e. h) (λ e. omega arith)
 
 -- The rows of leaves.
 module _ (n : ℕ) (m : Machine) (x : Term) (row : Values) (a b : Expr) where

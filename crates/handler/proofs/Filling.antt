@@ -1,4 +1,5 @@
--- How the walk fills the table: a statement's own word is stored before the words of its parts, between them or after them.
+-- How the walk fills both tables: a statement's own word is stored before the words of its parts, between them or after them, and the
+-- nodes of its expressions one after the other.
 use Prim.Native.Nat.{ℕ, suc, _+_, _-_, _≤_, _<_}
 use mathlib.Core.Bool.{Bool, true, false, cond}
 use mathlib.Core.List.{List, _∷_, _++_}
@@ -15,11 +16,12 @@ use Rattle.handler.specs.declared.table.Statement.{Statement}
 use Rattle.handler.specs.declared.StmtHead.the-variants.{Nil, Assign, Pair, Test}
 use Rattle.handler.specs.Statements.{stmtHead, StmtRead, whole, fault, onAssigned, onRight, stmtAt}
 use Rattle.handler.specs.Kinds.{width, stmtWidth}
-use Rattle.handler.specs.Terms.{exprNodes, stmtTerms}
+use Rattle.handler.specs.Terms.{exprNodes, termWords, stmtTerms, handlerTerms, TermsStored, ExprsStored}
 use Rattle.handler.specs.StatementTable.{statements, statementWord, wordOf, statementWords, StatementsStored}
 use Rattle.handler.specs.declared.StmtShape.the-variants as stmt
 use Rattle.handler.specs.Shapes.{stmtShape}
-use Rattle.handler.proofs.Stores.{one-filled, two-filled}
+use Rattle.handler.proofs.Stores.{one-filled, two-filled, both-filled}
+use Rattle.handler.proofs.TermTable.{length-termWords, length-handlerTerms}
 use Rattle.handler.proofs.StatementTable.{length-statementWords}
 use Rattle.handler.proofs.StmtShapes.{stmt-faulted}
 use Rattle.handler.proofs.StmtFolds.{stmt-step, Marked, marked, whole-read, stmt-read}
@@ -51,7 +53,20 @@ test-words false code before at i after e b t least most counted =
     let is : code ≡ 5 = omega arith in
     rw (is, counted)
 
--- What reading a statement does to a table, from what reading its parts does.
+-- The words of its expressions, from those of its parts.
+pair-exprs : (t : Bool) (i : ℕ) (l r : Stmt) → handlerTerms i l ++ handlerTerms (i + stmtTerms l) r ≡ handlerTerms i (cond t (seq l r) (par l r))
+pair-exprs true i l r = refl
+pair-exprs false i l r = refl
+
+test-exprs : (t : Bool) (i : ℕ) (e : Expr) (b : Stmt) → termWords i e ++ handlerTerms (i + exprNodes e) b ≡ handlerTerms i (cond t (if e b) (while e b))
+test-exprs true i e b = refl
+test-exprs false i e b = refl
+
+-- What reading a statement does to both tables, where there are i expression nodes before it.
+abbrev Stored : List ℕ → List ℕ → List ℕ → List ℕ → ℕ → ℕ → ℕ → StmtRead → Type 0
+Stored table₀ table₁ exprs₀ exprs₁ before at i x = StatementsStored table₀ table₁ before at i x × ExprsStored exprs₀ exprs₁ i x
+
+-- It follows from what reading its parts does.
 module _ (bytes : List ℕ) (count levels before at i : ℕ) (more : 0 < levels) where
   abbrev here : StmtRead
   here = stmtAt levels bytes count before at
@@ -59,55 +74,63 @@ module _ (bytes : List ℕ) (count levels before at i : ℕ) (more : 0 < levels)
   abbrev below : ℕ → ℕ → StmtRead
   below = stmtAt (levels - 1) bytes count
 
-  pub fault-filled : (N k place : ℕ) (table₀ table₁ : List ℕ) → stmt.Fault k place ≡ stmtShape N i at here → StatementsStored table₀ table₁ before at i here
-  fault-filled N k place table₀ table₁ e = rw (stmt-faulted N i at here k place (sym e)) tt
+  pub fault-filled : (N k place : ℕ) (table₀ table₁ exprs₀ exprs₁ : List ℕ) → stmt.Fault k place ≡ stmtShape N i at here
+      → Stored table₀ table₁ exprs₀ exprs₁ before at i here
+  fault-filled N k place table₀ table₁ exprs₀ exprs₁ e = rw (stmt-faulted N i at here k place (sym e)) (tt, tt)
 
-  pub nil-filled : (next : ℕ) → stmtHead bytes count (levels - 1) before at ≡ Nil next → (table₀ table₁ : List ℕ)
-      → table₁ ≡ set table₀ before (statementWord (entry 0 0 (before + 1) 0 at)) → StatementsStored table₀ table₁ before at i here
+  pub nil-filled : (next : ℕ) → stmtHead bytes count (levels - 1) before at ≡ Nil next → (table₀ table₁ exprs : List ℕ)
+      → table₁ ≡ set table₀ before (statementWord (entry 0 0 (before + 1) 0 at)) → Stored table₀ table₁ exprs exprs before at i here
   unfolding wordOf
-  nil-filled next head table₀ table₁ own = rw (stmt-step bytes count levels before at _ more head) (rw (add-one before) at own)
+  nil-filled next head table₀ table₁ exprs own = rw (stmt-step bytes count levels before at _ more head) (rw (add-one before) at own, refl)
 
-  pub assign-filled : (v next : ℕ) → stmtHead bytes count (levels - 1) before at ≡ Assign v next → (table₀ table₁ : List ℕ)
-      → table₁ ≡ set table₀ before (statementWord (entry 1 v (before + 1) i at)) → StatementsStored table₀ table₁ before at i here
+  pub assign-filled : (v next : ℕ) → stmtHead bytes count (levels - 1) before at ≡ Assign v next → (table₀ table₁ exprs₀ exprs₁ : List ℕ)
+      → table₁ ≡ set table₀ before (statementWord (entry 1 v (before + 1) i at)) → TermsStored exprs₀ exprs₁ i (wholeExpr bytes count next)
+      → Stored table₀ table₁ exprs₀ exprs₁ before at i here
   unfolding wordOf
-  assign-filled v next head table₀ table₁ own = rw (stmt-step bytes count levels before at _ more head) (by (wholeExpr bytes count next))
+  assign-filled v next head table₀ table₁ exprs₀ exprs₁ own = rw (stmt-step bytes count levels before at _ more head) (by (wholeExpr bytes count next))
     where
-      by : (x : ExprRead) → StatementsStored table₀ table₁ before at i (onAssigned v (suc before) x)
-      by (bad k place) = tt
-      by (good e nodes behind) = own ∙ rw (add-one before)
+      by : (x : ExprRead) → TermsStored exprs₀ exprs₁ i x → Stored table₀ table₁ exprs₀ exprs₁ before at i (onAssigned v (suc before) x)
+      by (bad k place) f = (tt, tt)
+      by (good e nodes behind) f = (own ∙ rw (add-one before), f)
 
   pub pair-filled : (code next : ℕ) → stmtHead bytes count (levels - 1) before at ≡ Pair code next
-      → (l : Stmt) (so-far behind : ℕ) → below (before + 1) next ≡ whole l so-far behind → (table₀ table₁ table₂ table₃ : List ℕ)
-      → StatementsStored table₀ table₁ (before + 1) next i (below (before + 1) next) → table₂ ≡ set table₁ before (statementWord (entry code 0 so-far 0 at))
-      → StatementsStored table₂ table₃ so-far behind (i + stmtTerms l) (below so-far behind) → StatementsStored table₀ table₃ before at i here
+      → (l : Stmt) (so-far behind : ℕ) → below (before + 1) next ≡ whole l so-far behind → (table₀ table₁ table₂ table₃ exprs₀ exprs₁ exprs₂ : List ℕ)
+      → Stored table₀ table₁ exprs₀ exprs₁ (before + 1) next i (below (before + 1) next) → table₂ ≡ set table₁ before (statementWord (entry code 0 so-far 0 at))
+      → Stored table₂ table₃ exprs₁ exprs₂ so-far behind (i + stmtTerms l) (below so-far behind) → Stored table₀ table₃ exprs₀ exprs₂ before at i here
   unfolding Marked
-  pair-filled code next head l so-far behind was table₀ table₁ table₂ table₃ first own second =
+  pair-filled code next head l so-far behind was table₀ table₁ table₂ table₃ exprs₀ exprs₁ exprs₂ first own second =
       rw (stmt-step bytes count levels before at _ more head, ← add-one before, was) (by (below so-far behind) second)
     where
-      by : (x : StmtRead) → StatementsStored table₂ table₃ so-far behind (i + stmtTerms l) x → StatementsStored table₀ table₃ before at i (onRight code l x)
-      by (fault k place) f = tt
+      by : (x : StmtRead) → Stored table₂ table₃ exprs₁ exprs₂ so-far behind (i + stmtTerms l) x → Stored table₀ table₃ exprs₀ exprs₂ before at i (onRight code l x)
+      by (fault k place) f = (tt, tt)
       by (whole r after end) f =
           let known = marked bytes count (levels - 1) before at _ head in
           let left = stmt-read (levels - 1) bytes count (before + 1) next l so-far behind was in
           let words = statementWords (suc before) (at + 3) i l in
           let long : so-far ≡ suc before + length words = omega (arith, length-statementWords (suc before) (at + 3) i l) in
-          let begun : table₁ ≡ sets table₀ (suc before) words = rw (was, add-one before, known .2) at first in
-          let ended : table₃ ≡ sets table₂ so-far (statementWords so-far (at + 3 + stmtWidth l) (i + stmtTerms l) r) = rw (left .ends, known .2) at f in
-          two-filled table₀ table₁ table₂ table₃ before so-far _ words _ long begun own ended
-          ∙ ap (sets table₀ before) (sym (pair-words (eqb code 2) code before at i so-far l r refl (known .3) (known .4) (omega arith)))
+          let begun = rw (was, add-one before, known .2) at first in
+          let ended : table₃ ≡ sets table₂ so-far (statementWords so-far (at + 3 + stmtWidth l) (i + stmtTerms l) r) = rw (left .ends, known .2) at (f .0) in (
+            two-filled table₀ table₁ table₂ table₃ before so-far _ words _ long (begun .0) own ended
+            ∙ ap (sets table₀ before) (sym (pair-words (eqb code 2) code before at i so-far l r refl (known .3) (known .4) (omega arith))),
+            both-filled exprs₀ exprs₁ exprs₂ i (i + stmtTerms l) (handlerTerms i l) _ (omega (arith, length-handlerTerms i l)) (begun .1) (f .1)
+            ∙ ap (sets exprs₀ i) (pair-exprs (eqb code 2) i l r),
+          )
 
   pub test-filled : (code next : ℕ) → stmtHead bytes count (levels - 1) before at ≡ Test code next
       → (e : Expr) (nodes behind : ℕ) → wholeExpr bytes count next ≡ good e nodes behind
-      → (b : Stmt) (after end : ℕ) → below (before + 1) behind ≡ whole b after end → (table₀ table₁ table₂ : List ℕ)
-      → StatementsStored table₀ table₁ (before + 1) behind (i + nodes) (below (before + 1) behind) → table₂ ≡ set table₁ before (statementWord (entry code 0 after i at))
-      → StatementsStored table₀ table₂ before at i here
+      → (b : Stmt) (after end : ℕ) → below (before + 1) behind ≡ whole b after end → (table₀ table₁ table₂ exprs₀ exprs₁ exprs₂ : List ℕ)
+      → TermsStored exprs₀ exprs₁ i (wholeExpr bytes count next) → Stored table₀ table₁ exprs₁ exprs₂ (before + 1) behind (i + nodes) (below (before + 1) behind)
+      → table₂ ≡ set table₁ before (statementWord (entry code 0 after i at)) → Stored table₀ table₂ exprs₀ exprs₂ before at i here
   unfolding Marked
-  test-filled code next head e nodes behind test b after end was table₀ table₁ table₂ first own =
+  test-filled code next head e nodes behind test b after end was table₀ table₁ table₂ exprs₀ exprs₁ exprs₂ first second own =
       let known = marked bytes count (levels - 1) before at _ head in
       let body = stmt-read (levels - 1) bytes count (before + 1) behind b after end was in
       let tested = whole-read bytes count next e nodes behind test in
       let words = statementWords (suc before) (at + 3 + width e) (i + exprNodes e) b in
-      let begun : table₁ ≡ sets table₀ (suc before) words = rw (was, add-one before, tested .ends, tested .counted, known .2) at first in
-      rw (stmt-step bytes count levels before at _ more head, ← add-one before, test, was)
-      (one-filled table₀ table₁ table₂ before _ words begun own
-      ∙ ap (sets table₀ before) (sym (test-words (eqb code 4) code before at i after e b refl (known .3) (known .4) (omega arith))))
+      let stored = rw (was, add-one before, tested .ends, tested .counted, known .2) at second in
+      rw (stmt-step bytes count levels before at _ more head, ← add-one before, test, was) (
+        one-filled table₀ table₁ table₂ before _ words (stored .0) own
+        ∙ ap (sets table₀ before) (sym (test-words (eqb code 4) code before at i after e b refl (known .3) (known .4) (omega arith))),
+        both-filled exprs₀ exprs₁ exprs₂ i (i + exprNodes e) (termWords i e) _ (omega (arith, length-termWords i e)) (rw test at first) (stored .1)
+        ∙ ap (sets exprs₀ i) (test-exprs (eqb code 4) i e b),
+      )

@@ -10,10 +10,7 @@ use lib.Dec.{leb, ltb}
 use lib.ListN.{length, getD, take, replicate, length-take, length-append, getD-replicate, List·getD-eq-default}
 use lib.Seq.{take-append-seam, getD-take}
 use Rattle.states.specs.Sets.{capacity}
-use Rattle.bits.specs.Fields.{fieldAt}
-use Rattle.bits.specs.declared.Field.{Field}
-use Rattle.bits.specs.declared.Field.the-variants.{Value, Missing}
-use Rattle.bits.proofs.Laws.{there}
+use Rattle.bits.proofs.Places.{FaultIn, by-field, fault-at, fault-missing}
 use Rattle.states.proofs.Search.{and-left, and-right, and-both, all-intro, all-at}
 use Rattle.semantics.specs.States.{product, Machine, machineOf}
 use Rattle.handler.specs.declared.head.Head.{Head}
@@ -40,52 +37,45 @@ each-snoc P [] size one new old (suc v) = one
 each-snoc P (first ∷ sizes) size one new old zero = old 0
 each-snoc P (first ∷ sizes) size one new old (suc v) = each-snoc P sizes size one new (λ i. old (suc i)) v
 
-neither : (a b : Bool) → (a || b) ≡ false → (a ≡ false) × (b ≡ false)
+pub neither : (a b : Bool) → (a || b) ≡ false → (a ≡ false) × (b ≡ false)
 neither true b e = absurd (true≢false e)
 neither false b e = (refl, e)
 
+-- What holds of either answer, if the test says so, holds of the one that the test chooses.
+pub by-test : {A : Type 0} (P : A → Type 0) (b : Bool) (x y : A) → (b ≡ true → P x) → (b ≡ false → P y) → P (cond b x y)
+by-test P true x y first second = first refl
+by-test P false x y first second = second refl
+
 module _ (s : List ℕ) where
   abbrev Upto : ℕ → HeadRead → Type 0
-  Upto k (declared sizes at) = Sized k at sizes
-  Upto k (fault code place) = Unit {0}
+  Upto k (declared sizes at) = Sized k at sizes × (3 ≤ 8 * length s → at ≤ 8 * length s)
+  Upto k (fault code place) = 3 ≤ 8 * length s → FaultIn s 10 18 code place
 
   next-size : (k : ℕ) (h : HeadRead) → Upto k h → Upto (suc k) (addSize s h)
   unfolding addSize sizeRead
-  next-size k (fault code place) u = tt
-  next-size k (declared sizes at) u = by (fieldAt s at 5) refl
-    where
-      fits : (size next : ℕ) → fieldAt s at 5 ≡ Value size next → (ltb size 2 || ltb 16 size) ≡ false → (b : Bool) → ltb capacity (product sizes * size) ≡ b
-          → Upto (suc k) (cond b (fault 13 at) (declared (sizes ++ size ∷ []) next))
-      fits size next e in-range true t = tt
-      fits size next e in-range false t =
-          let here = there s at 5 size next e in
-          let range = neither (ltb size 2) (ltb 16 size) in-range in
-          let least : 2 ≤ size = ltb-false size 2 (range .0) in
-          let most : size ≤ 16 = ltb-false 16 size (range .1) in
-          record {
-            counted = simp length-append (omega (arith, u .counted));
-            starts = omega arith;
-            least = rw (product-snoc sizes size) (omega (arith, mul-le-mul-left (product sizes) least));
-            most = rw (product-snoc sizes size) (ltb-false capacity (product sizes * size) t);
-            each = each-snoc (λ x. (1 ≤ x) × (x ≤ 16)) sizes size (omega arith) (omega arith) (u .each);
-          }
-
-      tests : (size next : ℕ) → fieldAt s at 5 ≡ Value size next → (b : Bool) → (ltb size 2 || ltb 16 size) ≡ b
-          → Upto (suc k) (cond b (fault 12 at) (cond (ltb capacity (product sizes * size)) (fault 13 at) (declared (sizes ++ size ∷ []) next)))
-      tests size next e true t = tt
-      tests size next e false t = fits size next e t (ltb capacity (product sizes * size)) refl
-
-      by : (f : Field) → fieldAt s at 5 ≡ f → Upto (suc k) (sizeRead s sizes at f)
-      by Missing e = tt
-      by (Value size next) e = tests size next e _ refl
+  next-size k (fault code place) u = u
+  next-size k (declared sizes at) u =
+      by-field s (Upto (suc k)) at 5 (sizeRead s sizes at) (λ here. fault-missing s 10 18 10 refl) (λ size next t.
+      by-test (Upto (suc k)) (ltb size 2 || ltb 16 size) _ _ (λ e here. fault-at s 10 18 12 refl at (u .1 here)) (λ in-range.
+      by-test (Upto (suc k)) (ltb capacity (product sizes * size)) _ _ (λ e here. fault-at s 10 18 13 refl at (u .1 here)) (λ few.
+      let range = neither (ltb size 2) (ltb 16 size) in-range in
+      let least : 2 ≤ size = ltb-false size 2 (range .0) in
+      let most : size ≤ 16 = ltb-false 16 size (range .1) in
+      (record {
+        counted = simp length-append (omega (arith, u .0 .counted));
+        starts = omega arith;
+        least = rw (product-snoc sizes size) (omega (arith, mul-le-mul-left (product sizes) least));
+        most = rw (product-snoc sizes size) (ltb-false capacity (product sizes * size) few);
+        each = each-snoc (λ x. (1 ≤ x) × (x ≤ 16)) sizes size (omega arith) (omega arith) (u .0 .each);
+      }, λ here. omega arith))))
 
   upto : (k : ℕ) → Upto k (sizesRead s k)
   unfolding sizesRead
-  upto zero = record { counted = refl; starts = refl; least = omega arith; most = omega arith; each = λ v. omega arith }
+  upto zero = (record { counted = refl; starts = refl; least = omega arith; most = omega arith; each = λ v. omega arith }, λ here. here)
   upto (suc k) = next-size k (sizesRead s k) (upto k)
 
 pub sized : (s : List ℕ) (k : ℕ) (sizes : List ℕ) (at : ℕ) → sizesRead s k ≡ declared sizes at → Sized k at sizes
-sized s k sizes at e = rw e at (upto s k)
+sized s k sizes at e = rw e at (upto s k) .0
 
 -- A head as the code passes it on gives its sizes back.
 pub sizes-of : (sizes : List ℕ) → sizesIn (headOf sizes) ≡ sizes
@@ -221,15 +211,23 @@ declares sizes k at few known =
       machine = known-head (headOf sizes) fits .machine ∙ ap machineOf (sizes-of sizes);
     }
 
-pub head-read : (s : List ℕ) (sizes : List ℕ) (at : ℕ) → headAt s ≡ declared sizes at → Declared sizes at
-unfolding headAt countRead
-head-read s sizes at = by (fieldAt s 0 3) refl
-  where
-    tests : (c next : ℕ) → (b : Bool) → (leb 1 c && leb c 4) ≡ b
-        → cond b (sizesRead s c) (fault 11 0) ≡ declared sizes at → Declared sizes at
-    tests c next true t h = declares sizes c at (leb-true c 4 (and-right (leb 1 c) (leb c 4) t)) (sized s c sizes at h)
-    tests c next false t h = absurd (let z : _≡_ {A = ℕ} 0 1 = cc in omega arith)
+-- A head that is read is in the file, and so are its faults.
+module _ (s : List ℕ) where
+  abbrev pub HeadIn : HeadRead → Type 0
+  HeadIn (declared sizes at) = Declared sizes at × (at ≤ 8 * length s)
+  HeadIn (fault code place) = FaultIn s 10 18 code place
 
-    by : (f : Field) → fieldAt s 0 3 ≡ f → countRead s f ≡ declared sizes at → Declared sizes at
-    by Missing e h = absurd (let z : _≡_ {A = ℕ} 0 1 = cc in omega arith)
-    by (Value c next) e h = tests c next _ refl h
+  declared-in : (k : ℕ) → k ≤ 4 → (h : HeadRead) → Upto s k h → 3 ≤ 8 * length s → HeadIn h
+  declared-in k few (declared sizes at) u here = (declares sizes k at few (u .0), u .1 here)
+  declared-in k few (fault code place) u here = u here
+
+  pub head-in : HeadIn (headAt s)
+  unfolding headAt countRead
+  head-in =
+      by-field s HeadIn 0 3 (countRead s) (fault-missing s 10 18 10 refl) (λ c next t.
+      by-test HeadIn (leb 1 c && leb c 4) _ _
+      (λ e. declared-in c (leb-true c 4 (and-right (leb 1 c) (leb c 4) e)) (sizesRead s c) (upto s c) (omega arith))
+      (λ e. fault-at s 10 18 11 refl 0 (omega arith)))
+
+pub head-read : (s : List ℕ) (sizes : List ℕ) (at : ℕ) → headAt s ≡ declared sizes at → Declared sizes at
+head-read s sizes at e = rw e at (head-in s) .0

@@ -2,16 +2,15 @@
 -- file or at another bit.
 use Prim.Native.Nat.{ℕ, zero, suc, _+_, _*_, _^_, _≤_, _<_}
 use mathlib.Core.Bool.{Bool, true, false, cond, _&&_, _||_}
-use mathlib.Core.List.{List, [], _∷_, _++_}
+use mathlib.Core.List.{List}
 use mathlib.Core.Path.{_≡_, refl, _∙_}
 use native.Mathlib.Nat.{add-assoc}
 use native.Mathlib.Omega.{arith}
 use lib.Dec.{leb, ltb, eqb}
 use lib.ListN.{length}
 use Rattle.bits.specs.Fields.{bitAt, fieldAt}
-use Rattle.bits.specs.declared.Field.{Field}
-use Rattle.bits.specs.declared.Field.the-variants.{Value, Missing}
-use Rattle.bits.proofs.Laws.{bits-agree, There, there, found}
+use Rattle.bits.specs.declared.Field.the-variants.{Value}
+use Rattle.bits.proofs.Laws.{bits-agree, There, found}
 use Rattle.bits.proofs.Places.{by-field}
 use Rattle.states.specs.Sets.{capacity}
 use Rattle.semantics.specs.Language.{Expr}
@@ -21,7 +20,7 @@ use Rattle.handler.specs.declared.expressions.ExprHead.the-variants.{Int
 use Rattle.handler.specs.Header.{HeadRead, declared, fault, sizeRead, addSize, sizesRead, countRead, headAt}
 use Rattle.handler.specs.Expressions.{integerHead, truthHead, variableHead, operationHead, payloadHead, tagHead, exprHead, ExprRead, good, bad, joined, operands, onExprHead, exprAt, wholeExpr}
 use Rattle.handler.specs.Kinds.{width}
-use Rattle.handler.proofs.Heads.{head-read}
+use Rattle.handler.proofs.Heads.{by-test, head-read}
 use Rattle.handler.proofs.Folds.{Headed, headed, expr-read}
 
 -- The bits from a cursor of one file on are those from a cursor of another, where they are all there.
@@ -62,21 +61,17 @@ module _ (a b : List ℕ) where
   unfolding addSize sizeRead
   size-moves (fault k place) g m = tt
   size-moves (declared sizes at) g m =
-      by-field a (λ h. SizesMove h (addSize b g)) at 5 (sizeRead a sizes at) tt (λ size next t.
-      tests size next t (ltb size 2 || ltb 16 size) (ltb capacity (product sizes * size)) refl refl)
-    where
-      tests : (size next : ℕ) → There a at 5 size next → (p q : Bool) → (ltb size 2 || ltb 16 size) ≡ p → ltb capacity (product sizes * size) ≡ q
-          → SizesMove (cond p (fault 12 at) (cond q (fault 13 at) (declared (sizes ++ size ∷ []) next))) (addSize b g)
-      tests size next t true q e f = tt
-      tests size next t false true e f = tt
-      tests size next t false false e f = λ s.
-          let same = same-part 0 0 next s in
-          rw (
-            m (same-first 0 0 next s at (omega (arith, t .moved))),
-            field-moved at at 5 size next next t (same at 5 at at (omega arith) (omega arith) (omega (arith, t .moved))) (t .moved),
-            e,
-            f,
-          )
+      let Moves : HeadRead → Type 0 = λ h. SizesMove h (addSize b g) in
+      by-field a Moves at 5 (sizeRead a sizes at) tt (λ size next t.
+      by-test Moves (ltb size 2 || ltb 16 size) _ _ (λ e. tt) (λ e.
+      by-test Moves (ltb capacity (product sizes * size)) _ _ (λ f. tt) (λ f s.
+      let same = same-part 0 0 next s in
+      rw (
+        m (same-first 0 0 next s at (omega (arith, t .moved))),
+        field-moved at at 5 size next next t (same at 5 at at (omega arith) (omega arith) (omega (arith, t .moved))) (t .moved),
+        e,
+        f,
+      ))))
 
   sizes-move : (k : ℕ) → SizesMove (sizesRead a k) (sizesRead b k)
   unfolding sizesRead
@@ -85,18 +80,13 @@ module _ (a b : List ℕ) where
 
   pub moved-head : (sizes : List ℕ) (at : ℕ) → headAt a ≡ declared sizes at → Same a 0 b 0 at → headAt b ≡ declared sizes at
   unfolding headAt countRead
-  moved-head sizes at read s = by (fieldAt a 0 3) refl read
-    where
-      tests : (count : ℕ) (t : Bool) → (leb 1 count && leb count 4) ≡ t → cond t (sizesRead a count) (fault 11 0) ≡ declared sizes at
-          → cond (leb 1 count && leb count 4) (sizesRead b count) (fault 11 0) ≡ declared sizes at
-      tests count true t e = rw t (rw e at (sizes-move count) s)
-      tests count false t e = absurd (let z : _≡_ {A = ℕ} 0 1 = cc in omega arith)
-
-      by : (f : Field) → fieldAt a 0 3 ≡ f → countRead a f ≡ declared sizes at → countRead b (fieldAt b 0 3) ≡ declared sizes at
-      by Missing t e = absurd (let z : _≡_ {A = ℕ} 0 1 = cc in omega arith)
-      by (Value count next) t e =
-          let same = same-first 0 0 at s 3 (omega (arith, head-read a sizes at read .starts)) in
-          rw (field-moved 0 0 3 count next 3 (there a 0 3 count next t) same refl) (tests count (leb 1 count && leb count 4) refl e)
+  moved-head sizes at read s =
+      let Moves : HeadRead → Type 0 = λ h. h ≡ declared sizes at → headAt b ≡ declared sizes at in
+      by-field a Moves 0 3 (countRead a) (λ e. absurd (let z : _≡_ {A = ℕ} 0 1 = cc in omega arith)) (λ count next t.
+      by-test Moves (leb 1 count && leb count 4) _ _
+      (λ f e. let same = same-first 0 0 at s 3 (omega (arith, head-read a sizes at read .starts)) in
+      rw (field-moved 0 0 3 count next 3 t same refl, f) (rw e at (sizes-move count) s))
+      (λ f e. absurd (let z : _≡_ {A = ℕ} 0 1 = cc in omega arith))) read
 
   module _ (count x y : ℕ) where
     -- The head of a node of an expression.
@@ -121,19 +111,11 @@ module _ (a b : List ℕ) where
         (by-field a (λ h. NodeMoves h (truthHead b (fieldAt b (y + 2) 1))) (x + 2) 1 (truthHead a) tt (λ n next t s. rw (payload-moved 3 1 n next t refl s)))
         (chosen NodeMoves (eqb tag 2) _ _ _ _
         (by-field a (λ h. NodeMoves h (variableHead b count (y + 2) (fieldAt b (y + 2) 2))) (x + 2) 2 (variableHead a count (x + 2)) tt
-        (λ v next t. variable v next t (ltb v count) refl))
+        (λ v next t. by-test (λ h. NodeMoves h (variableHead b count (y + 2) (fieldAt b (y + 2) 2))) (ltb v count) _ _
+        (λ e s. rw (payload-moved 4 2 v next t refl s, e)) (λ e. tt)))
         (by-field a (λ h. NodeMoves h (operationHead b (y + 2) (fieldAt b (y + 2) 3))) (x + 2) 3 (operationHead a (x + 2)) tt
-        (λ o next t. operation o next t (eqb o 7) refl))))
-      where
-        variable : (v next : ℕ) → There a (x + 2) 2 v next → (t : Bool) → ltb v count ≡ t
-            → NodeMoves (cond t (Variable v next) (Fault 15 (x + 2))) (variableHead b count (y + 2) (fieldAt b (y + 2) 2))
-        variable v next t true e = λ s. rw (payload-moved 4 2 v next t refl s, e)
-        variable v next t false e = tt
-
-        operation : (o next : ℕ) → There a (x + 2) 3 o next → (t : Bool) → eqb o 7 ≡ t
-            → NodeMoves (cond t (Fault 14 (x + 2)) (Operation o next)) (operationHead b (y + 2) (fieldAt b (y + 2) 3))
-        operation o next t true e = tt
-        operation o next t false e = λ s. rw (payload-moved 5 3 o next t refl s, e)
+        (λ o next t. by-test (λ h. NodeMoves h (operationHead b (y + 2) (fieldAt b (y + 2) 3))) (eqb o 7) _ _
+        (λ e. tt) (λ e s. rw (payload-moved 5 3 o next t refl s, e))))))
 
     -- What is read after a tag is read if the tag is the same.
     after-tag : (h g k : ExprHead) → (Same a x b y 2 → k ≡ g) → NodeMoves h g → NodeMoves h k
@@ -184,7 +166,7 @@ module _ (a b : List ℕ) where
       left g o m later (bad k place) first = tt
       left g o m later (good l n i) first = right g o m later l n i first (exprAt levels a count n i) refl
 
-      by : (h : ExprHead) → Headed count nodes x h → (g : ExprHead) → NodeMoves count x y h g → Below
+      by : (h : ExprHead) → Headed a count nodes x h → (g : ExprHead) → NodeMoves count x y h g → Below
           → ExprMoves x y (onExprHead h nodes (exprAt levels a count)) (onExprHead g nodes (exprAt levels b count))
       by (Integer z next) p g m later = λ s. rw (m s)
       by (Truth t next) p g m later = λ s. rw (m s)

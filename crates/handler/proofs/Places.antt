@@ -1,35 +1,29 @@
 -- Every fault of a handler file has a number from 10 to 18, and its place is in the file or at its end. Reading keeps its cursor within the
 -- file, and names only its cursor, the file's length, a bit that is there or a part of what it has read. A statement that is read ends
 -- within the file.
-use Prim.Native.Nat.{ℕ, zero, suc, _+_, _*_, _≤_, _<_}
-use mathlib.Core.Bool.{true, _&&_, _||_}
+use Prim.Native.Nat.{ℕ, _+_, _*_, _≤_, _<_}
+use mathlib.Core.Bool.{true, _&&_}
 use mathlib.Core.List.{List}
 use mathlib.Core.Option.{Option, none, some}
 use mathlib.Core.Path.{_≡_, refl}
 use native.Mathlib.Omega.{arith}
-use lib.Dec.{leb, ltb, eqb}
+use lib.Dec.{leb}
 use lib.ListN.{length}
-use Rattle.bits.specs.Fields.{bitLength, fillAt}
+use Rattle.bits.specs.Fields.{fillAt}
 use Rattle.bits.specs.declared.Fill.{Fill}
 use Rattle.bits.specs.declared.Fill.the-variants.{Ends, Wrong}
-use Rattle.bits.proofs.Places.{FaultIn, either, by-field, fault-at, fault-missing, fill-inside}
-use Rattle.states.specs.Sets.{capacity}
+use Rattle.bits.proofs.Places.{FaultIn, either, fault-at, fill-inside}
 use Rattle.semantics.specs.declared.Kind.{Kind}
 use Rattle.semantics.specs.declared.Kind.the-variants.{Integer as integer-kind, Truth as truth-kind}
 use Rattle.semantics.specs.declared.Row.{Row}
 use Rattle.semantics.specs.declared.Row.the-variants.{Kinds, Unused}
 use Rattle.semantics.specs.Language.{int, truth, Expr, lit, var, op, Stmt, nil, assign, seq, par, if, while, rowOf, sameKind}
-use Rattle.semantics.specs.States.{product}
-use Rattle.handler.specs.declared.expressions.ExprHead.{ExprHead}
-use Rattle.handler.specs.declared.expressions.ExprHead.the-variants.{Integer, Truth, Variable, Operation, Fault}
-use Rattle.handler.specs.declared.StmtHead.{StmtHead}
-use Rattle.handler.specs.declared.StmtHead.the-variants as Mark
 use Rattle.handler.specs.Header as head
-use Rattle.handler.specs.Expressions.{integerHead, truthHead, variableHead, operationHead, payloadHead, tagHead, exprHead, ExprRead, good, bad, joined, operands, onExprHead, exprAt, wholeExpr}
-use Rattle.handler.specs.Statements.{targetHead, codeHead, markHead, stmtHead, StmtRead, whole, fault, onAssigned, onBody, onTest, onRight, onLeftSide, onStmtHead, stmtAt, wholeStmt}
+use Rattle.handler.specs.Statements.{StmtRead, whole, fault, wholeStmt}
 use Rattle.handler.specs.Kinds.{width, orPlace, rowKindError, kindError, stmtWidth, stmtKindError}
 use Rattle.handler.specs.Reading.{HandlerRead, handler, refused, onKinds, onHandlerFill, onStmt, onHead, readHandler}
-use Rattle.handler.proofs.StmtFolds.{stmt-read}
+use Rattle.handler.proofs.Heads.{HeadIn, head-in}
+use Rattle.handler.proofs.StmtFolds.{AllRead, all-read}
 
 -- A kind error is within the part that has it.
 abbrev Within : ℕ → ℕ → Option ℕ → Type 0
@@ -95,153 +89,8 @@ module _ (bytes : List ℕ) where
   abbrev Fine : ℕ → ℕ → Type 0
   Fine = FaultIn bytes 10 18
 
-  missing : Fine 10 (bitLength bytes)
-  missing = fault-missing bytes 10 18 10 refl
-
   at-cursor : (k : ℕ) → (leb 10 k && leb k 18) ≡ true → (at : ℕ) → at ≤ end → Fine k at
   at-cursor = fault-at bytes 10 18
-
-  -- The head of a node of an expression.
-  abbrev ExprHeadIn : ExprHead → Type 0
-  ExprHeadIn (Integer z next) = next ≤ end
-  ExprHeadIn (Truth b next) = next ≤ end
-  ExprHeadIn (Variable v next) = next ≤ end
-  ExprHeadIn (Operation o next) = next ≤ end
-  ExprHeadIn (Fault k place) = Fine k place
-
-  payload-in : (count at tag : ℕ) → at ≤ end → ExprHeadIn (payloadHead bytes count at tag)
-  unfolding payloadHead integerHead truthHead variableHead operationHead
-  payload-in count at tag here =
-      either ExprHeadIn (eqb tag 0) _ _ (by-field bytes ExprHeadIn at 8 (integerHead bytes) missing (λ n next t. omega arith))
-      (either ExprHeadIn (eqb tag 1) _ _ (by-field bytes ExprHeadIn at 1 (truthHead bytes) missing (λ n next t. omega arith))
-      (either ExprHeadIn (eqb tag 2) _ _
-      (by-field bytes ExprHeadIn at 2 (variableHead bytes count at) missing (λ v next t.
-      either ExprHeadIn (ltb v count) _ _ (omega arith) (at-cursor 15 refl at here)))
-      (by-field bytes ExprHeadIn at 3 (operationHead bytes at) missing (λ o next t.
-      either ExprHeadIn (eqb o 7) _ _ (at-cursor 14 refl at here) (omega arith)))))
-
-  expr-head-in : (count nodes at : ℕ) → at ≤ end → ExprHeadIn (exprHead bytes count nodes at)
-  unfolding exprHead tagHead
-  expr-head-in count nodes at here =
-      by-field bytes ExprHeadIn at 2 (tagHead bytes count nodes at) missing (λ tag next t.
-      either ExprHeadIn (leb 31 nodes) _ _ (at-cursor 17 refl at here) (payload-in count next tag (omega arith)))
-
-  abbrev ExprIn : ExprRead → Type 0
-  ExprIn (good e nodes next) = next ≤ end
-  ExprIn (bad k place) = Fine k place
-
-  right-in : (o : ℕ) (l : Expr) (x : ExprRead) → ExprIn x → ExprIn (joined o l x)
-  right-in o l (good r nodes next) p = p
-  right-in o l (bad k place) p = p
-
-  left-in : (o : ℕ) (x : ExprRead) → ExprIn x → (expr : ℕ → ℕ → ExprRead) → ((n i : ℕ) → i ≤ end → ExprIn (expr n i)) → ExprIn (operands o x expr)
-  left-in o (good l nodes next) p expr later = right-in o l (expr nodes next) (later nodes next p)
-  left-in o (bad k place) p expr later = p
-
-  on-expr-head : (h : ExprHead) → ExprHeadIn h → (nodes : ℕ) (expr : ℕ → ℕ → ExprRead) → ((n i : ℕ) → i ≤ end → ExprIn (expr n i))
-      → ExprIn (onExprHead h nodes expr)
-  on-expr-head (Integer z next) p nodes expr later = p
-  on-expr-head (Truth b next) p nodes expr later = p
-  on-expr-head (Variable v next) p nodes expr later = p
-  on-expr-head (Operation o next) p nodes expr later = left-in o (expr (suc nodes) next) (later (suc nodes) next p) expr later
-  on-expr-head (Fault k place) p nodes expr later = p
-
-  expr-in : (levels count nodes at : ℕ) → at ≤ end → ExprIn (exprAt levels bytes count nodes at)
-  unfolding exprAt
-  expr-in zero count nodes at here = at-cursor 17 refl at here
-  expr-in (suc levels) count nodes at here =
-      on-expr-head (exprHead bytes count nodes at) (expr-head-in count nodes at here) nodes (exprAt levels bytes count) (expr-in levels count)
-
-  whole-in : (count at : ℕ) → at ≤ end → ExprIn (wholeExpr bytes count at)
-  unfolding wholeExpr
-  whole-in count at here = expr-in 32 count 0 at here
-
-  -- The head of a statement.
-  abbrev StmtHeadIn : StmtHead → Type 0
-  StmtHeadIn (Mark.Nil next) = next ≤ end
-  StmtHeadIn (Mark.Assign v next) = next ≤ end
-  StmtHeadIn (Mark.Pair code next) = next ≤ end
-  StmtHeadIn (Mark.Test code next) = next ≤ end
-  StmtHeadIn (Mark.Fault k place) = Fine k place
-
-  code-in : (count at code next : ℕ) → at ≤ end → next ≤ end → StmtHeadIn (codeHead bytes count at code next)
-  unfolding codeHead targetHead
-  code-in count at code next here after =
-      either StmtHeadIn (eqb code 0) _ _ after
-      (either StmtHeadIn (eqb code 1) _ _
-      (by-field bytes StmtHeadIn next 2 (targetHead bytes count next) missing (λ v over t.
-      either StmtHeadIn (ltb v count) _ _ (omega arith) (at-cursor 15 refl next after)))
-      (either StmtHeadIn (ltb code 4) _ _ after
-      (either StmtHeadIn (ltb code 6) _ _ after (at-cursor 14 refl at here))))
-
-  stmt-head-in : (count below before at : ℕ) → at ≤ end → StmtHeadIn (stmtHead bytes count below before at)
-  unfolding stmtHead markHead
-  stmt-head-in count below before at here =
-      by-field bytes StmtHeadIn at 3 (markHead bytes count (eqb below 0 || leb 63 before) at) missing (λ code next t.
-      either StmtHeadIn (eqb below 0 || leb 63 before) _ _ (at-cursor 17 refl at here) (code-in count at code next here (omega arith)))
-
-  abbrev StmtIn : StmtRead → Type 0
-  StmtIn (whole S before next) = next ≤ end
-  StmtIn (fault k place) = Fine k place
-
-  assigned-in : (v before : ℕ) (x : ExprRead) → ExprIn x → StmtIn (onAssigned v before x)
-  assigned-in v before (good e nodes next) p = p
-  assigned-in v before (bad k place) p = p
-
-  body-in : (code : ℕ) (e : Expr) (x : StmtRead) → StmtIn x → StmtIn (onBody code e x)
-  body-in code e (whole b before next) p = p
-  body-in code e (fault k place) p = p
-
-  second-in : (code : ℕ) (l : Stmt) (x : StmtRead) → StmtIn x → StmtIn (onRight code l x)
-  second-in code l (whole r before next) p = p
-  second-in code l (fault k place) p = p
-
-  module _ (stmt : ℕ → ℕ → StmtRead) (later : (n i : ℕ) → i ≤ end → StmtIn (stmt n i)) where
-    test-in : (code before : ℕ) (x : ExprRead) → ExprIn x → StmtIn (onTest code before x stmt)
-    test-in code before (good e nodes next) p = body-in code e (stmt before next) (later before next p)
-    test-in code before (bad k place) p = p
-
-    first-in : (code : ℕ) (x : StmtRead) → StmtIn x → StmtIn (onLeftSide code x stmt)
-    first-in code (whole l before next) p = second-in code l (stmt before next) (later before next p)
-    first-in code (fault k place) p = p
-
-    on-stmt-head : (count : ℕ) (h : StmtHead) → StmtHeadIn h → (before : ℕ) → StmtIn (onStmtHead h (wholeExpr bytes count) before stmt)
-    on-stmt-head count (Mark.Nil next) p before = p
-    on-stmt-head count (Mark.Assign v next) p before = assigned-in v (suc before) (wholeExpr bytes count next) (whole-in count next p)
-    on-stmt-head count (Mark.Pair code next) p before = first-in code (stmt (suc before) next) (later (suc before) next p)
-    on-stmt-head count (Mark.Test code next) p before = test-in code (suc before) (wholeExpr bytes count next) (whole-in count next p)
-    on-stmt-head count (Mark.Fault k place) p before = p
-
-  stmt-in : (levels count before at : ℕ) → at ≤ end → StmtIn (stmtAt levels bytes count before at)
-  unfolding stmtAt
-  stmt-in zero count before at here = at-cursor 17 refl at here
-  stmt-in (suc levels) count before at here =
-      on-stmt-head (stmtAt levels bytes count) (stmt-in levels count) count (stmtHead bytes count levels before at)
-      (stmt-head-in count levels before at here) before
-
-  -- The head of the file.
-  abbrev HeadIn : head.HeadRead → Type 0
-  HeadIn (head.declared sizes at) = at ≤ end
-  HeadIn (head.fault k place) = Fine k place
-
-  size-in : (h : head.HeadRead) → HeadIn h → HeadIn (head.addSize bytes h)
-  unfolding head.addSize head.sizeRead
-  size-in (head.fault k place) p = p
-  size-in (head.declared sizes at) p =
-      by-field bytes HeadIn at 5 (head.sizeRead bytes sizes at) missing (λ size next t.
-      either HeadIn (ltb size 2 || ltb 16 size) _ _ (at-cursor 12 refl at p)
-      (either HeadIn (ltb capacity (product sizes * size)) _ _ (at-cursor 13 refl at p) (omega arith)))
-
-  sizes-in : (count : ℕ) → 3 ≤ end → HeadIn (head.sizesRead bytes count)
-  unfolding head.sizesRead
-  sizes-in zero here = here
-  sizes-in (suc count) here = size-in (head.sizesRead bytes count) (sizes-in count here)
-
-  head-in : HeadIn (head.headAt bytes)
-  unfolding head.headAt head.countRead
-  head-in =
-      by-field bytes HeadIn 0 3 (head.countRead bytes) missing (λ count next t.
-      either HeadIn (leb 1 count && leb count 4) _ _ (sizes-in count (omega arith)) (at-cursor 11 refl 0 (omega arith)))
 
   -- The whole file.
   abbrev FileIn : HandlerRead → Type 0
@@ -256,21 +105,18 @@ module _ (bytes : List ℕ) where
   fill-in sizes at next S here Ends e = kinds-in sizes at S (stmtKindError at S) (stmt-within at S) here
   fill-in sizes at next S here (Wrong place) e = at-cursor 18 refl place (fill-inside bytes next place e)
 
-  read-in : (sizes : List ℕ) (at : ℕ) (x : StmtRead) → wholeStmt bytes (length sizes) at ≡ x → StmtIn x → FileIn (onStmt bytes sizes at x)
-  unfolding wholeStmt
-  read-in sizes at (fault k place) e p = p
-  read-in sizes at (whole S after next) e p =
-      let known = stmt-read 17 bytes (length sizes) 0 at S after next e in
-      fill-in sizes at next S (omega (arith, known .ends)) (fillAt bytes next) refl
+  read-in : (sizes : List ℕ) (at : ℕ) (x : StmtRead) → AllRead bytes 17 (length sizes) 0 at x → at ≤ end → FileIn (onStmt bytes sizes at x)
+  read-in sizes at (fault k place) known p = known p
+  read-in sizes at (whole S after next) known p = fill-in sizes at next S (omega (arith, known .ends, known .inside)) (fillAt bytes next) refl
 
-  on-head : (h : head.HeadRead) → HeadIn h → FileIn (onHead bytes h)
+  on-head : (h : head.HeadRead) → HeadIn bytes h → FileIn (onHead bytes h)
   unfolding wholeStmt
   on-head (head.fault k place) p = p
-  on-head (head.declared sizes at) p = read-in sizes at (wholeStmt bytes (length sizes) at) refl (stmt-in 17 (length sizes) 0 at p)
+  on-head (head.declared sizes at) p = read-in sizes at (wholeStmt bytes (length sizes) at) (all-read 17 bytes (length sizes) 0 at) (p .1)
 
   file-in : FileIn (readHandler bytes)
   unfolding readHandler
-  file-in = on-head (head.headAt bytes) head-in
+  file-in = on-head (head.headAt bytes) (head-in bytes)
 
   pub fault-inside : (k place : ℕ) → readHandler bytes ≡ refused k place → FaultIn bytes 10 18 k place
   fault-inside k place e = rw e at file-in

@@ -15,33 +15,14 @@ use Rattle.handler.specs.StatementTable.{statements, statementWord, stat
 use Rattle.handler.proofs.Stores.{first-held, later-held, second-held}
 
 -- The fields of a word.
-word-code : (code target rest : ℕ) → code < 8 → (code + 8 * (target + 4 * rest)) % 8 ≡ code
-word-code code target rest c = omega arith
-
-word-target : (code target rest : ℕ) → code < 8 → target < 4 → (code + 8 * (target + 4 * rest)) / 8 % 4 ≡ target
-word-target code target rest c t = omega arith
-
-word-after : (code target after rest : ℕ) → code < 8 → target < 4 → after < 128 → (code + 8 * (target + 4 * (after + 128 * rest))) / 32 % 128 ≡ after
-word-after code target after rest c t a = omega arith
-
-word-expr : (code target after expr bit : ℕ) → code < 8 → target < 4 → after < 128 → expr < 2048
-    → (code + 8 * (target + 4 * (after + 128 * (expr + 2048 * bit)))) / 4096 % 2048 ≡ expr
-word-expr code target after expr bit c t a e = omega arith
-
-word-bit : (code target after expr bit : ℕ) → code < 8 → target < 4 → after < 128 → expr < 2048
-    → (code + 8 * (target + 4 * (after + 128 * (expr + 2048 * bit)))) / 8388608 ≡ bit
-word-bit code target after expr bit c t a e = omega arith
+word-fields : (code target after expr bit : ℕ) → code < 8 → target < 4 → after < 128 → expr < 2048
+    → let word = code + 8 * (target + 4 * (after + 128 * (expr + 2048 * bit))) in
+    (word % 8 ≡ code) × (word / 8 % 4 ≡ target) × (word / 32 % 128 ≡ after) × (word / 4096 % 2048 ≡ expr) × (word / 8388608 ≡ bit)
+word-fields code target after expr bit c t a e = (omega arith, omega arith, omega arith, omega arith, omega arith)
 
 word-back : (s : Statement) → s .code < 8 → s .target < 4 → s .after < 128 → s .expr < 2048 → statementOf (statementWord s) ≡ s
 unfolding statementWord statementOf
-word-back s c t a e =
-    rw (
-      word-code (s .code) (s .target) (s .after + 128 * (s .expr + 2048 * s .bit)) c,
-      word-target (s .code) (s .target) (s .after + 128 * (s .expr + 2048 * s .bit)) c t,
-      word-after (s .code) (s .target) (s .after) (s .expr + 2048 * s .bit) c t a,
-      word-expr (s .code) (s .target) (s .after) (s .expr) (s .bit) c t a e,
-      word-bit (s .code) (s .target) (s .after) (s .expr) (s .bit) c t a e,
-    )
+word-back s c t a e = let f = word-fields (s .code) (s .target) (s .after) (s .expr) (s .bit) c t a e in rw (f .0, f .1, f .2, f .3, f .4)
 
 pub length-statementWords : (j bit i : ℕ) (S : Stmt) → length (statementWords j bit i S) ≡ statements S
 length-statementWords j bit i nil = refl
@@ -95,45 +76,23 @@ module _ (table : List ℕ) (j bit i : ℕ) where
   parts-held (if e b) h = one e b (wordOf j bit i (if e b)) (h .rest) (h .is)
   parts-held (while e b) h = one e b (wordOf j bit i (while e b)) (h .rest) (h .is)
 
-  first-word : (S : Stmt) (rest : List ℕ) → getD (statementWords j bit i S ++ rest) 0 0 ≡ wordOf j bit i S
-  first-word nil rest = refl
-  first-word (assign v e) rest = refl
-  first-word (seq l r) rest = refl
-  first-word (par l r) rest = refl
-  first-word (if e b) rest = refl
-  first-word (while e b) rest = refl
-
-  code-small : (S : Stmt) → statementCode S < 8
-  code-small nil = omega arith
-  code-small (assign v e) = omega arith
-  code-small (seq l r) = omega arith
-  code-small (par l r) = omega arith
-  code-small (if e b) = omega arith
-  code-small (while e b) = omega arith
-
-  after-small : (S : Stmt) → afterFirst j S ≤ j + statements S
-  after-small nil = omega arith
-  after-small (assign v e) = omega arith
-  after-small (seq l r) = omega arith
-  after-small (par l r) = omega arith
-  after-small (if e b) = omega arith
-  after-small (while e b) = omega arith
-
-  number-small : (S : Stmt) → exprNumber i S ≤ i
-  number-small nil = omega arith
-  number-small (assign v e) = omega arith
-  number-small (seq l r) = omega arith
-  number-small (par l r) = omega arith
-  number-small (if e b) = omega arith
-  number-small (while e b) = omega arith
+  -- The first of the words is the statement's own, and its numbers fit their fields.
+  own-word : (S : Stmt) (rest : List ℕ)
+      → (getD (statementWords j bit i S ++ rest) 0 0 ≡ wordOf j bit i S) × ((statementCode S < 8) × (afterFirst j S ≤ j + statements S) × (exprNumber i S ≤ i))
+  own-word nil rest = (refl, omega arith)
+  own-word (assign v e) rest = (refl, omega arith)
+  own-word (seq l r) rest = (refl, omega arith)
+  own-word (par l r) rest = (refl, omega arith)
+  own-word (if e b) rest = (refl, omega arith)
+  own-word (while e b) rest = (refl, omega arith)
 
   -- If a table holds the words of a statement, its entry j is the statement's record.
   pub statement-held : (S : Stmt) → StatementIn table j bit i S → targetOf S < 4 → j + statements S ≤ 63 → i ≤ 1953
       → statementIn table j ≡ statementRecord j bit i S
   unfolding statementIn wordOf
   statement-held S h target few room =
-      let word : getD table j 0 ≡ wordOf j bit i S = first-held table j _ (h .is) ∙ first-word S (h .rest) in
-      rw word (word-back (statementRecord j bit i S) (code-small S) target (omega (arith, after-small S)) (omega (arith, number-small S)))
+      let own = own-word S (h .rest) in
+      rw (first-held table j _ (h .is) ∙ own .0) (word-back (statementRecord j bit i S) (own .1 .0) target (omega arith) (omega arith))
 
 drop-replicate : (n m : ℕ) → drop {A = ℕ} n (replicate m 0) ≡ replicate (m - n) 0
 drop-replicate zero m = let same : m - 0 ≡ m = omega arith in rw same

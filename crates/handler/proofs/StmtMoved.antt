@@ -10,7 +10,7 @@ use lib.Dec.{leb, ltb, eqb}
 use lib.ListN.{length}
 use Rattle.bits.specs.Fields.{bitsAt, fieldAt, fillAt}
 use Rattle.bits.specs.declared.Fill.the-variants.{Ends}
-use Rattle.bits.proofs.Laws.{There, found}
+use Rattle.bits.proofs.Laws.{found}
 use Rattle.bits.proofs.Places.{either, by-field}
 use Rattle.semantics.specs.Language.{Expr, Stmt, seq, par, if, while}
 use Rattle.handler.specs.declared.StmtHead.{StmtHead}
@@ -20,6 +20,7 @@ use Rattle.handler.specs.Statements.{targetHead, codeHead, markHead, stm
 use Rattle.handler.specs.Kinds.{width, stmtWidth}
 use Rattle.handler.specs.StatementTable.{statements, stmtLevels}
 use Rattle.handler.specs.Reading.{handler, readHandler}
+use Rattle.handler.proofs.Heads.{by-test}
 use Rattle.handler.proofs.StmtFolds.{stmt-step, Marked, marked, whole-read, stmt-read}
 use Rattle.handler.proofs.Fitting.{kinds-anywhere}
 use Rattle.handler.proofs.Handlers.{known-handler}
@@ -38,21 +39,16 @@ module _ (a b : List ℕ) where
     MarkMoves (Test code next) h = Room 3 → h ≡ Test code (y + 3)
     MarkMoves (Fault k place) h = Unit {0}
 
-    target-moves : (v next : ℕ) → There a (x + 3) 2 v next → (t : Bool) → ltb v count ≡ t
-        → MarkMoves (cond t (Assign v next) (Fault 15 (x + 3))) (targetHead b count (y + 3) (fieldAt b (y + 3) 2))
-    unfolding targetHead
-    target-moves v next t true e = λ r.
-        let same = same-part a b x y 5 (r .0) 3 2 (x + 3) (y + 3) refl refl (omega arith) in
-        rw (field-moved a b (x + 3) (y + 3) 2 v next (y + 5) t same (omega arith), e)
-    target-moves v next t false e = tt
-
     code-moves : (code : ℕ) → MarkMoves (codeHead a count x code (x + 3)) (codeHead b count y code (y + 3))
     unfolding codeHead targetHead
     code-moves code =
+        let Target : StmtHead → Type 0 = λ h. MarkMoves h (targetHead b count (y + 3) (fieldAt b (y + 3) 2)) in
         chosen MarkMoves (eqb code 0) _ _ _ _ (λ r. refl)
         (chosen MarkMoves (eqb code 1) _ _ _ _
-        (by-field a (λ h. MarkMoves h (targetHead b count (y + 3) (fieldAt b (y + 3) 2))) (x + 3) 2 (targetHead a count (x + 3)) tt
-        (λ v next t. target-moves v next t (ltb v count) refl))
+        (by-field a Target (x + 3) 2 (targetHead a count (x + 3)) tt (λ v next t.
+        by-test Target (ltb v count) _ _
+        (λ e r. let same = same-part a b x y 5 (r .0) 3 2 (x + 3) (y + 3) refl refl (omega arith) in
+        rw (field-moved a b (x + 3) (y + 3) 2 v next (y + 5) t same (omega arith), e)) (λ e. tt)))
         (chosen MarkMoves (ltb code 4) _ _ _ _ (λ r. refl) (chosen MarkMoves (ltb code 6) _ _ _ _ (λ r. refl) tt)))
 
     -- What is read after a code is read if the code is the same and there is room.
@@ -163,7 +159,7 @@ module _ (a b : List ℕ) where
       test-moved code m (bad k place) first = tt
       test-moved code m (good e nodes i) first = body-moved code m e nodes i first (stmtAt levels a count (suc so-far) i) refl
 
-      level-moves : (h : StmtHead) → Marked count levels so-far x h → Marks h
+      level-moves : (h : StmtHead) → Marked a count levels so-far x h → Marks h
           → StmtMoves (suc below) before x y (onStmtHead h (wholeExpr a count) so-far (stmtAt levels a count)) here
       unfolding Marked
       level-moves (Nil next) p m = λ s deep few.

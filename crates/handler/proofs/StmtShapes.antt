@@ -210,7 +210,7 @@ found-made bytes sizes at (whole S after next) read = by (fillAt bytes next)
     w : StmtSummary
     w = stmtSummary (product sizes) 0 at S after next
 
-    known : ReadStmt 17 (length sizes) 0 at S after next
+    known : ReadStmt bytes 17 (length sizes) 0 at S after next
     known = stmt-read 17 bytes (length sizes) 0 at S after next read
 
     counted : after ≡ statements S

@@ -16,19 +16,13 @@ use Rattle.handler.specs.Terms.{bits16, signed16, exprNodes, exprTerm, t
 use Rattle.handler.proofs.Stores.{first-held, later-held, second-held}
 
 -- The fields of a word.
-word-tag : (tag value right : ℕ) → tag < 4 → (tag + 4 * (value + 65536 * right)) % 4 ≡ tag
-word-tag tag value right t = omega arith
-
-word-value : (tag value right : ℕ) → tag < 4 → value < 65536 → (tag + 4 * (value + 65536 * right)) / 4 % 65536 ≡ value
-word-value tag value right t v = omega arith
-
-word-right : (tag value right : ℕ) → tag < 4 → value < 65536 → (tag + 4 * (value + 65536 * right)) / 262144 ≡ right
-word-right tag value right t v = omega arith
+word-fields : (tag value right : ℕ) → tag < 4 → value < 65536
+    → let word = tag + 4 * (value + 65536 * right) in (word % 4 ≡ tag) × (word / 4 % 65536 ≡ value) × (word / 262144 ≡ right)
+word-fields tag value right t v = (omega arith, omega arith, omega arith)
 
 term-back : (x : Term) → x .tag < 4 → x .value < 65536 → termOf (termWord x) ≡ x
 unfolding termWord termOf
-term-back x t v =
-    rw (word-tag (x .tag) (x .value) (x .right) t, word-value (x .tag) (x .value) (x .right) t v, word-right (x .tag) (x .value) (x .right) t v)
+term-back x t v = let f = word-fields (x .tag) (x .value) (x .right) t v in rw (f .0, f .1, f .2)
 
 -- An integer of 16 bits.
 pub bits-small : (z : ℤ) → mag z < 32768 → bits16 z < 65536
@@ -76,22 +70,17 @@ module _ (table : List ℕ) where
       )
 
   -- The first node of an expression.
-  word-first : (i : ℕ) (e : Expr) (rest : List ℕ) → getD (termWords i e ++ rest) 0 0 ≡ firstWord i e
-  word-first i (lit v) rest = refl
-  word-first i (var v) rest = refl
-  word-first i (op o l r) rest = refl
-
-  first-back : (i : ℕ) (e : Expr) → ExprFits e → termOf (firstWord i e) ≡ exprTerm i e
+  own-word : (i : ℕ) (e : Expr) → ExprFits e → (rest : List ℕ) → termOf (getD (termWords i e ++ rest) 0 0) ≡ exprTerm i e
   unfolding firstWord
-  first-back i (lit (int z)) fits = term-back (exprTerm i (lit (int z))) (omega arith) (bits-small z fits)
-  first-back i (lit (truth true)) fits = term-back (exprTerm i (lit (truth true))) (omega arith) (omega arith)
-  first-back i (lit (truth false)) fits = term-back (exprTerm i (lit (truth false))) (omega arith) (omega arith)
-  first-back i (var v) fits = term-back (exprTerm i (var v)) (omega arith) fits
-  first-back i (op o l r) fits = term-back (exprTerm i (op o l r)) (omega arith) (fits .0)
+  own-word i (lit (int z)) fits rest = term-back (exprTerm i (lit (int z))) (omega arith) (bits-small z fits)
+  own-word i (lit (truth true)) fits rest = term-back (exprTerm i (lit (truth true))) (omega arith) (omega arith)
+  own-word i (lit (truth false)) fits rest = term-back (exprTerm i (lit (truth false))) (omega arith) (omega arith)
+  own-word i (var v) fits rest = term-back (exprTerm i (var v)) (omega arith) fits
+  own-word i (op o l r) fits rest = term-back (exprTerm i (op o l r)) (omega arith) (fits .0)
 
   term-held : (i : ℕ) (e : Expr) → ExprFits e → TermsIn table i e → termIn table i ≡ exprTerm i e
   unfolding termIn
-  term-held i e fits h = ap termOf (first-held table i _ (h .is) ∙ word-first i e (h .rest)) ∙ first-back i e fits
+  term-held i e fits h = ap termOf (first-held table i _ (h .is)) ∙ own-word i e fits (h .rest)
 
   expr-from : (levels i : ℕ) (e : Expr) → exprNodes e ≤ levels → ExprFits e → TermsIn table i e → exprFrom levels table i ≡ e
   unfolding exprFrom

@@ -49,39 +49,18 @@ last t c =
     let tag : 3 ≤ read .result .tag = omega (arith, c .before .before .if2 .left, c .if3 .left) in
     rw (read .ensures) at tag
 
-returns : (t : ℕ) → lts.Need-returns (callees t) (now-at t) walk.Post
-returns t c = no-level _ _ _ _ (c .if1 .taken)
-
-constant-returns : (t : ℕ) → lts.Need-returns-2 (callees t) (now-at t) walk.Post
-constant-returns t c = constant-occurs _ _ _ _ (more t (c .before)) (rw (c .before .before .term-at .ensures) at (c .if2 .taken))
-
-variable-returns : (t : ℕ) → lts.Need-returns-3 (callees t) (now-at t) walk.Post
-variable-returns t c =
-    let k = c .before .before .before .before in
-    variable-occurs _ _ _ _ (more t k) _ (rw (k .before .term-at .ensures) at (c .before .if3 .taken)) (rw (k .before .term-at .ensures) at (c .occurs-in .ensures))
-
-add-operands : (t : ℕ) → lts.Need-add-result (callees t) (now-at t) walk.Post
-add-operands t c =
-    let k = c .before .before .before .before .before .before in
-    omega (arith, sum-small _ (k .before .before .before .before .pre .1) (more t k) _ _ (c .before .before .occurrences-walk .ensures .1) (c .occurrences-walk2 .ensures .1))
-
-both-returns : (t : ℕ) → lts.Need-returns-4 (callees t) (now-at t) walk.Post
-both-returns t c =
-    let k = c .before .before .before .before .before .before in
-    both-occur _ _ _ _ (more t k) (last t (c .before .before .before)) _ _ (c .before .before .occurrences-walk .ensures)
-    (rw (k .before .term-at .ensures) at (c .occurrences-walk2 .ensures))
-
 pub +occurrences-walk-spec : {M : Type 1} → statement M
 +occurrences-walk-spec = close μ-walk λ t. lts.spec (callees t) (now-at t) walk.Post
-    (returns t)
-    (λ c κs. search needs)
-    (constant-returns t)
-    (λ c κs. search needs)
-    (variable-returns t)
-    (λ c. search needs)
-    (λ c. omega (arith, operation-inside _ _ (last t c)))
+    (λ c. no-level _ _ _ _ (c .if1 .taken)) (λ c κs. search needs)
+    (λ c. constant-occurs _ _ _ _ (more t (c .before)) (rw (c .before .before .term-at .ensures) at (c .if2 .taken))) (λ c κs. search needs)
+    (λ c. let k = c .before .before .before .before in
+        variable-occurs _ _ _ _ (more t k) _ (rw (k .before .term-at .ensures) at (c .before .if3 .taken)) (rw (k .before .term-at .ensures) at (c .occurs-in .ensures)))
+    (λ c. search needs) (λ c. omega (arith, operation-inside _ _ (last t c)))
     (λ c κs. omega (arith, more t (c .before .before .before), c .before .before .before .before .before .before .before .pre))
     (λ c. search needs) (λ c. search needs)
     (λ c κs. omega (arith, more t (c .before .before .before .before .before), c .before .before .before .before .before .before .before .before .before .pre))
-    (add-operands t)
-    (both-returns t)
+    (λ c. let k = c .before .before .before .before .before .before in
+        omega (arith, sum-small _ (k .before .before .before .before .pre .1) (more t k) _ _ (c .before .before .occurrences-walk .ensures .1) (c .occurrences-walk2 .ensures .1)))
+    (λ c. let k = c .before .before .before .before .before .before in
+        both-occur _ _ _ _ (more t k) (last t (c .before .before .before)) _ _ (c .before .before .occurrences-walk .ensures)
+        (rw (k .before .term-at .ensures) at (c .occurrences-walk2 .ensures)))

@@ -62,69 +62,36 @@ operation-of t c = c .before .before .before .before .before
 last : (t : ℕ) (c : OperationRead t) → let a = start t c .args in 3 ≤ termIn (a .exprs .now) (a .i) .tag
 last t c = rw (c .before .before .term-at .ensures) at (c .if2 .left)
 
-inside : (t : ℕ) → lts.Need-add-values-walk (callees t) (now-at t) values-walk.Post
-inside t c = omega (arith, operation-inside _ _ (last t c))
-
-leaf-requires : (t : ℕ) → lts.Need-leaf-row-requires (callees t) (now-at t) values-walk.Post
-leaf-requires t c κs =
-    let a = c .before .before .before .before .before in
-    (a .pre .1 .0, c .if2 .taken, rw (c .before .before .term-at .ensures) (value-small (a .args .exprs .now) (a .args .i)))
-
-returns : (t : ℕ) → lts.Need-returns (callees t) (now-at t) values-walk.Post
-returns t c = walked-out _ _ _ _ _ (c .nothing .result) (c .before .if1 .taken) (c .nothing .ensures)
-
-leaf-returns : (t : ℕ) → lts.Need-returns-2 (callees t) (now-at t) values-walk.Post
-leaf-returns t c =
-    let k = c .before .before in
-    walked-leaf _ _ _ _ _ (more t k) _ (rw (k .before .term-at .ensures) at (c .leaf-row .ensures))
-
-left-returns : (t : ℕ) → lts.Need-returns-3 (callees t) (now-at t) values-walk.Post
-left-returns t c =
-    let k = c .before .before .before in
-    walked-left _ _ _ _ _ (more t (k .before)) (last t k) _ (c .before .before .values-walk .ensures) (c .if3 .taken)
-
 -- The right operand, as the code walks it.
 second : (t : ℕ) (c : RightWalked t) → let a = start t (operation-of t c) .args in
     Walked (a .n) (machineIn (a .head)) (a .levels - 1) (c .values-walk2 .result) (exprFrom (a .levels - 1) (a .exprs .now) (termIn (a .exprs .now) (a .i) .right))
 second t c = rw (c .before .before .before .before .before .before .before .term-at .ensures) at (c .values-walk2 .ensures)
 
-right-returns : (t : ℕ) → lts.Need-returns-4 (callees t) (now-at t) values-walk.Post
-right-returns t c =
-    let r = c .before .before in
-    let k = operation-of t r in
-    walked-right _ _ _ _ _ (more t (k .before)) (last t k) _ (r .before .before .before .before .values-walk .ensures) _ (second t r) (c .if4 .taken)
-
-apply-requires : (t : ℕ) → lts.Need-apply-op-requires (callees t) (now-at t) values-walk.Post
-apply-requires t c κs =
-    let r = c .before .before in
-    let k = operation-of t r in
-    let a = start t k in (
-      rw (a .pre .1 .0) (states-most (a .args .head)),
-      c .before .before .before .before .if3 .left,
-      c .if4 .left,
-      operands-small _ _ _ _ _ (more t (k .before)) (last t k) _ (r .before .before .before .before .values-walk .ensures) _ (second t r) (a .pre .1 .1),
-    )
-
-op-returns : (t : ℕ) → lts.Need-returns-5 (callees t) (now-at t) values-walk.Post
-op-returns t c =
-    let r = c .before .before .before in
-    let k = operation-of t r in
-    walked-both _ _ _ _ _ (more t (k .before)) (last t k) _ (r .before .before .before .before .values-walk .ensures) _ (second t r) _
-    (rw (k .before .before .term-at .ensures) at (c .apply-op .ensures))
-
 pub +values-walk-spec : {M : Type 1} → statement M
 +values-walk-spec = close μ-values-walk λ t. lts.spec (callees t) (now-at t) values-walk.Post
-    (λ c κs. search needs)
-    (returns t)
-    (λ c κs. search needs)
-    (leaf-requires t)
-    (leaf-returns t)
-    (λ c. search needs)
-    (inside t)
+    (λ c κs. search needs) (λ c. walked-out _ _ _ _ _ (c .nothing .result) (c .before .if1 .taken) (c .nothing .ensures)) (λ c κs. search needs)
+    (λ c κs. let a = c .before .before .before .before .before in
+        (a .pre .1 .0, c .if2 .taken, rw (c .before .before .term-at .ensures) (value-small (a .args .exprs .now) (a .args .i))))
+    (λ c. let k = c .before .before in
+        walked-leaf _ _ _ _ _ (more t k) _ (rw (k .before .term-at .ensures) at (c .leaf-row .ensures)))
+    (λ c. search needs) (λ c. omega (arith, operation-inside _ _ (last t c)))
     (λ c κs. omega (arith, more t (c .before), c .before .before .before .before .before .pre))
-    (left-returns t)
+    (λ c. let k = c .before .before .before in
+        walked-left _ _ _ _ _ (more t (k .before)) (last t k) _ (c .before .before .values-walk .ensures) (c .if3 .taken))
     (λ c. search needs) (λ c. search needs)
     (λ c κs. omega (arith, more t (c .before .before .before .before .before), c .before .before .before .before .before .before .before .before .before .pre))
-    (right-returns t)
-    (apply-requires t)
-    (op-returns t)
+    (λ c. let r = c .before .before in
+        let k = operation-of t r in
+        walked-right _ _ _ _ _ (more t (k .before)) (last t k) _ (r .before .before .before .before .values-walk .ensures) _ (second t r) (c .if4 .taken))
+    (λ c κs. let r = c .before .before in
+        let k = operation-of t r in
+        let a = start t k in (
+          rw (a .pre .1 .0) (states-most (a .args .head)),
+          c .before .before .before .before .if3 .left,
+          c .if4 .left,
+          operands-small _ _ _ _ _ (more t (k .before)) (last t k) _ (r .before .before .before .before .values-walk .ensures) _ (second t r) (a .pre .1 .1),
+        ))
+    (λ c. let r = c .before .before .before in
+        let k = operation-of t r in
+        walked-both _ _ _ _ _ (more t (k .before)) (last t k) _ (r .before .before .before .before .values-walk .ensures) _ (second t r) _
+        (rw (k .before .before .term-at .ensures) at (c .apply-op .ensures)))

@@ -29,18 +29,12 @@ module _ (x : Variable) (s t : ℕ) where
   unfolding agreeIn
   agree-nowhere e = rw e
 
-returns : tie.Need-returns
-returns c t =
-    let k = c .before .before .before in
-    let a = k .before .before .before .args in
-    rw (agree-there (a .x) (a .s) t (asked (k .before .before) true (k .if1 .taken))) (c .states-with .ensures t)
-
-returns-2 : tie.Need-returns-2
-returns-2 c t = let k = c .before .before .before in rw (agree-nowhere _ _ t (asked k false (c .before .if1 .left))) (c .empty .ensures t)
-
 pub agreeing-spec : {M : Type 1} → statement M
 agreeing-spec =
     tie.close
     (tie.spec (λ c κs. search needs) (λ c. known c .weighs) (λ c. known (c .before) .sized)
-    (λ c κs. let k = known (c .before) in (k .few, k .weighs, k .light, k .short, mod-lt _ (k .sized))) (λ c κs. search needs) returns
-    returns-2)
+    (λ c κs. let k = known (c .before) in (k .few, k .weighs, k .light, k .short, mod-lt _ (k .sized))) (λ c κs. search needs)
+    (λ c t. let k = c .before .before .before in
+        let a = k .before .before .before .args in
+        rw (agree-there (a .x) (a .s) t (asked (k .before .before) true (k .if1 .taken))) (c .states-with .ensures t))
+    (λ c t. let k = c .before .before .before in rw (agree-nowhere _ _ t (asked k false (c .before .if1 .left))) (c .empty .ensures t)))

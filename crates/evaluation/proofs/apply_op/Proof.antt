@@ -26,32 +26,25 @@ mixed-kinds o (suc (suc k)) j x y a b other l m = absurd (omega arith)
 mixed-kinds o zero (suc (suc j)) x y a b other l m = absurd (omega arith)
 mixed-kinds o (suc zero) (suc (suc j)) x y a b other l m = absurd (omega arith)
 
-returns : tie.Need-returns
-returns c =
-    let made = c .of-integers .ensures in
-    let a = c .before .before .before .before .before .before .args in
-    let left : a .left .kind ≡ integersKind = c .before .if2 .taken in
-    let right : a .right .kind ≡ integersKind = sym (c .before .before .before .if1 .taken) ∙ left in
-    λ s l. (made s l .0 ∙ rw (left, right), made s l .1)
-
-returns-2 : tie.Need-returns-2
-returns-2 c =
-    let made = c .of-truths .ensures in
-    let a = c .before .before .before .before .before .before .args in
-    let left : a .left .kind ≡ truthsKind = omega arith in
-    let right : a .right .kind ≡ truthsKind = sym (c .before .before .before .if1 .taken) ∙ left in
-    λ s l. (made s l .0 ∙ rw (left, right), made s l .1)
-
-returns-3 : tie.Need-returns-3
-returns-3 c =
-    let made = c .nothing .ensures in
-    let k = c .before .before .before .before in
-    let a = k .args in
-    λ s l. (
-      rw (made .0) (mixed-kinds (a .o) (a .left .kind) (a .right .kind) (integerIn (a .left) s) (integerIn (a .right) s)
-          (has (a .left .truths) s) (has (a .right .truths) s) (c .before .if1 .left) (k .pre .1) (k .pre .2)),
-      rw (made .1 s) (omega arith),
-    )
-
 pub apply-op-spec : {M : Type 1} → statement M
-apply-op-spec = tie.close (tie.spec (λ c κs. search needs) (λ c κs. search needs) (λ c κs. search needs) returns returns-2 returns-3)
+apply-op-spec =
+    tie.close
+    (tie.spec (λ c κs. search needs) (λ c κs. search needs) (λ c κs. search needs)
+    (λ c. let made = c .of-integers .ensures in
+        let a = c .before .before .before .before .before .before .args in
+        let left : a .left .kind ≡ integersKind = c .before .if2 .taken in
+        let right : a .right .kind ≡ integersKind = sym (c .before .before .before .if1 .taken) ∙ left in
+        λ s l. (made s l .0 ∙ rw (left, right), made s l .1))
+    (λ c. let made = c .of-truths .ensures in
+        let a = c .before .before .before .before .before .before .args in
+        let left : a .left .kind ≡ truthsKind = omega arith in
+        let right : a .right .kind ≡ truthsKind = sym (c .before .before .before .if1 .taken) ∙ left in
+        λ s l. (made s l .0 ∙ rw (left, right), made s l .1))
+    (λ c. let made = c .nothing .ensures in
+        let k = c .before .before .before .before in
+        let a = k .args in
+        λ s l. (
+          rw (made .0) (mixed-kinds (a .o) (a .left .kind) (a .right .kind) (integerIn (a .left) s) (integerIn (a .right) s)
+              (has (a .left .truths) s) (has (a .right .truths) s) (c .before .if1 .left) (k .pre .1) (k .pre .2)),
+          rw (made .1 s) (omega arith),
+        )))

@@ -4,9 +4,6 @@ use Rattle.evaluation.specs.Values.{isSmall}
 use Rattle.evaluation.proofs.is_small.Statement.{statement}
 use Rattle.evaluation.proofs.is_small.Tie as tie
 
-returns : tie.Need-returns
-unfolding isSmall
-returns c = refl
-
 pub is-small-spec : {M : Type 1} → statement M
-is-small-spec = tie.close (tie.spec returns)
+unfolding isSmall
+is-small-spec = tie.close (tie.spec (λ c. refl))

@@ -6,8 +6,5 @@ use Rattle.states.proofs.Cells.{cell-none}
 use Rattle.evaluation.proofs.nothing.Statement.{statement}
 use Rattle.evaluation.proofs.nothing.Tie as tie
 
-returns : tie.Need-returns
-returns c = (refl, cell-none (pos 0))
-
 pub nothing-spec : {M : Type 1} → statement M
-nothing-spec = tie.close (tie.spec (λ c κs. search needs) returns)
+nothing-spec = tie.close (tie.spec (λ c κs. search needs) (λ c. (refl, cell-none (pos 0))))

@@ -15,13 +15,10 @@ binary zero h = refl
 binary (suc zero) h = refl
 binary (suc (suc b)) h = absurd (omega arith)
 
-returns : tie.Need-returns
-returns c =
-    let a = c .before .args in
-    rw (div-eq-of-lt {n = a .mask} {m = 2 ^ a .v} (omega (arith, pow-mono {i = 32} {j = a .v} (c .if1 .taken))))
-
-returns-2 : tie.Need-returns-2
-returns-2 c = binary _ (omega arith)
-
 pub occurs-in-spec : {M : Type 1} → statement M
-occurs-in-spec = tie.close (tie.spec returns (λ c. search needs) returns-2)
+occurs-in-spec =
+    tie.close
+    (tie.spec
+    (λ c. let a = c .before .args in
+        rw (div-eq-of-lt {n = a .mask} {m = 2 ^ a .v} (omega (arith, pow-mono {i = 32} {j = a .v} (c .if1 .taken)))))
+    (λ c. search needs) (λ c. binary _ (omega arith)))

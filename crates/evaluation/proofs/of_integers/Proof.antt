@@ -9,27 +9,17 @@ use Rattle.evaluation.specs.Refinement.{integerIn}
 use Rattle.evaluation.proofs.of_integers.Statement.{statement}
 use Rattle.evaluation.proofs.of_integers.Tie as tie
 
-returns : tie.Need-returns
-returns c =
-    let made = c .integers-of .ensures in
-    λ s l. rw (made .0, made .1) (c .before .sum-row .ensures s l)
-
-returns-2 : tie.Need-returns-2
-returns-2 c =
-    let made = c .truths-of .ensures in
-    λ s l. (rw (made .0, made .1) (c .before .compared .ensures s l), rw (made .2 s) (omega arith))
-
-returns-3 : tie.Need-returns-3
-returns-3 c =
-    let made = c .nothing .ensures in
-    let a = c .before .before .before .before .before .args in
-    λ s l. (
-      rw (made .0) (sym (List·getD-eq-default (ofIntegers (integerIn (a .left) s) (integerIn (a .right) s)) none {n = a .o} (omega arith))),
-      rw (made .1 s) (omega arith),
-    )
-
 pub of-integers-spec : {M : Type 1} → statement M
 of-integers-spec =
     tie.close
     (tie.spec (λ c κs. search needs) (λ c κs. search needs) (λ c κs. search needs) (λ c κs. search needs) (λ c κs. search needs)
-    returns returns-2 returns-3)
+    (λ c. let made = c .integers-of .ensures in
+        λ s l. rw (made .0, made .1) (c .before .sum-row .ensures s l))
+    (λ c. let made = c .truths-of .ensures in
+        λ s l. (rw (made .0, made .1) (c .before .compared .ensures s l), rw (made .2 s) (omega arith)))
+    (λ c. let made = c .nothing .ensures in
+        let a = c .before .before .before .before .before .args in
+        λ s l. (
+          rw (made .0) (sym (List·getD-eq-default (ofIntegers (integerIn (a .left) s) (integerIn (a .right) s)) none {n = a .o} (omega arith))),
+          rw (made .1 s) (omega arith),
+        )))

@@ -21,24 +21,14 @@ no-row a b (suc (suc (suc (suc (suc zero))))) f g = absurd (f refl)
 no-row a b (suc (suc (suc (suc (suc (suc zero)))))) f g = absurd (g refl)
 no-row a b (suc (suc (suc (suc (suc (suc (suc o))))))) f g = refl
 
-returns : tie.Need-returns
-returns c =
-    let made = c .truths-of .ensures in
-    λ s l. (rw (made .0, made .1, c .before .before .match .keys1) (ap (λ b. some (truth b)) (c .before .meet .ensures s)), rw (made .2 s) (omega arith))
-
-returns-2 : tie.Need-returns-2
-returns-2 c =
-    let made = c .truths-of2 .ensures in
-    λ s l. (rw (made .0, made .1, c .before .before .match .keys2) (ap (λ b. some (truth b)) (c .before .join .ensures s)), rw (made .2 s) (omega arith))
-
-returns-3 : tie.Need-returns-3
-returns-3 c =
-    let a = c .before .before .before .before .args in
-    let made = c .nothing .ensures in
-    λ s l. (rw (made .0) (sym (no-row (has (a .left .truths) s) (has (a .right .truths) s) (a .o) (c .before .match .rest .0 .1) (c .before .match .rest .1))), rw (made .1 s) (omega arith))
-
 pub of-truths-spec : {M : Type 1} → statement M
 of-truths-spec =
     tie.close
     (tie.spec (λ c κs. search needs) (λ c κs. search needs) (λ c κs. search needs) (λ c κs. search needs) (λ c κs. search needs)
-    returns returns-2 returns-3)
+    (λ c. let made = c .truths-of .ensures in
+        λ s l. (rw (made .0, made .1, c .before .before .match .keys1) (ap (λ b. some (truth b)) (c .before .meet .ensures s)), rw (made .2 s) (omega arith)))
+    (λ c. let made = c .truths-of2 .ensures in
+        λ s l. (rw (made .0, made .1, c .before .before .match .keys2) (ap (λ b. some (truth b)) (c .before .join .ensures s)), rw (made .2 s) (omega arith)))
+    (λ c. let a = c .before .before .before .before .args in
+        let made = c .nothing .ensures in
+        λ s l. (rw (made .0) (sym (no-row (has (a .left .truths) s) (has (a .right .truths) s) (a .o) (c .before .match .rest .0 .1) (c .before .match .rest .1))), rw (made .1 s) (omega arith))))

@@ -30,30 +30,22 @@ put x h n low = mul-le-mul {n₂ = capacity} {m₂ = capacity} (omega (arith, sm
 held : (c : tie.Start) → toZ w64 (ofZ w64 (c .args .value)) ≡ pos (valueBy (c .args .x) (c .args .s))
 held c = toZ-ofZ (c .fits .value) ∙ c .pre .2
 
-cast-result : tie.Need-cast-result
-cast-result c =
-    let x = c .args .x in
-    rw (held c) (tt, fits-below {n = capacity} tt (omega (arith, small x (c .pre .0), mod-lt (c .args .s / x .weight) (small x (c .pre .0) .sized))))
-
-wrapped-requires : tie.Need-wrapped-requires
-wrapped-requires c κs =
-    let a = c .before in
-    let known = small (a .args .x) (a .pre .0) in
-    (known .sized, known .short, rw (toZ-ofZ (a .fits .z)) (a .pre .3))
-
 added : (c : tie.After-struct-known2) → c .before .wrapped .result * c .before .before .before .args .x .weight ≤ capacity * capacity
 added c =
     let a = c .before .before .before in
     put (a .args .x) (a .pre .0) _
     (rw (c .before .wrapped .ensures) (remainder-below (toZ w64 (ofZ w64 (a .args .z))) _ (small (a .args .x) (a .pre .0) .sized)))
 
-returns : tie.Need-returns
-returns c = let a = c .before .before .before in rw (held a, c .before .wrapped .ensures, toZ-ofZ (a .fits .z))
-
 pub store-spec : {M : Type 1} → statement M
 store-spec =
     tie.close
-    (tie.spec cast-result
+    (tie.spec
+    (λ c. let x = c .args .x in
+        rw (held c) (tt, fits-below {n = capacity} tt (omega (arith, small x (c .pre .0), mod-lt (c .args .s / x .weight) (small x (c .pre .0) .sized)))))
     (λ c. rw (held (c .before)) (omega (arith, taken (c .before .args .x) (c .before .args .s))))
-    (λ c. rw (held (c .before)) (taken (c .before .args .x) (c .before .args .s))) wrapped-requires
-    (λ c. omega (arith, added c)) (λ c. omega (arith, added c)) returns)
+    (λ c. rw (held (c .before)) (taken (c .before .args .x) (c .before .args .s)))
+    (λ c κs. let a = c .before in
+        let known = small (a .args .x) (a .pre .0) in
+        (known .sized, known .short, rw (toZ-ofZ (a .fits .z)) (a .pre .3)))
+    (λ c. omega (arith, added c)) (λ c. omega (arith, added c))
+    (λ c. let a = c .before .before .before in rw (held a, c .before .wrapped .ensures, toZ-ofZ (a .fits .z))))

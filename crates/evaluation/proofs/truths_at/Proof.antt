@@ -1,7 +1,6 @@
 -- A row of truth values says where the test is true; at the rest of the N states it is false. Any other row has no truth value at
 -- any state.
-use Prim.Native.Nat.{ℕ, zero, suc, _<_}
-use native.Mathlib.Decide.{decLt}
+use Prim.Native.Nat.{ℕ, zero, suc}
 use native.Mathlib.Omega.{arith}
 use mathlib.Core.Bool.{Bool, true, false, not, _&&_, and-false}
 use mathlib.Core.List.{List, [], _∷_}
@@ -21,6 +20,7 @@ use Rattle.handler.specs.Header.{machineIn}
 use Rattle.evaluation.specs.declared.Values.{Values}
 use Rattle.handler.specs.Terms.{exprIn}
 use Rattle.evaluation.specs.Refinement.{truthsKind, integerIn, valueIn, Evaluated}
+use Rattle.evaluation.proofs.Sizes.{split}
 use Rattle.evaluation.proofs.Laws.{states-most}
 use Rattle.evaluation.proofs.truths_at.Statement.{statement}
 use Rattle.evaluation.proofs.truths_at.Tie as tie
@@ -42,11 +42,10 @@ module _ (head : Head) (table : List ℕ) (expr : ℕ) (row : Values) (known : E
   tested : (wanted : Bool) (s n : ℕ) (b : Bool) → n ≡ machineIn head .states → b ≡ isTruth wanted (valueIn row s)
       → (ltb s capacity && ltb s n && b) ≡ test wanted s
   unfolding test
-  tested wanted s n b all is = by (decLt s n)
-    where
-      by : Dec (s < n) → (ltb s capacity && ltb s n && b) ≡ test wanted s
-      by (yes l) = rw (← all, lt-ltb s n l, lt-ltb s capacity (omega (arith, states-most head))) (is ∙ ap (isTruth wanted) (known .each s (rw (← all) l)))
-      by (no l) = rw (← all, le-ltb s n (omega arith), and-false (ltb s capacity))
+  tested wanted s n b all is =
+      split s n
+      (λ l. rw (← all, lt-ltb s n l, lt-ltb s capacity (omega (arith, states-most head))) (is ∙ ap (isTruth wanted) (known .each s (rw (← all) l))))
+      (λ l. rw (← all, le-ltb s n l, and-false (ltb s capacity)))
 
   none-true : (row .kind ≡ truthsKind → ⊥) → (wanted : Bool) (s : ℕ) → false ≡ test wanted s
   none-true other wanted s =
@@ -59,25 +58,18 @@ module _ (head : Head) (table : List ℕ) (expr : ℕ) (row : Values) (known : E
   failed : row .kind ≡ truthsKind → (s n : ℕ) → n ≡ machineIn head .states → (ltb s capacity && ltb s n && not (has (row .truths) s)) ≡ test false s
   failed is s n all = tested false s n (not (has (row .truths) s)) all (rw is (not-as (has (row .truths) s)))
 
-returns : tie.Need-returns
-unfolding isTrue isFalse test
-returns c =
-    let none = none-true _ _ _ _ (c .before .before .before .values-at .ensures) (c .before .if1 .taken) in
-    (λ s. c .empty .ensures s ∙ none true s, λ s. c .empty .ensures s ∙ none false s)
-
-returns-2 : tie.Need-returns-2
-unfolding isTrue isFalse test
-returns-2 c =
-    let l = c .before .before .before in
-    let k = l .before .before in
-    let known = k .before .before .values-at in
-    let all = l .before .states-in .ensures in (
-      λ s. rw (c .before .meet .ensures s, l .below .ensures s) (held _ _ _ _ (known .ensures) (k .if1 .left) s _ all),
-      λ s. rw (c .narrow .ensures s, l .below .ensures s) (failed _ _ _ _ (known .ensures) (k .if1 .left) s _ all),
-    )
-
 pub truths-at-spec : {M : Type 1} → statement M
+unfolding isTrue isFalse test
 truths-at-spec =
     tie.close
-    (tie.spec (λ c κs. search needs) (λ c κs. search needs) returns (λ c κs. search needs) (λ c κs. search needs) (λ c κs. search needs)
-    (λ c κs. search needs) returns-2)
+    (tie.spec (λ c κs. search needs) (λ c κs. search needs)
+    (λ c. let none = none-true _ _ _ _ (c .before .before .before .values-at .ensures) (c .before .if1 .taken) in
+        (λ s. c .empty .ensures s ∙ none true s, λ s. c .empty .ensures s ∙ none false s))
+    (λ c κs. search needs) (λ c κs. search needs) (λ c κs. search needs) (λ c κs. search needs)
+    (λ c. let l = c .before .before .before in
+        let k = l .before .before in
+        let known = k .before .before .values-at in
+        let all = l .before .states-in .ensures in (
+          λ s. rw (c .before .meet .ensures s, l .below .ensures s) (held _ _ _ _ (known .ensures) (k .if1 .left) s _ all),
+          λ s. rw (c .narrow .ensures s, l .below .ensures s) (failed _ _ _ _ (known .ensures) (k .if1 .left) s _ all),
+        )))

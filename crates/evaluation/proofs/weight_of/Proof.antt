@@ -17,12 +17,6 @@ Inv-loop head v p₀ later₀ p later = (v < later) × (later ≤ head .count) �
 abbrev μ-loop : tie.MeasureT-loop
 μ-loop head v p₀ later₀ p later = later
 
-returns : tie.Need-returns Inv-loop μ-loop
-returns c = let a = c .before .before .args in sym (none-later (a .head) (suc (a .v)) (omega arith))
-
-loop-holds : tie.Need-loop-holds Inv-loop μ-loop
-loop-holds c = let head = c .before .before .args .head in (omega arith, omega arith, sym (none-later head (head .count) (omega arith)))
-
 one-more : (c : tie.After-size-of Inv-loop μ-loop) → let a = c .before .before .before .before .before .args in let l = c .before .before .loop in
     l .product * c .size-of .result ≡ product (drop (l .later - 1) (sizesIn (a .head)))
 one-more c =
@@ -31,17 +25,15 @@ one-more c =
     let last : l .later ≡ suc (l .later - 1) = omega arith in
     ap₂ _*_ (rw last at (l .inv .2)) (c .size-of .ensures) ∙ product-before (sizesIn (a .head)) (l .later - 1)
 
-mul-product : tie.Need-mul-product Inv-loop μ-loop
-mul-product c =
-    let a = c .before .before .before .before .before .args in
-    let known = known-head (a .head) (c .before .before .before .before .before .pre) in
-    omega (arith, one-more c, known, later-sizes (sizesIn (a .head)) (c .before .before .loop .later - 1) (known .least))
-
-returns-2 : tie.Need-returns-2 Inv-loop μ-loop
-returns-2 c = let done : c .before .loop .later ≡ suc (c .before .before .before .before .args .v) = omega arith in rw done at (c .before .loop .inv .2)
-
 pub weight-of-spec : {M : Type 1} → statement M
 weight-of-spec =
     tie.close
-    (tie.spec Inv-loop μ-loop returns loop-holds (λ c. search needs) (λ c. search needs) (λ c κs. search needs) mul-product
-    (λ c. search needs) (λ c. (omega arith, omega arith, one-more c)) returns-2)
+    (tie.spec Inv-loop μ-loop (λ c. let a = c .before .before .args in sym (none-later (a .head) (suc (a .v)) (omega arith)))
+    (λ c. let head = c .before .before .args .head in (omega arith, omega arith, sym (none-later head (head .count) (omega arith))))
+    (λ c. search needs) (λ c. search needs) (λ c κs. search needs)
+    (λ c. let a = c .before .before .before .before .before .args in
+        let known = known-head (a .head) (c .before .before .before .before .before .pre) in
+        omega (arith, one-more c, known, later-sizes (sizesIn (a .head)) (c .before .before .loop .later - 1) (known .least)))
+    (λ c. search needs) (λ c. (omega arith, omega arith, one-more c))
+    (λ c.
+        let done : c .before .loop .later ≡ suc (c .before .before .before .before .args .v) = omega arith in rw done at (c .before .loop .inv .2)))

@@ -41,15 +41,10 @@ add-lifted c = subst (SFits w64) (sym (computed c)) (record { sfits = omega (ari
 held : (c : tie.Start) → toZ w64 (ofZ w64 (toZ w64 (ofZ w64 (c .args .z)) +ℤ toZ w64 (valueBound * c .args .size))) ≡ pos (sum-of c .sum)
 held c = toZ-ofZ (add-lifted c) ∙ computed c
 
-cast-result : tie.Need-cast-result
-cast-result c = rw (held c) (tt, fits-below tt (sum-of c .small))
-
-returns : tie.Need-returns
-returns c = rw (held c) (remainder-lifted (c .args .z) (c .args .size) valueBound _ (c .pre .0) (sum-of c .is))
-
--- The remainder is below the size.
-cast-back : tie.Need-cast-result-2
-cast-back c = rw (held c) (omega (arith, c .pre .1, mod-lt (sum-of c .sum) (c .pre .0)))
-
 pub wrapped-spec : {M : Type 1} → statement M
-wrapped-spec = tie.close (tie.spec (λ c. search needs) (λ c. search needs) add-lifted cast-result (λ c. search needs) cast-back returns)
+wrapped-spec =
+    tie.close
+    (tie.spec (λ c. search needs) (λ c. search needs) add-lifted (λ c. rw (held c) (tt, fits-below tt (sum-of c .small))) (λ c. search needs)
+    -- The remainder is below the size.
+    (λ c. rw (held c) (omega (arith, c .pre .1, mod-lt (sum-of c .sum) (c .pre .0))))
+    (λ c. rw (held c) (remainder-lifted (c .args .z) (c .args .size) valueBound _ (c .pre .0) (sum-of c .is))))

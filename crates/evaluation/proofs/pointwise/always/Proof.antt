@@ -6,11 +6,8 @@ use Rattle.states.specs.Sets.{capacity}
 use Rattle.evaluation.proofs.pointwise.always.Statement.{statement}
 use Rattle.evaluation.proofs.pointwise.always.Tie as tie
 
-returns : tie.Need-returns
-returns c s l = rw (c .before .if1 .taken) (c .below .ensures s ∙ rw (lt-ltb s capacity l))
-
-returns-2 : tie.Need-returns-2
-returns-2 c s l = rw (c .before .if1 .left) (c .empty .ensures s)
-
 pub always-spec : {M : Type 1} → statement M
-always-spec = tie.close (tie.spec (λ c κs. search needs) (λ c κs. search needs) returns returns-2)
+always-spec =
+    tie.close
+    (tie.spec (λ c κs. search needs) (λ c κs. search needs) (λ c s l. rw (c .before .if1 .taken) (c .below .ensures s ∙ rw (lt-ltb s capacity l)))
+    (λ c s l. rw (c .before .if1 .left) (c .empty .ensures s)))

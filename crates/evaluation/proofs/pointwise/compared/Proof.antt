@@ -38,29 +38,23 @@ carried : (o : ℕ) (a b x y : ℤ) (r : Bool) → x ≡ a → y ≡ b → some 
     → r ≡ isTruth true (getD (ofIntegers a b) o none)
 carried o a b x y r p q h = ap (isTruth true) (h ∙ ap₂ (λ i j. getD (ofIntegers i j) o none) p q)
 
-loop-again : tie.Need-loop-again Inv-loop μ-loop
-loop-again c =
-    let k = c .before .before .before .before .before in
-    let args = k .before .before .args in
-    let a = getD (args .t3) (k .loop .s) (pos 0) in
-    let b = getD (args .t4) (k .loop .s) (pos 0) in (
-      omega arith,
-      holds-more (λ t. isTruth true (getD (ofIntegers (getD (args .t3) t (pos 0)) (getD (args .t4) t (pos 0))) (args .o) none)) _ _ _ _ (omega arith)
-          (carried (args .o) a b _ _ _ (toZ-ofZ {w = w64} {z = a} (sfits-of (c .before .before .before .compares-arg .given)))
-          (toZ-ofZ {w = w64} {z = b} (sfits-of (c .before .before .compares-arg2 .given))) (c .before .compares .ensures))
-          (c .with-state .ensures) (k .loop .inv .1),
-    )
-
-returns : tie.Need-returns Inv-loop μ-loop
-returns c s l =
-    let k = c .before .before .before in
-    let holds = rw (lt-ltb s (c .before .loop .s) (omega arith)) at (c .before .loop .inv .1 s) in
-    ap (λ b. some (truth b)) holds
-    ∙ is-truth (k .args .o) (getD (k .args .t3) s (pos 0)) (getD (k .args .t4) s (pos 0)) (k .pre .1) (k .pre .2)
-
 pub compared-spec : {M : Type 1} → statement M
 compared-spec =
     tie.close
     (tie.spec Inv-loop μ-loop (λ c κs. search needs) (λ c. (omega arith, holds-no-state _ _ (c .empty .ensures))) (λ c. search needs)
     (λ c. search needs) (λ c. search needs) (λ c. search needs) (λ c. search needs) (λ c. search needs) (λ c κs. search needs)
-    (λ c κs. search needs) (λ c. search needs) (λ c. search needs) loop-again returns)
+    (λ c κs. search needs) (λ c. search needs) (λ c. search needs)
+    (λ c. let k = c .before .before .before .before .before in
+        let args = k .before .before .args in
+        let a = getD (args .t3) (k .loop .s) (pos 0) in
+        let b = getD (args .t4) (k .loop .s) (pos 0) in (
+          omega arith,
+          holds-more (λ t. isTruth true (getD (ofIntegers (getD (args .t3) t (pos 0)) (getD (args .t4) t (pos 0))) (args .o) none)) _ _ _ _ (omega arith)
+              (carried (args .o) a b _ _ _ (toZ-ofZ {w = w64} {z = a} (sfits-of (c .before .before .before .compares-arg .given)))
+              (toZ-ofZ {w = w64} {z = b} (sfits-of (c .before .before .compares-arg2 .given))) (c .before .compares .ensures))
+              (c .with-state .ensures) (k .loop .inv .1),
+        ))
+    (λ c s l. let k = c .before .before .before in
+        let holds = rw (lt-ltb s (c .before .loop .s) (omega arith)) at (c .before .loop .inv .1 s) in
+        ap (λ b. some (truth b)) holds
+        ∙ is-truth (k .args .o) (getD (k .args .t3) s (pos 0)) (getD (k .args .t4) s (pos 0)) (k .pre .1) (k .pre .2)))

@@ -7,11 +7,10 @@ use borrow.Author.Needs.{needs}
 use Rattle.evaluation.proofs.pointwise.next_below.Statement.{statement}
 use Rattle.evaluation.proofs.pointwise.next_below.Tie as tie
 
-returns-2 : tie.Need-returns-2
-returns-2 c =
-    let a = c .before .args in
-    let last : a .x + 1 ≡ a .limit = omega arith in
-    rw last (sym (mod-self (a .limit)))
-
 pub next-below-spec : {M : Type 1} → statement M
-next-below-spec = tie.close (tie.spec (λ c. search needs) (λ c. search needs) (λ c. sym (mod-eq-of-lt (c .if1 .taken))) returns-2)
+next-below-spec =
+    tie.close
+    (tie.spec (λ c. search needs) (λ c. search needs) (λ c. sym (mod-eq-of-lt (c .if1 .taken)))
+    (λ c. let a = c .before .args in
+        let last : a .x + 1 ≡ a .limit = omega arith in
+        rw last (sym (mod-self (a .limit)))))

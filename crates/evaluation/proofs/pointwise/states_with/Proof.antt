@@ -20,31 +20,20 @@ abbrev μ-loop : tie.MeasureT-loop
 period : (c : tie.Start Inv-loop μ-loop) → let a = c .args in (0 < a .weight * a .size) × (a .weight * a .size ≤ capacity * capacity)
 period c = (mul-pos (c .pre .1) (omega arith), mul-le-mul {n₂ = capacity} {m₂ = capacity} (c .pre .2) (c .pre .3))
 
-mul-from : tie.Need-mul-from Inv-loop μ-loop
-mul-from c =
-    let a = c .before .args in
-    omega (arith, mul-le-mul {n₁ = a .value} {m₁ = a .weight} {n₂ = capacity} {m₂ = capacity} (omega arith) (omega arith))
-
-loop-holds : tie.Need-loop-holds Inv-loop μ-loop
-loop-holds c =
-    let p = c .before .pre in
-    (first-run _ _ _ (p .1) (p .4), no-run _ _ _ (p .1) (p .4) _ (c .empty .ensures))
-
-loop-again : tie.Need-loop-again Inv-loop μ-loop
-loop-again c =
-    let p = c .before .before .before .before .pre in
-    let run = c .before .before .loop .inv in
-    (next-run _ _ _ (p .1) (p .4) (run .0), one-run _ _ _ (p .1) (p .4) _ (run .0) _ _ (c .with-run .ensures) (run .1))
-
-returns : tie.Need-returns Inv-loop μ-loop
-returns c =
-    let k = c .before .before .before in
-    let p = k .before .before .pre in
-    all-runs _ _ _ (p .1) (p .4) _ _ (p .0) (omega arith) _ _ _ (k .loop .inv .1) (c .before .below .ensures) (c .meet .ensures)
-
 pub states-with-spec : {M : Type 1} → statement M
 states-with-spec =
     tie.close
-    (tie.spec Inv-loop μ-loop (λ c. omega (arith, period c)) (λ c κs. search needs) mul-from loop-holds (λ c. omega arith)
-    (λ c κs. search needs) (λ c. omega (arith, period (c .before .before .before .before)))
-    (λ c. omega (arith, period (c .before .before .before .before))) loop-again (λ c κs. search needs) (λ c κs. search needs) returns)
+    (tie.spec Inv-loop μ-loop (λ c. omega (arith, period c)) (λ c κs. search needs)
+    (λ c. let a = c .before .args in
+        omega (arith, mul-le-mul {n₁ = a .value} {m₁ = a .weight} {n₂ = capacity} {m₂ = capacity} (omega arith) (omega arith)))
+    (λ c. let p = c .before .pre in
+        (first-run _ _ _ (p .1) (p .4), no-run _ _ _ (p .1) (p .4) _ (c .empty .ensures)))
+    (λ c. omega arith) (λ c κs. search needs) (λ c. omega (arith, period (c .before .before .before .before)))
+    (λ c. omega (arith, period (c .before .before .before .before)))
+    (λ c. let p = c .before .before .before .before .pre in
+        let run = c .before .before .loop .inv in
+        (next-run _ _ _ (p .1) (p .4) (run .0), one-run _ _ _ (p .1) (p .4) _ (run .0) _ _ (c .with-run .ensures) (run .1)))
+    (λ c κs. search needs) (λ c κs. search needs)
+    (λ c. let k = c .before .before .before in
+        let p = k .before .before .pre in
+        all-runs _ _ _ (p .1) (p .4) _ _ (p .0) (omega arith) _ _ _ (k .loop .inv .1) (c .before .below .ensures) (c .meet .ensures)))

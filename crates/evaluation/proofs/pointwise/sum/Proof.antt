@@ -18,28 +18,18 @@ sum-fits a b small = record { sfits = omega (arith, mag-add a b) }
 difference-fits : (a b : ℤ) → mag a + mag b < valueBound → SFits w64 (a -ℤ b)
 difference-fits a b small = record { sfits = omega (arith, mag-minus a b) }
 
-add-result : tie.Need-add-result
-add-result c =
-    let a = c .before .args in
-    rw (toZ-ofZ (c .before .fits .a), toZ-ofZ (c .before .fits .b)) (sum-fits (a .a) (a .b) (c .before .pre .1))
-
-sub-result : tie.Need-sub-result
-sub-result c =
-    let a = c .before .args in
-    rw (toZ-ofZ (c .before .fits .a), toZ-ofZ (c .before .fits .b)) (difference-fits (a .a) (a .b) (c .before .pre .1))
-
-returns : tie.Need-returns
-returns c =
-    let a = c .before .args in
-    rw (toZ-ofZ (c .before .fits .a), toZ-ofZ (c .before .fits .b), toZ-ofZ (sum-fits (a .a) (a .b) (c .before .pre .1)), c .if1 .taken)
-    (refl, mag-add (a .a) (a .b))
-
-returns-2 : tie.Need-returns-2
-returns-2 c =
-    let a = c .before .args in
-    let one : a .o ≡ 1 = omega arith in
-    rw (toZ-ofZ (c .before .fits .a), toZ-ofZ (c .before .fits .b), toZ-ofZ (difference-fits (a .a) (a .b) (c .before .pre .1)), one)
-    (refl, mag-minus (a .a) (a .b))
-
 pub sum-spec : {M : Type 1} → statement M
-sum-spec = tie.close (tie.spec add-result sub-result returns returns-2)
+sum-spec =
+    tie.close
+    (tie.spec
+    (λ c. let a = c .before .args in
+        rw (toZ-ofZ (c .before .fits .a), toZ-ofZ (c .before .fits .b)) (sum-fits (a .a) (a .b) (c .before .pre .1)))
+    (λ c. let a = c .before .args in
+        rw (toZ-ofZ (c .before .fits .a), toZ-ofZ (c .before .fits .b)) (difference-fits (a .a) (a .b) (c .before .pre .1)))
+    (λ c. let a = c .before .args in
+        rw (toZ-ofZ (c .before .fits .a), toZ-ofZ (c .before .fits .b), toZ-ofZ (sum-fits (a .a) (a .b) (c .before .pre .1)), c .if1 .taken)
+        (refl, mag-add (a .a) (a .b)))
+    (λ c. let a = c .before .args in
+        let one : a .o ≡ 1 = omega arith in
+        rw (toZ-ofZ (c .before .fits .a), toZ-ofZ (c .before .fits .b), toZ-ofZ (difference-fits (a .a) (a .b) (c .before .pre .1)), one)
+        (refl, mag-minus (a .a) (a .b))))

@@ -27,38 +27,30 @@ Inv-loop n o left right row₀ s₀ row s = (s ≤ n) × Cells (pos 0) (Sum o le
 abbrev μ-loop : tie.MeasureT-loop
 μ-loop n o left right row₀ s₀ row s = n - s
 
-sum-requires : tie.Need-sum-requires Inv-loop μ-loop
-sum-requires c κs =
-    let k = c .before .before .before in
-    let a = getD (k .before .args .t3) (k .loop .s) (pos 0) in
-    let b = getD (k .before .args .t4) (k .loop .s) (pos 0) in
-    rw (toZ-ofZ {w = w64} {z = a} (sfits-of (c .before .sum-arg .given)), toZ-ofZ {w = w64} {z = b} (sfits-of (c .sum-arg2 .given)))
-    (k .before .pre .1, k .before .pre .2 (k .loop .s) (omega arith))
-
 -- x, y and z are a, b and r as the code holds them.
 carried : (o : ℕ) (a b r x y z : ℤ) → x ≡ a → y ≡ b → z ≡ r → (some (int r) ≡ getD (ofIntegers x y) o none) × (mag r ≤ mag x + mag y + 1)
     → (some (int z) ≡ getD (ofIntegers a b) o none) × (mag z ≤ mag a + mag b + 1)
 carried o a b r x y z p q e h = rw e (h .0 ∙ ap₂ (λ i j. getD (ofIntegers i j) o none) p q, rw (p, q) at (h .1))
 
-loop-again : tie.Need-loop-again Inv-loop μ-loop
-loop-again c =
-    let k = c .before .before .before .before in
-    let args = k .before .args in
-    let a = getD (args .t3) (k .loop .s) (pos 0) in
-    let b = getD (args .t4) (k .loop .s) (pos 0) in (
-      omega arith,
-      cells-more (pos 0) (Sum (args .o) (args .t3) (args .t4)) _ _ _ (omega arith)
-          (carried (args .o) a b (c .sum .result) _ _ _ (toZ-ofZ {w = w64} {z = a} (sfits-of (c .before .before .sum-arg .given)))
-          (toZ-ofZ {w = w64} {z = b} (sfits-of (c .before .sum-arg2 .given))) (toZ-ofZ {w = w64} {z = c .sum .result} (sfits-of (c .sum .ok))) (c .sum .ensures))
-          (k .loop .inv .1),
-    )
-
-returns : tie.Need-returns Inv-loop μ-loop
-returns c s l = c .before .loop .inv .1 .hold s (omega arith)
-
 pub sum-row-spec : {M : Type 1} → statement M
 sum-row-spec =
     tie.close
     (tie.spec Inv-loop μ-loop (λ c. (omega arith, cells-none (pos 0) _)) (λ c. search needs) (λ c. search needs) (λ c. search needs)
-    (λ c. search needs) (λ c. search needs) (λ c. search needs) sum-requires (λ c. search needs) (λ c. search needs)
-    (λ c. search needs) (λ c. search needs) (λ c. search needs) loop-again returns)
+    (λ c. search needs) (λ c. search needs) (λ c. search needs)
+    (λ c κs. let k = c .before .before .before in
+        let a = getD (k .before .args .t3) (k .loop .s) (pos 0) in
+        let b = getD (k .before .args .t4) (k .loop .s) (pos 0) in
+        rw (toZ-ofZ {w = w64} {z = a} (sfits-of (c .before .sum-arg .given)), toZ-ofZ {w = w64} {z = b} (sfits-of (c .sum-arg2 .given)))
+        (k .before .pre .1, k .before .pre .2 (k .loop .s) (omega arith)))
+    (λ c. search needs) (λ c. search needs) (λ c. search needs) (λ c. search needs) (λ c. search needs)
+    (λ c. let k = c .before .before .before .before in
+        let args = k .before .args in
+        let a = getD (args .t3) (k .loop .s) (pos 0) in
+        let b = getD (args .t4) (k .loop .s) (pos 0) in (
+          omega arith,
+          cells-more (pos 0) (Sum (args .o) (args .t3) (args .t4)) _ _ _ (omega arith)
+              (carried (args .o) a b (c .sum .result) _ _ _ (toZ-ofZ {w = w64} {z = a} (sfits-of (c .before .before .sum-arg .given)))
+              (toZ-ofZ {w = w64} {z = b} (sfits-of (c .before .sum-arg2 .given))) (toZ-ofZ {w = w64} {z = c .sum .result} (sfits-of (c .sum .ok))) (c .sum .ensures))
+              (k .loop .inv .1),
+        ))
+    (λ c s l. c .before .loop .inv .1 .hold s (omega arith)))

@@ -25,9 +25,6 @@ Inv-loop n weight size row₀ place₀ value₀ s₀ row place value s =
 abbrev μ-loop : tie.MeasureT-loop
 μ-loop n weight size row₀ place₀ value₀ s₀ row place value s = n - s
 
-loop-holds : tie.Need-loop-holds Inv-loop μ-loop
-loop-holds c = (omega arith, sym (zero-mod _), rw (zero-div (c .args .weight)) (sym (zero-mod _)), cells-none (pos 0) _)
-
 -- The value at a state is at most the state's number.
 value-fits : (c : tie.In-loop Inv-loop μ-loop) → SFits w64 (pos (c .before .loop .value))
 value-fits c =
@@ -35,33 +32,24 @@ value-fits c =
     let s = c .before .loop .s in
     record { sfits = omega (arith, mod-le (s / a .weight) (a .size), div-le-self s (a .weight)) }
 
-next-below-requires : tie.Need-next-below-requires Inv-loop μ-loop
-next-below-requires c κs = omega (arith, mod-lt (c .before .loop .s) (c .before .before .pre .1))
-
-next-value-requires : tie.Need-next-value-requires Inv-loop μ-loop
-next-value-requires c κs =
-    let k = c .before .before in
-    omega (arith, mod-lt (k .loop .s / k .before .args .weight) (k .before .pre .2))
-
-loop-again : tie.Need-loop-again Inv-loop μ-loop
-loop-again c =
-    let k = c .before .before .before in
-    let a = k .before .args in
-    let now = k .loop .inv in
-    let place = c .before .next-below .ensures ∙ ap (λ p. (p + 1) % a .weight) (now .1) ∙ mod-add-mod (k .loop .s) (a .weight) 1 in (
-      omega arith,
-      place,
-      c .next-value .ensures ∙ ap₂ (λ p v. cond (eqb p 0) ((v + 1) % a .size) v) place (now .2)
-          ∙ value-on (k .loop .s) (a .weight) (a .size) (k .before .pre .1),
-      cells-more (pos 0) (Value (a .weight) (a .size)) _ _ _ (omega arith) (toZ-ofZ (value-fits (c .before .before)) ∙ ap pos (now .2))
-          (now .3),
-    )
-
-returns : tie.Need-returns Inv-loop μ-loop
-returns c s l = c .before .loop .inv .3 .hold s (omega arith)
-
 pub variable-row-spec : {M : Type 1} → statement M
 variable-row-spec =
     tie.close
-    (tie.spec Inv-loop μ-loop loop-holds value-fits (λ c. search needs) (λ c. search needs) (λ c. search needs)
-    next-below-requires next-value-requires (λ c. search needs) (λ c. search needs) loop-again returns)
+    (tie.spec Inv-loop μ-loop (λ c. (omega arith, sym (zero-mod _), rw (zero-div (c .args .weight)) (sym (zero-mod _)), cells-none (pos 0) _))
+    value-fits (λ c. search needs) (λ c. search needs) (λ c. search needs)
+    (λ c κs. omega (arith, mod-lt (c .before .loop .s) (c .before .before .pre .1)))
+    (λ c κs. let k = c .before .before in
+        omega (arith, mod-lt (k .loop .s / k .before .args .weight) (k .before .pre .2)))
+    (λ c. search needs) (λ c. search needs)
+    (λ c. let k = c .before .before .before in
+        let a = k .before .args in
+        let now = k .loop .inv in
+        let place = c .before .next-below .ensures ∙ ap (λ p. (p + 1) % a .weight) (now .1) ∙ mod-add-mod (k .loop .s) (a .weight) 1 in (
+          omega arith,
+          place,
+          c .next-value .ensures ∙ ap₂ (λ p v. cond (eqb p 0) ((v + 1) % a .size) v) place (now .2)
+              ∙ value-on (k .loop .s) (a .weight) (a .size) (k .before .pre .1),
+          cells-more (pos 0) (Value (a .weight) (a .size)) _ _ _ (omega arith) (toZ-ofZ (value-fits (c .before .before)) ∙ ap pos (now .2))
+              (now .3),
+        ))
+    (λ c s l. c .before .loop .inv .3 .hold s (omega arith)))

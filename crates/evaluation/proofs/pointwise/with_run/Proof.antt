@@ -12,15 +12,13 @@ shared : (a b c : Bool) → (a && b && not (a && c)) ≡ (a && (b && not c))
 shared true b c = refl
 shared false b c = refl
 
-returns : tie.Need-returns
-returns c t =
-    let k = c .before .before in
-    let a = k .before .before .args in
-    c .join .ensures t
-    ∙ ap (λ b. has (a .found) t || b)
-    (c .before .narrow .ensures t
-    ∙ rw (k .before .below .ensures t, k .below2 .ensures t) (shared (ltb t capacity) (ltb t (a .end)) (ltb t (a .from))))
-
 pub with-run-spec : {M : Type 1} → statement M
 with-run-spec =
-    tie.close (tie.spec (λ c κs. search needs) (λ c κs. search needs) (λ c κs. search needs) (λ c κs. search needs) returns)
+    tie.close
+    (tie.spec (λ c κs. search needs) (λ c κs. search needs) (λ c κs. search needs) (λ c κs. search needs)
+    (λ c t. let k = c .before .before in
+        let a = k .before .before .args in
+        c .join .ensures t
+        ∙ ap (λ b. has (a .found) t || b)
+        (c .before .narrow .ensures t
+        ∙ rw (k .before .below .ensures t, k .below2 .ensures t) (shared (ltb t capacity) (ltb t (a .end)) (ltb t (a .from))))))

@@ -6,13 +6,11 @@ use Rattle.states.specs.Sets.{has}
 use Rattle.evaluation.proofs.pointwise.with_state.Statement.{statement}
 use Rattle.evaluation.proofs.pointwise.with_state.Tie as tie
 
-returns : tie.Need-returns
-returns c t =
-    rw (c .before .before .if1 .taken)
-    (c .join .ensures t ∙ ap (λ b. has (c .before .before .before .args .found) t || b) (c .before .single .ensures t))
-
-returns-2 : tie.Need-returns-2
-returns-2 c t = rw (c .if1 .left) (sym (or-false _))
-
 pub with-state-spec : {M : Type 1} → statement M
-with-state-spec = tie.close (tie.spec (λ c κs. search needs) (λ c κs. search needs) returns returns-2)
+with-state-spec =
+    tie.close
+    (tie.spec (λ c κs. search needs) (λ c κs. search needs)
+    (λ c t.
+        rw (c .before .before .if1 .taken)
+        (c .join .ensures t ∙ ap (λ b. has (c .before .before .before .args .found) t || b) (c .before .single .ensures t)))
+    (λ c t. rw (c .if1 .left) (sym (or-false _))))

@@ -122,85 +122,54 @@ small-right t c = shape-small _ _ _ _ _ _ _ (right-is t c)
 base-small : (t : ℕ) (c : LeftRead t) → start t (head-of t (operation-of t (row-of-left t c))) .args .base < 1954
 base-small t c = omega (arith, start t (head-of t (operation-of t (row-of-left t c))) .pre)
 
-leaf-requires : (t : ℕ) → lts.Need-leaf-term-requires (callees t) (now-at t) expr-walk.Post
-leaf-requires t c κs = head-fits _ _ _ _ _ (sym (c .before .before .expr-head-at .ensures))
-
-right-requires : (t : ℕ) → lts.Need-expr-walk-requires-2 (callees t) (now-at t) expr-walk.Post
-right-requires t c κs =
-    let l = c .before .before .before .before .before .before in
-    let h = head-of t (operation-of t (row-of-left t l)) in
-    omega (arith, more t h, start t h .pre, small-left t l)
-
-returns : (t : ℕ) → lts.Need-returns (callees t) (now-at t) expr-walk.Post
-unfolding exprAt exprShape
-returns t c = (rw (c .if1 .taken), rw (c .if1 .taken) tt)
-
-leaf-returns : (t : ℕ) → lts.Need-returns-2 (callees t) (now-at t) expr-walk.Post
-leaf-returns t c =
-    let k = c .before .before .before .before .before .before in
-    let h = k .before in
-    let head = sym (h .expr-head-at .ensures) in (
-      rw (expr-step _ _ _ _ _ (h .expr-head-at .result) (more t h) head, childless (h .expr-head-at .result) (k .match .keys2) _ _ (λ _ place. bad 14 place)) (c .leaf-of .ensures),
-      leaf-filled _ _ _ _ _ _ (more t h) _ head (k .match .keys2) _ _
-          (rw (c .before .before .before .before .leaf-term .ensures .0) at (c .before .before .before .store-term .ensures)),
-    )
-
-row-returns : (t : ℕ) → lts.Need-returns-3 (callees t) (now-at t) expr-walk.Post
-row-returns t c =
-    let k = c .before .before .before in
-    absurd (row-used _ (room t k .1) (sym (c .before .before .row-of .ensures) ∙ c .enum-told .given .1))
-
-left-returns : (t : ℕ) → lts.Need-returns-4 (callees t) (now-at t) expr-walk.Post
-left-returns t c =
-    let b = c .before .before .before .before .before .before in
-    let a = operation-of t b in
-    let e = left-operand-fault _ _ _ _ _ _ _ (more t (head-of t a)) (head-is t a) _ _ _ _ (row-is t b) _ _
-    (sym (c .before .before .before .before .expr-walk .ensures .0) ∙ c .enum-told2 .given .1) in
-    (c .enum-told2 .given .1 ∙ e, expr-fault-filled _ _ _ _ _ _ (more t (head-of t a)) _ _ _ _ _ e)
-
-right-returns : (t : ℕ) → lts.Need-returns-5 (callees t) (now-at t) expr-walk.Post
-right-returns t c =
-    let l = c .before .before .before .before .before .before .before .before .before .before .before in
-    let b = row-of-left t l in
-    let a = operation-of t b in
-    let e = right-operand-fault _ _ _ _ _ _ _ (more t (head-of t a)) (head-is t a) _ _ _ _ (row-is t b) _ (left-is t l) _ _
-    (sym (c .before .before .before .before .expr-walk2 .ensures .0) ∙ c .enum-told3 .given .1) in
-    (c .enum-told3 .given .1 ∙ e, expr-fault-filled _ _ _ _ _ _ (more t (head-of t a)) _ _ _ _ _ e)
-
-op-returns : (t : ℕ) → lts.Need-returns-6 (callees t) (now-at t) expr-walk.Post
-op-returns t c =
-    let r = c .before .before .before .before in
-    let l = left-of t r in
-    let b = row-of-left t l in
-    let a = operation-of t b in
-    let left = shaped _ _ _ _ (left-is t l) in (
-      rw (c .before .before .wanted-of .ensures, c .before .before .before .earlier-of .ensures)
-          (op-shape _ _ _ _ _ _ _ (more t (head-of t a)) (head-is t a) _ _ _ _ (row-is t b) _ (left-is t l) _ (right-is t r)),
-      operation-filled _ _ _ _ _ _ (more t (head-of t a)) _ _ (head-is t a) (left .tree) _ _ (left .was) _ _ _ _
-          (l .before .before .before .before .before .expr-walk .ensures .1) (r .before .before .before .before .before .before .before .before .before .store-term2 .ensures) (r .before .before .before .before .before .expr-walk2 .ensures .1),
-    )
-
 pub +expr-walk-spec : {M : Type 1} → statement M
+unfolding exprAt exprShape
 +expr-walk-spec = close μ-expr-walk λ t. lts.spec (callees t) (now-at t) expr-walk.Post
-    (returns t)
-    (λ c κs. search needs) (λ c. search needs) (λ c. search needs)
-    (leaf-requires t)
-    (λ c κs. c .leaf-term .ensures .1) (λ c κs. search needs) (λ c. search needs)
-    (leaf-returns t)
+    (λ c. (rw (c .if1 .taken), rw (c .if1 .taken) tt)) (λ c κs. search needs) (λ c. search needs) (λ c. search needs)
+    (λ c κs. head-fits _ _ _ _ _ (sym (c .before .before .expr-head-at .ensures))) (λ c κs. c .leaf-term .ensures .1) (λ c κs. search needs)
+    (λ c. search needs)
+    (λ c. let k = c .before .before .before .before .before .before in
+        let h = k .before in
+        let head = sym (h .expr-head-at .ensures) in (
+          rw (expr-step _ _ _ _ _ (h .expr-head-at .result) (more t h) head, childless (h .expr-head-at .result) (k .match .keys2) _ _ (λ _ place. bad 14 place)) (c .leaf-of .ensures),
+          leaf-filled _ _ _ _ _ _ (more t h) _ head (k .match .keys2) _ _
+              (rw (c .before .before .before .before .leaf-term .ensures .0) at (c .before .before .before .store-term .ensures)),
+        ))
     (λ c. search needs) (λ c κs. search needs) (λ c. search needs) (λ c. search needs)
-    (row-returns t)
+    (λ c. let k = c .before .before .before in
+        absurd (row-used _ (room t k .1) (sym (c .before .before .row-of .ensures) ∙ c .enum-told .given .1)))
     (λ c. search needs) (λ c. search needs)
     (λ c κs. (search needs, omega (arith, room t (operation-of t (c .before)), start t (head-of t (operation-of t (c .before))) .pre)))
     (λ c. search needs) (λ c. search needs) (λ c. search needs)
-    (left-returns t)
+    (λ c. let b = c .before .before .before .before .before .before in
+        let a = operation-of t b in
+        let e = left-operand-fault _ _ _ _ _ _ _ (more t (head-of t a)) (head-is t a) _ _ _ _ (row-is t b) _ _
+        (sym (c .before .before .before .before .expr-walk .ensures .0) ∙ c .enum-told2 .given .1) in
+        (c .enum-told2 .given .1 ∙ e, expr-fault-filled _ _ _ _ _ _ (more t (head-of t a)) _ _ _ _ _ e))
     (λ c. omega (arith, small-left t (c .before), base-small t (c .before)))
     (λ c. omega (arith, room t (operation-of t (row-of-left t (c .before .before))), base-small t (c .before .before)))
     (λ c κs. record { tag = omega arith; value = omega (arith, room t (operation-of t (row-of-left t (c .before .before)))); right = omega (arith, small-left t (c .before .before), base-small t (c .before .before)) })
-    (right-requires t)
+    (λ c κs. let l = c .before .before .before .before .before .before in
+        let h = head-of t (operation-of t (row-of-left t l)) in
+        omega (arith, more t h, start t h .pre, small-left t l))
     (λ c. search needs) (λ c. search needs) (λ c. search needs)
-    (right-returns t)
+    (λ c. let l = c .before .before .before .before .before .before .before .before .before .before .before in
+        let b = row-of-left t l in
+        let a = operation-of t b in
+        let e = right-operand-fault _ _ _ _ _ _ _ (more t (head-of t a)) (head-is t a) _ _ _ _ (row-is t b) _ (left-is t l) _ _
+        (sym (c .before .before .before .before .expr-walk2 .ensures .0) ∙ c .enum-told3 .given .1) in
+        (c .enum-told3 .given .1 ∙ e, expr-fault-filled _ _ _ _ _ _ (more t (head-of t a)) _ _ _ _ _ e))
     (λ c κs. search needs) (λ c κs. search needs)
     (λ c. omega (arith, small-left t (left-of t (c .before .before .before .before)), small-right t (c .before .before .before .before)))
     (λ c. omega (arith, small-left t (left-of t (c .before .before .before .before)), small-right t (c .before .before .before .before)))
     (λ c. let r = c .before .before .before .before in omega (arith, r .before .before .before .before .table4 .given, r .before .before .before .before .before .before .before .before .table3 .given, left-of t r .before .before .before .before .table2 .given))
-    (op-returns t)
+    (λ c. let r = c .before .before .before .before in
+        let l = left-of t r in
+        let b = row-of-left t l in
+        let a = operation-of t b in
+        let left = shaped _ _ _ _ (left-is t l) in (
+          rw (c .before .before .wanted-of .ensures, c .before .before .before .earlier-of .ensures)
+              (op-shape _ _ _ _ _ _ _ (more t (head-of t a)) (head-is t a) _ _ _ _ (row-is t b) _ (left-is t l) _ (right-is t r)),
+          operation-filled _ _ _ _ _ _ (more t (head-of t a)) _ _ (head-is t a) (left .tree) _ _ (left .was) _ _ _ _
+              (l .before .before .before .before .before .expr-walk .ensures .1) (r .before .before .before .before .before .before .before .before .before .store-term2 .ensures) (r .before .before .before .before .before .expr-walk2 .ensures .1),
+        ))

@@ -37,11 +37,5 @@ add-result c = subst (SFits w64) (sym (computed c)) (record { sfits = omega (ari
 held : (c : tie.Start) → toZ w64 (ofZ w64 (toZ w64 (ofZ w64 (c .args .z)) +ℤ toZ w64 65536)) ≡ pos (sum-of c .sum)
 held c = toZ-ofZ (add-result c) ∙ computed c
 
-cast-result : tie.Need-cast-result
-cast-result c = rw (held c) (tt, fits-below tt (sum-of c .small))
-
-returns : tie.Need-returns
-returns c = rw (held c) (sum-of c .back)
-
 pub bits-of-spec : {M : Type 1} → statement M
-bits-of-spec = tie.close (tie.spec add-result cast-result returns)
+bits-of-spec = tie.close (tie.spec add-result (λ c. rw (held c) (tt, fits-below tt (sum-of c .small))) (λ c. rw (held c) (sum-of c .back)))

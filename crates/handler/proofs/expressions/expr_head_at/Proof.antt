@@ -5,32 +5,20 @@ use Rattle.handler.specs.Expressions.{tagHead, exprHead}
 use Rattle.handler.proofs.expressions.expr_head_at.Statement.{statement}
 use Rattle.handler.proofs.expressions.expr_head_at.Tie as tie
 
-returns : tie.Need-returns
-unfolding exprHead tagHead
-returns c = rw (← c .before .before .before .read .ensures, c .before .enum-told .given .1, c .bit-length .ensures)
-
-returns-2 : tie.Need-returns-2
-unfolding exprHead tagHead
-returns-2 c =
-    rw
-    (← c .before .before .before .before .read .ensures, c .before .before .tag .given .1, le-leb _ _ (c .if1 .taken))
-
-returns-3 : tie.Need-returns-3
-unfolding exprHead tagHead
-returns-3 c =
-    rw (
-      ← c .before .before .before .before .before .read .ensures,
-      c .before .before .before .tag .given .1,
-      lt-leb _ _ (c .before .if1 .left),
-    )
-    (c .payload-at .ensures)
-
 pub expr-head-at-spec : {M : Type 1} → statement M
+unfolding exprHead tagHead
 expr-head-at-spec =
     tie.close
-    (tie.spec
-    (λ c κs. search needs) (λ c. search needs) (λ c. search needs) (λ c κs. search needs)
-    returns
-    returns-2
+    (tie.spec (λ c κs. search needs) (λ c. search needs) (λ c. search needs) (λ c κs. search needs)
+    (λ c. rw (← c .before .before .before .read .ensures, c .before .enum-told .given .1, c .bit-length .ensures))
+    (λ c.
+        rw
+        (← c .before .before .before .before .read .ensures, c .before .before .tag .given .1, le-leb _ _ (c .if1 .taken)))
     (λ c κs. search needs)
-    returns-3)
+    (λ c.
+        rw (
+          ← c .before .before .before .before .before .read .ensures,
+          c .before .before .before .tag .given .1,
+          lt-leb _ _ (c .before .if1 .left),
+        )
+        (c .payload-at .ensures)))

@@ -7,13 +7,12 @@ use Rattle.handler.specs.Expressions.{wholeExpr}
 use Rattle.handler.proofs.expressions.expr_shape.Statement.{statement}
 use Rattle.handler.proofs.expressions.expr_shape.Tie as tie
 
-returns : tie.Need-returns
-unfolding wholeExpr
-returns c =
-    let w = c .before .before in
-    let a = w .before .before .before .before .args in
-    let here : a .base + 0 ≡ a .base = omega arith in
-    (w .expr-walk .ensures .0, rw here at (w .expr-walk .ensures .1))
-
 pub expr-shape-spec : {M : Type 1} → statement M
-expr-shape-spec = tie.close (tie.spec (λ c κs. search needs) (λ c. search needs) returns)
+unfolding wholeExpr
+expr-shape-spec =
+    tie.close
+    (tie.spec (λ c κs. search needs) (λ c. search needs)
+    (λ c. let w = c .before .before in
+        let a = w .before .before .before .before .args in
+        let here : a .base + 0 ≡ a .base = omega arith in
+        (w .expr-walk .ensures .0, rw here at (w .expr-walk .ensures .1))))

@@ -8,24 +8,13 @@ use Rattle.handler.specs.Expressions.{integerHead}
 use Rattle.handler.proofs.expressions.integer_at.Statement.{statement}
 use Rattle.handler.proofs.expressions.integer_at.Tie as tie
 
-returns : tie.Need-returns
-unfolding integerHead
-returns c = rw (← c .before .before .before .read .ensures, c .before .enum-told .given .1, c .bit-length .ensures)
-
-signed-of-requires : tie.Need-signed-of-requires
-signed-of-requires c κs = omega (arith, there _ _ _ _ _ (sym (c .before .before .before .read .ensures) ∙ c .before .n .given .1))
-
-returns-2 : tie.Need-returns-2
-unfolding integerHead
-returns-2 c =
-    rw
-    (toZ-ofZ (sfits-of (c .signed-of .ok)), ← c .before .before .before .before .read .ensures, c .before .before .n .given .1, c .signed-of .ensures)
-
 pub integer-at-spec : {M : Type 1} → statement M
+unfolding integerHead
 integer-at-spec =
     tie.close
-    (tie.spec
-    (λ c κs. search needs) (λ c. search needs) (λ c. search needs) (λ c κs. search needs)
-    returns
-    signed-of-requires
-    returns-2)
+    (tie.spec (λ c κs. search needs) (λ c. search needs) (λ c. search needs) (λ c κs. search needs)
+    (λ c. rw (← c .before .before .before .read .ensures, c .before .enum-told .given .1, c .bit-length .ensures))
+    (λ c κs. omega (arith, there _ _ _ _ _ (sym (c .before .before .before .read .ensures) ∙ c .before .n .given .1)))
+    (λ c.
+        rw
+        (toZ-ofZ (sfits-of (c .signed-of .ok)), ← c .before .before .before .before .read .ensures, c .before .before .n .given .1, c .signed-of .ensures)))

@@ -19,39 +19,16 @@ kept c = toZ-ofZ {w = w64} {z = c .before .head .given .0 .0} (record { sfits = 
 small : (c : tie.After-known-told) → mag (c .before .head .given .0 .0) < 32768
 small c = rw (c .before .head .given .1) at (c .before .before .before .pre)
 
-returns : tie.Need-returns
-returns c =
-    let k = c .before in
-    let is : c .bits-of .result ≡ bits16 (k .before .head .given .0 .0) = c .bits-of .ensures ∙ ap bits16 (kept k) in
-    (rw (k .before .head .given .1, is), record { tag = omega arith; value = rw is (bits-small _ (small k)); right = omega arith })
-
-returns-2 : tie.Need-returns-2
-returns-2 c = (rw (c .before .before .head2 .given .1, c .if1 .taken), record { tag = omega arith; value = omega arith; right = omega arith })
-
-returns-3 : tie.Need-returns-3
-returns-3 c = (rw (c .before .before .head2 .given .1, c .if1 .left), record { tag = omega arith; value = omega arith; right = omega arith })
-
-returns-4 : tie.Need-returns-4
-returns-4 c =
-    let is = c .before .head3 .given .1 in
-    (rw is, record { tag = omega arith; value = rw is at (c .before .before .before .pre); right = omega arith })
-
-returns-5 : tie.Need-returns-5
-returns-5 c = (rw (c .enum-told .given .1), record { tag = omega arith; value = omega arith; right = omega arith })
-
-returns-6 : tie.Need-returns-6
-returns-6 c = (rw (c .enum-told2 .given .1), record { tag = omega arith; value = omega arith; right = omega arith })
-
 pub leaf-term-spec : {M : Type 1} → statement M
 leaf-term-spec =
     tie.close
-    (tie.spec
-    (λ c. search needs)
-    (λ c κs. rw (kept c) (small c))
-    (λ c. search needs) (λ c. search needs) (λ c. search needs) (λ c. search needs)
-    returns
-    returns-2
-    returns-3
-    returns-4
-    returns-5
-    returns-6)
+    (tie.spec (λ c. search needs) (λ c κs. rw (kept c) (small c)) (λ c. search needs) (λ c. search needs) (λ c. search needs) (λ c. search needs)
+    (λ c. let k = c .before in
+        let is : c .bits-of .result ≡ bits16 (k .before .head .given .0 .0) = c .bits-of .ensures ∙ ap bits16 (kept k) in
+        (rw (k .before .head .given .1, is), record { tag = omega arith; value = rw is (bits-small _ (small k)); right = omega arith }))
+    (λ c. (rw (c .before .before .head2 .given .1, c .if1 .taken), record { tag = omega arith; value = omega arith; right = omega arith }))
+    (λ c. (rw (c .before .before .head2 .given .1, c .if1 .left), record { tag = omega arith; value = omega arith; right = omega arith }))
+    (λ c. let is = c .before .head3 .given .1 in
+        (rw is, record { tag = omega arith; value = rw is at (c .before .before .before .pre); right = omega arith }))
+    (λ c. (rw (c .enum-told .given .1), record { tag = omega arith; value = omega arith; right = omega arith }))
+    (λ c. (rw (c .enum-told2 .given .1), record { tag = omega arith; value = omega arith; right = omega arith })))

@@ -8,32 +8,16 @@ use Rattle.handler.specs.Expressions.{operationHead}
 use Rattle.handler.proofs.expressions.operation_at.Statement.{statement}
 use Rattle.handler.proofs.expressions.operation_at.Tie as tie
 
-returns : tie.Need-returns
-unfolding operationHead
-returns c = rw (← c .before .before .before .read .ensures, c .before .enum-told .given .1, c .bit-length .ensures)
-
-returns-2 : tie.Need-returns-2
-unfolding operationHead
-returns-2 c =
-    rw
-    (← c .before .before .before .before .read .ensures, c .before .before .o .given .1, eq-eqb _ _ (c .if1 .taken))
-
-cast-t8 : tie.Need-cast-t8
-cast-t8 c =
-    omega (arith, there _ _ _ _ _ (sym (c .before .before .before .before .read .ensures) ∙ c .before .before .o .given .1))
-
-returns-3 : tie.Need-returns-3
-unfolding operationHead
-returns-3 c =
-    rw
-    (← c .before .before .before .before .read .ensures, c .before .before .o .given .1, ne-eqb _ _ (c .if1 .left))
-
 pub operation-at-spec : {M : Type 1} → statement M
+unfolding operationHead
 operation-at-spec =
     tie.close
-    (tie.spec
-    (λ c κs. search needs) (λ c. search needs) (λ c. search needs) (λ c κs. search needs)
-    returns
-    returns-2
-    cast-t8
-    returns-3)
+    (tie.spec (λ c κs. search needs) (λ c. search needs) (λ c. search needs) (λ c κs. search needs)
+    (λ c. rw (← c .before .before .before .read .ensures, c .before .enum-told .given .1, c .bit-length .ensures))
+    (λ c.
+        rw
+        (← c .before .before .before .before .read .ensures, c .before .before .o .given .1, eq-eqb _ _ (c .if1 .taken)))
+    (λ c. omega (arith, there _ _ _ _ _ (sym (c .before .before .before .before .read .ensures) ∙ c .before .before .o .given .1)))
+    (λ c.
+        rw
+        (← c .before .before .before .before .read .ensures, c .before .before .o .given .1, ne-eqb _ _ (c .if1 .left))))

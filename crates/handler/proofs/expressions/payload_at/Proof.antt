@@ -5,43 +5,24 @@ use Rattle.handler.specs.Expressions.{payloadHead}
 use Rattle.handler.proofs.expressions.payload_at.Statement.{statement}
 use Rattle.handler.proofs.expressions.payload_at.Tie as tie
 
-returns : tie.Need-returns
-unfolding payloadHead
-returns c = rw (eq-eqb _ 0 (c .before .if1 .taken)) (c .integer-at .ensures)
-
-returns-2 : tie.Need-returns-2
-unfolding payloadHead
-returns-2 c = rw (ne-eqb _ 0 (c .before .before .if1 .left), eq-eqb _ 1 (c .before .if2 .taken)) (c .truth-at .ensures)
-
-returns-3 : tie.Need-returns-3
-unfolding payloadHead
-returns-3 c =
-    rw (
-      ne-eqb _ 0 (c .before .before .before .if1 .left),
-      ne-eqb _ 1 (c .before .before .if2 .left),
-      eq-eqb _ 2 (c .before .if3 .taken),
-    )
-    (c .variable-at .ensures)
-
-returns-4 : tie.Need-returns-4
-unfolding payloadHead
-returns-4 c =
-    rw (
-      ne-eqb _ 0 (c .before .before .before .if1 .left),
-      ne-eqb _ 1 (c .before .before .if2 .left),
-      ne-eqb _ 2 (c .before .if3 .left),
-    )
-    (c .operation-at .ensures)
-
 pub payload-at-spec : {M : Type 1} → statement M
+unfolding payloadHead
 payload-at-spec =
     tie.close
-    (tie.spec
+    (tie.spec (λ c κs. search needs) (λ c. rw (eq-eqb _ 0 (c .before .if1 .taken)) (c .integer-at .ensures)) (λ c κs. search needs)
+    (λ c. rw (ne-eqb _ 0 (c .before .before .if1 .left), eq-eqb _ 1 (c .before .if2 .taken)) (c .truth-at .ensures)) (λ c κs. search needs)
+    (λ c.
+        rw (
+          ne-eqb _ 0 (c .before .before .before .if1 .left),
+          ne-eqb _ 1 (c .before .before .if2 .left),
+          eq-eqb _ 2 (c .before .if3 .taken),
+        )
+        (c .variable-at .ensures))
     (λ c κs. search needs)
-    returns
-    (λ c κs. search needs)
-    returns-2
-    (λ c κs. search needs)
-    returns-3
-    (λ c κs. search needs)
-    returns-4)
+    (λ c.
+        rw (
+          ne-eqb _ 0 (c .before .before .before .if1 .left),
+          ne-eqb _ 1 (c .before .before .if2 .left),
+          ne-eqb _ 2 (c .before .if3 .left),
+        )
+        (c .operation-at .ensures)))

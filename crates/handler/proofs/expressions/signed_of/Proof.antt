@@ -20,13 +20,10 @@ lowered n h =
 sub-result : tie.Need-sub-result
 sub-result c = rw (lowered _ (c .before .pre)) (omega arith)
 
-returns : tie.Need-returns
-unfolding signed
-returns c = rw (lt-ltb _ 128 (c .if1 .taken), toZ-pos w64 {n = c .before .args .n} (omega arith))
-
-returns-2 : tie.Need-returns-2
-unfolding signed
-returns-2 c = rw (toZ-ofZ (sub-result c), le-ltb _ 128 (c .if1 .left)) (lowered _ (c .before .pre))
-
 pub signed-of-spec : {M : Type 1} → statement M
-signed-of-spec = tie.close (tie.spec (λ c. search needs) (λ c. search needs) sub-result returns returns-2)
+unfolding signed
+signed-of-spec =
+    tie.close
+    (tie.spec (λ c. search needs) (λ c. search needs) sub-result
+    (λ c. rw (lt-ltb _ 128 (c .if1 .taken), toZ-pos w64 {n = c .before .args .n} (omega arith)))
+    (λ c. rw (toZ-ofZ (sub-result c), le-ltb _ 128 (c .if1 .left)) (lowered _ (c .before .pre))))

@@ -5,28 +5,15 @@ use Rattle.handler.specs.Expressions.{variableHead}
 use Rattle.handler.proofs.expressions.variable_at.Statement.{statement}
 use Rattle.handler.proofs.expressions.variable_at.Tie as tie
 
-returns : tie.Need-returns
-unfolding variableHead
-returns c = rw (← c .before .before .before .read .ensures, c .before .enum-told .given .1, c .bit-length .ensures)
-
-returns-2 : tie.Need-returns-2
-unfolding variableHead
-returns-2 c =
-    rw
-    (← c .before .before .before .before .read .ensures, c .before .before .v .given .1, lt-ltb _ _ (c .if1 .taken))
-
-returns-3 : tie.Need-returns-3
-unfolding variableHead
-returns-3 c =
-    rw
-    (← c .before .before .before .before .read .ensures, c .before .before .v .given .1, le-ltb _ _ (c .if1 .left))
-
 pub variable-at-spec : {M : Type 1} → statement M
+unfolding variableHead
 variable-at-spec =
     tie.close
-    (tie.spec
-    (λ c κs. search needs) (λ c. search needs) (λ c. search needs) (λ c κs. search needs)
-    returns
-    (λ c. search needs)
-    returns-2
-    returns-3)
+    (tie.spec (λ c κs. search needs) (λ c. search needs) (λ c. search needs) (λ c κs. search needs)
+    (λ c. rw (← c .before .before .before .read .ensures, c .before .enum-told .given .1, c .bit-length .ensures)) (λ c. search needs)
+    (λ c.
+        rw
+        (← c .before .before .before .before .read .ensures, c .before .before .v .given .1, lt-ltb _ _ (c .if1 .taken)))
+    (λ c.
+        rw
+        (← c .before .before .before .before .read .ensures, c .before .before .v .given .1, le-ltb _ _ (c .if1 .left))))

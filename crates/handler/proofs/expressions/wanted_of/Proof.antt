@@ -3,24 +3,11 @@ use borrow.Author.Needs.{needs}
 use Rattle.handler.proofs.expressions.wanted_of.Statement.{statement}
 use Rattle.handler.proofs.expressions.wanted_of.Tie as tie
 
-returns : tie.Need-returns
-returns c = rw (c .before .before .enum-told .given .1, c .enum-told2 .given .1)
-
-returns-2 : tie.Need-returns-2
-returns-2 c = rw (c .before .before .enum-told .given .1, c .enum-told3 .given .1)
-
-returns-3 : tie.Need-returns-3
-returns-3 c = rw (c .before .before .enum-told4 .given .1, c .enum-told5 .given .1)
-
-returns-4 : tie.Need-returns-4
-returns-4 c = rw (c .before .before .enum-told4 .given .1, c .enum-told6 .given .1)
-
 pub wanted-of-spec : {M : Type 1} → statement M
 wanted-of-spec =
     tie.close
-    (tie.spec
-    (λ c. search needs) (λ c. search needs) (λ c. search needs) (λ c. search needs) (λ c. search needs) (λ c. search needs)
-    returns
-    returns-2
-    returns-3
-    returns-4)
+    (tie.spec (λ c. search needs) (λ c. search needs) (λ c. search needs) (λ c. search needs) (λ c. search needs) (λ c. search needs)
+    (λ c. rw (c .before .before .enum-told .given .1, c .enum-told2 .given .1))
+    (λ c. rw (c .before .before .enum-told .given .1, c .enum-told3 .given .1))
+    (λ c. rw (c .before .before .enum-told4 .given .1, c .enum-told5 .given .1))
+    (λ c. rw (c .before .before .enum-told4 .given .1, c .enum-told6 .given .1)))

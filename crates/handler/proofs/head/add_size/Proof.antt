@@ -64,30 +64,12 @@ before-size : (c : tie.After-known-told) → let a = c .before .before .before .
     Begun (a .src .now) (a .k) (a .file) (c .before .end .given .0 .0)
 before-size c = begun _ _ _ _ (c .before .before .before .before .pre .1) (c .before .end .given .1)
 
-returns : tie.Need-returns
-returns c = still-faulty _ _ _ _ _ (c .before .before .before .pre .1) (c .enum-told .given .1)
-
-returns-2 : tie.Need-returns-2
-unfolding sizeRead
-returns-2 c =
-    let r = c .before .before .before .before in
-    rw (c .faulty .ensures, before-size (r .before) .next-size, ← r .read .ensures, c .before .before .enum-told2 .given .1, c .before .bit-length .ensures)
-
 -- What the second test on the size says.
 too-large : (c : tie.Then2) → ltb 16 (c .before .before .before .size .given .0 .0) ≡ true
 too-large c = c .if2 .taken
 
 small-enough : (c : tie.Else2) → ltb 16 (c .before .before .before .size .given .0 .0) ≡ false
 small-enough c = c .if2 .left
-
-returns-3 : tie.Need-returns-3
-unfolding sizeRead
-returns-3 c =
-    let r = c .before .before .before .before .before in
-    rw (c .faulty2 .ensures, before-size (r .before) .next-size, ← r .read .ensures, c .before .before .before .size .given .1)
-    (⊎-elim (λ h. rw (lt-ltb _ 2 (h .taken)))
-    (λ h. rw (le-ltb _ 2 (h .0 .left), too-large (record { before = record { before = c .before .before; if1 = h .0 }; if2 = h .1 })))
-    (c .before .if1 .came))
 
 -- What is known at the test on the product.
 abbrev so-far : (c : tie.After-struct-known) → let a = c .before .before .before .before .before .before .before .before .before .before .before .before .args in
@@ -105,56 +87,36 @@ next-is c =
 size-small : (c : tie.After-struct-known) → c .before .before .before .before .before .size .given .0 .0 ≤ 16
 size-small c = ltb-false 16 _ (small-enough (c .before .before))
 
-mul-states : tie.Need-mul-states
-unfolding headOf
-mul-states c =
-    let b = so-far c in
-    let n = c .before .before .before .before .before .before .before .before .before .before .before .before .args .file .head .states in
-    let size = c .before .before .before .before .before .size .given .0 .0 in
-    let few : n ≤ capacity = rw (b .is) (b .most) in
-    omega (arith, mul-le-mul {n₁ = n} {m₁ = size} {n₂ = capacity} {m₂ = 16} few (size-small c))
-
-returns-4 : tie.Need-returns-4
-unfolding sizeRead headOf
-returns-4 c =
-    let at = c .before .before in
-    let over = rw (so-far at .is) at (c .before .if3 .taken) in
-    rw (c .faulty3 .ensures, next-is at, le-ltb _ 2 (at .before .before .before .if1 .left), small-enough (at .before .before), lt-ltb capacity _ over)
-
-cast-sizes : tie.Need-cast-sizes
-cast-sizes c = omega (arith, size-small (c .before .before))
-
-add-t18 : tie.Need-add-t18
-unfolding headOf
-add-t18 c =
-    let b = so-far (c .before .before .before) in
-    let same = ap (λ h. h .count) (b .is) in
-    omega (arith, same, b .counted)
-
-returns-5 : tie.Need-returns-5
-unfolding sizeRead headOf
-returns-5 c =
-    let at = c .before .before .before in
-    let under = rw (so-far at .is) at (c .before .before .if3 .left) in
-    rw (next-is at, le-ltb _ 2 (at .before .before .before .if1 .left), small-enough (at .before .before), le-ltb capacity _ under)
-    (grown _ _ _ _ _ _ (search needs) (so-far at))
-
 pub add-size-spec : {M : Type 1} → statement M
+unfolding sizeRead headOf
 add-size-spec =
     tie.close
-    (tie.spec
-    (λ c. search needs) (λ c. search needs)
-    returns
+    (tie.spec (λ c. search needs) (λ c. search needs) (λ c. still-faulty _ _ _ _ _ (c .before .before .before .pre .1) (c .enum-told .given .1))
     (λ c κs. search needs) (λ c. search needs) (λ c. search needs) (λ c κs. search needs) (λ c κs. search needs)
-    returns-2
+    (λ c. let r = c .before .before .before .before in
+        rw (c .faulty .ensures, before-size (r .before) .next-size, ← r .read .ensures, c .before .before .enum-told2 .given .1, c .before .bit-length .ensures))
     (λ c κs. search needs)
-    returns-3
+    (λ c. let r = c .before .before .before .before .before in
+        rw (c .faulty2 .ensures, before-size (r .before) .next-size, ← r .read .ensures, c .before .before .before .size .given .1)
+        (⊎-elim (λ h. rw (lt-ltb _ 2 (h .taken)))
+        (λ h. rw (le-ltb _ 2 (h .0 .left), too-large (record { before = record { before = c .before .before; if1 = h .0 }; if2 = h .1 })))
+        (c .before .if1 .came)))
     (λ c. search needs)
-    mul-states
+    (λ c. let b = so-far c in
+        let n = c .before .before .before .before .before .before .before .before .before .before .before .before .args .file .head .states in
+        let size = c .before .before .before .before .before .size .given .0 .0 in
+        let few : n ≤ capacity = rw (b .is) (b .most) in
+        omega (arith, mul-le-mul {n₁ = n} {m₁ = size} {n₂ = capacity} {m₂ = 16} few (size-small c)))
     (λ c κs. search needs)
-    returns-4
-    cast-sizes
-    (λ c. search needs) (λ c. search needs)
-    add-t18
+    (λ c. let at = c .before .before in
+        let over = rw (so-far at .is) at (c .before .if3 .taken) in
+        rw (c .faulty3 .ensures, next-is at, le-ltb _ 2 (at .before .before .before .if1 .left), small-enough (at .before .before), lt-ltb capacity _ over))
+    (λ c. omega (arith, size-small (c .before .before))) (λ c. search needs) (λ c. search needs)
+    (λ c. let b = so-far (c .before .before .before) in
+        let same = ap (λ h. h .count) (b .is) in
+        omega (arith, same, b .counted))
     (λ c. search needs)
-    returns-5)
+    (λ c. let at = c .before .before .before in
+        let under = rw (so-far at .is) at (c .before .before .if3 .left) in
+        rw (next-is at, le-ltb _ 2 (at .before .before .before .if1 .left), small-enough (at .before .before), le-ltb capacity _ under)
+        (grown _ _ _ _ _ _ (search needs) (so-far at))))

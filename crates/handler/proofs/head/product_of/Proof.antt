@@ -27,15 +27,12 @@ known k =
     rw (k .before .before .before .size-of .ensures, k .before .before .size-of2 .ensures, k .before .size-of3 .ensures, k .size-of4 .ensures)
     (small _ _ _ _ (each 0) (each 1) (each 2) (each 3))
 
-returns : tie.Need-returns
-unfolding sizesIn
-returns c =
-    let head = c .before .before .before .before .args .head in
-    rw (c .before .before .before .size-of .ensures, c .before .before .size-of2 .ensures, c .before .size-of3 .ensures, c .size-of4 .ensures)
-    (product-four (sizesIn head) (omega (arith, limited head (c .before .before .before .before .pre), length-take (head .count) (head .sizes))))
-
 pub product-of-spec : {M : Type 1} → statement M
+unfolding sizesIn
 product-of-spec =
     tie.close
     (tie.spec (λ c κs. search needs) (λ c κs. search needs) (λ c κs. search needs) (λ c κs. search needs) (λ c. omega (arith, known c))
-    (λ c. omega (arith, known c)) (λ c. omega (arith, known c)) returns)
+    (λ c. omega (arith, known c)) (λ c. omega (arith, known c))
+    (λ c. let head = c .before .before .before .before .args .head in
+        rw (c .before .before .before .size-of .ensures, c .before .before .size-of2 .ensures, c .before .size-of3 .ensures, c .size-of4 .ensures)
+        (product-four (sizesIn head) (omega (arith, limited head (c .before .before .before .before .pre), length-take (head .count) (head .sizes))))))

@@ -5,13 +5,9 @@ use Rattle.handler.specs.Header.{machineIn}
 use Rattle.handler.proofs.head.states_in.Statement.{statement}
 use Rattle.handler.proofs.head.states_in.Tie as tie
 
-returns : tie.Need-returns
-unfolding machineIn
-returns c = rw (sym (c .before .is-head .ensures) ∙ c .if1 .taken)
-
-returns-2 : tie.Need-returns-2
-unfolding machineIn
-returns-2 c = rw (sym (c .before .is-head .ensures) ∙ c .if1 .left)
-
 pub states-in-spec : {M : Type 1} → statement M
-states-in-spec = tie.close (tie.spec (λ c κs. search needs) returns returns-2)
+unfolding machineIn
+states-in-spec =
+    tie.close
+    (tie.spec (λ c κs. search needs) (λ c. rw (sym (c .before .is-head .ensures) ∙ c .if1 .taken))
+    (λ c. rw (sym (c .before .is-head .ensures) ∙ c .if1 .left)))

@@ -23,29 +23,16 @@ one-more (suc i) x xs = ap (λ l. 0 ∷ l) (one-more i x xs)
 kept : (c : tie.At-loop Inv-loop μ-loop) → length (c .loop .words) ≡ length (c .before .args .words .now)
 kept c = ap length (c .loop .inv .1) ∙ simp (length-append, length-replicate, length-drop) (omega arith)
 
-loop-again : tie.Need-loop-again Inv-loop μ-loop
-loop-again c =
-    let l = c .before .loop in
-    let less = c .before .loop .inv .0 in
-    (search needs, ap (λ w. set w (l .i) 0) (l .inv .1 ∙ ap (λ r. replicate (l .i) 0 ++ r) (drop-cons _ (l .i) 0 (omega arith))) ∙ one-more (l .i) _ _ ∙ rw (add-one (l .i)))
-
-returns : tie.Need-returns Inv-loop μ-loop
-returns c =
-    let l = c .before .loop in
-    let a = c .before .before .args .words .now in
-    let all : l .i ≡ length a = omega arith in
-    l .inv .1 ∙ rw (all, drop-of-length-le a {i = length a} (omega arith), append-nil)
-
 pub clear-spec : {M : Type 1} → statement M
 clear-spec =
     tie.close
-    (tie.spec
-    Inv-loop
-    μ-loop
-    (λ c. (search needs, refl))
-    (λ c. omega (arith, kept (c .before)))
-    (λ c. omega (arith, kept (c .before)))
+    (tie.spec Inv-loop μ-loop (λ c. (search needs, refl)) (λ c. omega (arith, kept (c .before))) (λ c. omega (arith, kept (c .before)))
     (λ c. search needs) (λ c. search needs)
-    loop-again
+    (λ c. let l = c .before .loop in
+        let less = c .before .loop .inv .0 in
+        (search needs, ap (λ w. set w (l .i) 0) (l .inv .1 ∙ ap (λ r. replicate (l .i) 0 ++ r) (drop-cons _ (l .i) 0 (omega arith))) ∙ one-more (l .i) _ _ ∙ rw (add-one (l .i))))
     (λ c. kept (c .before))
-    returns)
+    (λ c. let l = c .before .loop in
+        let a = c .before .before .args .words .now in
+        let all : l .i ≡ length a = omega arith in
+        l .inv .1 ∙ rw (all, drop-of-length-le a {i = length a} (omega arith), append-nil)))

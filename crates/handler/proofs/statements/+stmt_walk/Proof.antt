@@ -1,4 +1,4 @@
--- Each arm is one law of StmtShapes, one of Filling and one of TermFilling, applied to what the head and the walks of the parts ensure.
+-- Each arm is one law of StmtShapes and one of Filling, applied to what the head and the walks of the parts ensure.
 use Prim.Native.Nat.{ℕ, _+_, _-_, _*_, _≤_, _<_}
 use mathlib.Core.Path.{_≡_, sym, ap, _∙_}
 use native.Mathlib.Nat.{pos-of-ne-zero}
@@ -18,7 +18,6 @@ use Rattle.handler.proofs.Shapes.{shaped, shape-small}
 use Rattle.handler.proofs.StmtFolds.{stmt-step, Marked, marked, whole-read, stmt-read}
 use Rattle.handler.proofs.StmtShapes.{stmt-shaped, shape-high, assign-shape, left-side-fault, pair-shape, test-fault, body-fault, test-shape}
 use Rattle.handler.proofs.Filling.{fault-filled, nil-filled, assign-filled, pair-filled, test-filled}
-use Rattle.handler.proofs.TermFilling.{exprs-fault, nil-exprs, assign-exprs, pair-exprs, test-exprs}
 use Rattle.handler.proofs.statements.stmt_walk.Reads as stmt-walk
 use Rattle.handler.proofs.statements.stmt_walk.Kinds as stmt-walk-kinds
 use Rattle.handler.proofs.statements.+stmt_walk.Lts-stmt_walk as lts
@@ -105,27 +104,6 @@ head-is t c head e = sym (c .stmt-head-at .ensures) ∙ e
 more : (t : ℕ) (c : StmtHeadRead t) → 0 < start t c .args .levels
 more t c = pos-of-ne-zero (c .before .if1 .left)
 
-nil-store : (t : ℕ) → lts.Need-store-statement-requires (callees t) (stmt-walk-at t) stmt-walk.Post
-unfolding Marked
-nil-store t c κs =
-    let h = c .before .before .before .before in
-    omega (arith, start t h .pre, marked _ _ _ _ _ _ (head-is t h _ (c .before .before .next .given .1)))
-
-assign-store : (t : ℕ) → lts.Need-store-statement-requires-2 (callees t) (stmt-walk-at t) stmt-walk.Post
-unfolding Marked
-assign-store t c κs =
-    let h = c .before .before .before .before in
-    omega (arith, start t h .pre, marked _ _ _ _ _ _ (head-is t h _ (c .before .before .v .given .1)))
-
-assign-expr : (t : ℕ) → lts.Need-expr-shape-requires (callees t) (stmt-walk-at t) stmt-walk.Post
-assign-expr t c κs = omega (arith, start t (c .before .before .before .before .before .before .before .before) .pre)
-
-assigned-requires : (t : ℕ) → lts.Need-assigned-of-requires (callees t) (stmt-walk-at t) stmt-walk.Post
-unfolding wholeExpr
-assigned-requires t c κs =
-    let shape = c .before .before .expr-shape in
-    (omega (arith, start t (c .before .before .before .before .before .before .before .before .before .before .before) .pre), λ e is. shape-small 32 _ _ _ _ _ e (sym (shape .ensures .0) ∙ is) .room)
-
 -- There is room for the parts: what the head says, and what the left side leaves.
 pair-room : (t : ℕ) (c : PairRead t) → let a = start t (head-of-pair t c) .args in (a .before < 63) × (c .before .code .given .0 .1 .0 ≡ a .at + 3)
 unfolding Marked
@@ -171,58 +149,9 @@ body-room t c =
     let begun = start t (head-of-test t h) .pre .1 in
     (room .0, omega (arith, known .few, begun .3), omega (arith, known .ends, known .short, room, begun .4))
 
-pair-store : (t : ℕ) → lts.Need-store-statement-requires-3 (callees t) (stmt-walk-at t) stmt-walk.Post
-pair-store t c κs =
-    let l = c .before in
-    let p = pair-of-left t l in
-    omega (arith, pair-room t p, l .before .before .before .before .before .before .table3 .given, start t (head-of-pair t p) .pre)
-
-right-requires : (t : ℕ) → lts.Need-stmt-walk-requires-2 (callees t) (stmt-walk-at t) stmt-walk.Post
-right-requires t c κs =
-    let l = c .before .before .before .before .before .before in
-    let h = head-of-pair t (pair-of-left t l) in
-    omega (arith, more t h, left-room t l, c .before .before .before .table4 .given, l .before .before .before .before .before .before .table3 .given, start t h .pre)
-
--- A part has fewer levels than were left for it, so there is room for one more.
-pair-requires : (t : ℕ) → lts.Need-pair-of-requires (callees t) (stmt-walk-at t) stmt-walk.Post
-pair-requires t c κs =
-    let l = c .before .before .before .before .before .before .before .before .before .before .before in
-    let fits = start t (head-of-pair t (pair-of-left t l)) .fits .levels in (
-      omega (arith, fits, shape-high _ _ _ _ _ _ _ _ (left-is t l)),
-      λ w e. omega (arith, fits, shape-high _ _ _ _ _ _ _ w (sym (c .before .before .before .before .stmt-walk2 .ensures .0) ∙ e)),
-    )
-
-test-store : (t : ℕ) → lts.Need-store-statement-requires-4 (callees t) (stmt-walk-at t) stmt-walk.Post
-test-store t c κs =
-    let k = test-of-expr t (expr-of-body t (c .before)) in
-    omega (arith, test-room t k, c .before .before .before .before .before .before .before .table6 .given, start t (head-of-test t k) .pre)
-
-tested-requires : (t : ℕ) → lts.Need-tested-of-requires (callees t) (stmt-walk-at t) stmt-walk.Post
-tested-requires t c κs =
-    let b = c .before .before .before .before in
-    let s = start t (head-of-test t (test-of-expr t (expr-of-body t b))) in
-    (s .pre .1 .0, s .pre .1 .1, omega (arith, s .fits .levels, shape-high _ _ _ _ _ _ _ _ (body-is t b)))
-
 stmt-walk-returns : (t : ℕ) → lts.Need-returns (callees t) (stmt-walk-at t) stmt-walk.Post
 unfolding stmtAt stmtShape
 stmt-walk-returns t c = (rw (c .if1 .taken), (rw (c .if1 .taken) tt, rw (c .if1 .taken) tt))
-
-left-returns : (t : ℕ) → lts.Need-returns-2 (callees t) (stmt-walk-at t) stmt-walk.Post
-left-returns t c =
-    let p = c .before .before .before .before .before .before .before .before .before in
-    let h = head-of-pair t p in
-    let e = left-side-fault _ _ _ _ _ _ _ (more t h) _ _ (head-is t h _ (p .before .code .given .1)) _ _
-    (sym (c .before .before .before .before .before .before .stmt-walk .ensures .0) ∙ c .enum-told .given .1) in
-    (c .enum-told .given .1 ∙ e, (fault-filled _ _ _ _ _ _ (more t h) _ _ _ _ _ e, exprs-fault _ _ _ _ _ _ (more t h) _ _ _ _ _ e))
-
-body-returns : (t : ℕ) → lts.Need-returns-3 (callees t) (stmt-walk-at t) stmt-walk.Post
-body-returns t c =
-    let r = c .before .before .before .before .before .before .before .before .before .before in
-    let k = test-of-expr t r in
-    let h = head-of-test t k in
-    let e = body-fault _ _ _ _ _ _ _ (more t h) _ _ (head-is t h _ (k .before .code2 .given .1)) _ (test-is t r) _ _
-    (sym (c .before .before .before .before .before .before .stmt-walk3 .ensures .0) ∙ c .enum-told2 .given .1) in
-    (c .enum-told2 .given .1 ∙ e, (fault-filled _ _ _ _ _ _ (more t h) _ _ _ _ _ e, exprs-fault _ _ _ _ _ _ (more t h) _ _ _ _ _ e))
 
 nil-returns : (t : ℕ) → lts.Need-returns-4 (callees t) (stmt-walk-at t) stmt-walk.Post
 unfolding stmtShape
@@ -232,64 +161,7 @@ nil-returns t c =
     let head = head-is t h _ (k .before .next .given .1) in
     let terms : start t h .args .terms + 0 ≡ start t h .args .terms = omega arith in (
       c .nil-of .ensures ∙ rw (stmt-step _ _ _ _ _ _ (more t h) head, add-one, terms),
-      (nil-filled _ _ _ _ _ _ (more t h) _ head _ _ (c .before .before .before .store-statement .ensures), nil-exprs _ _ _ _ _ _ (more t h) _ head _),
-    )
-
-assign-returns : (t : ℕ) → lts.Need-returns-5 (callees t) (stmt-walk-at t) stmt-walk.Post
-assign-returns t c =
-    let k = c .before .before .before .before .before .before .before .before .before in
-    let h = k .before .before .before in
-    let head = head-is t h _ (k .before .v .given .1) in
-    let assigned = c .before .before .before .expr-shape in (
-      rw (c .assigned-of .ensures, assigned .ensures .0) (assign-shape _ _ _ _ _ _ _ (more t h) _ _ head),
-      (
-        assign-filled _ _ _ _ _ _ (more t h) _ _ head _ _ (c .before .before .before .before .before .before .before .store-statement2 .ensures),
-        assign-exprs _ _ _ _ _ _ (more t h) _ _ head _ _ (assigned .ensures .1),
-      ),
-    )
-
-pair-returns : (t : ℕ) → lts.Need-returns-6 (callees t) (stmt-walk-at t) stmt-walk.Post
-pair-returns t c =
-    let l = c .before .before .before .before .before .before .before .before .before .before .before .before in
-    let p = pair-of-left t l in
-    let h = head-of-pair t p in
-    let head = head-is t h _ (p .before .code .given .1) in
-    let left = stmt-shaped _ _ _ _ _ (left-is t l) in
-    let first = l .before .before .before .before .before .before .before .stmt-walk in
-    let second = c .before .before .before .before .before .stmt-walk2 in
-    let terms = ap (λ x. x .terms) (left .is) in (
-      rw (c .pair-of .ensures, second .ensures .0) (pair-shape _ _ _ _ _ _ _ (more t h) _ _ head _ (left-is t l)),
-      (
-        pair-filled _ _ _ _ _ _ (more t h) _ _ head (left .tree) _ _ (left .was) _ _ _ _
-            (first .ensures .1 .0) (c .before .before .before .before .before .before .before .before .before .before .store-statement3 .ensures) (rw terms at (second .ensures .1 .0)),
-        pair-exprs _ _ _ _ _ _ (more t h) _ _ head (left .tree) _ _ (left .was) _ _ _ (first .ensures .1 .1) (rw terms at (second .ensures .1 .1)),
-      ),
-    )
-
-test-returns : (t : ℕ) → lts.Need-returns-7 (callees t) (stmt-walk-at t) stmt-walk.Post
-test-returns t c =
-    let k = c .before .before .before .before .before .before .before in
-    let h = head-of-test t k in
-    let e = test-fault _ _ _ _ _ _ _ (more t h) _ _ (head-is t h _ (k .before .code2 .given .1)) _ _
-    (sym (c .before .before .before .before .before .expr-shape2 .ensures .0) ∙ c .before .fault .given .1) in
-    (e, (fault-filled _ _ _ _ _ _ (more t h) _ _ _ _ _ e, exprs-fault _ _ _ _ _ _ (more t h) _ _ _ _ _ e))
-
-tested-returns : (t : ℕ) → lts.Need-returns-8 (callees t) (stmt-walk-at t) stmt-walk.Post
-tested-returns t c =
-    let b = c .before .before .before .before .before in
-    let r = expr-of-body t b in
-    let k = test-of-expr t r in
-    let h = head-of-test t k in
-    let head = head-is t h _ (k .before .code2 .given .1) in
-    let test = shaped _ _ _ _ (test-is t r) in
-    let body = stmt-shaped _ _ _ _ _ (body-is t b) in
-    let second = b .before .before .before .before .before .before .before .stmt-walk3 in (
-      c .tested-of .ensures ∙ test-shape _ _ _ _ _ _ _ (more t h) _ _ head _ (test-is t r) _ (body-is t b),
-      (
-        test-filled _ _ _ _ _ _ (more t h) _ _ head (test .tree) _ _ (test .was) (body .tree) _ _ (body .was) _ _ _
-            (second .ensures .1 .0) (c .before .before .before .store-statement4 .ensures),
-        test-exprs _ _ _ _ _ _ (more t h) _ _ head (test .tree) _ _ (test .was) _ _ _ (r .before .before .before .before .before .expr-shape2 .ensures .1) (second .ensures .1 .1),
-      ),
+      nil-filled _ _ _ _ _ _ (more t h) _ head _ _ _ (c .before .before .before .store-statement .ensures),
     )
 
 fault-returns : (t : ℕ) → lts.Need-returns-9 (callees t) (stmt-walk-at t) stmt-walk.Post
@@ -300,39 +172,91 @@ fault-returns t c =
     (rw e, (rw e tt, rw e tt))
 
 pub +stmt-walk-spec : {M : Type 1} → statement M
+unfolding Marked wholeExpr
 +stmt-walk-spec = close μ-stmt-walk λ t. lts.spec (callees t) (stmt-walk-at t) stmt-walk.Post
-    (stmt-walk-returns t)
-    (λ c. search needs) (λ c. search needs) (λ c κs. search needs) (λ c. search needs)
-    (nil-store t)
+    (stmt-walk-returns t) (λ c. search needs) (λ c. search needs) (λ c κs. search needs) (λ c. search needs)
+    (λ c κs. let h = c .before .before .before .before in
+        omega (arith, start t h .pre, marked _ _ _ _ _ _ (head-is t h _ (c .before .before .next .given .1))))
     (λ c κs. search needs) (λ c. search needs)
-    (assign-store t)
-    (assign-expr t)
-    (assigned-requires t)
+    (λ c κs. let h = c .before .before .before .before in
+        omega (arith, start t h .pre, marked _ _ _ _ _ _ (head-is t h _ (c .before .before .v .given .1))))
+    (λ c κs. omega (arith, start t (c .before .before .before .before .before .before .before .before) .pre))
+    (λ c κs. let shape = c .before .before .expr-shape in
+        (omega (arith, start t (c .before .before .before .before .before .before .before .before .before .before .before) .pre), λ e is. shape-small 32 _ _ _ _ _ e (sym (shape .ensures .0) ∙ is) .room))
     (λ c. search needs)
     (λ c κs. let h = head-of-pair t (c .before .before) in omega (arith, more t h, pair-room t (c .before .before), start t h .pre))
     (λ c. search needs) (λ c. search needs) (λ c. search needs) (λ c. search needs)
-    (left-returns t)
-    (pair-store t)
-    (right-requires t)
-    (pair-requires t)
-    (λ c. search needs)
-    (λ c κs. omega (arith, start t (c .before .before .before .before) .pre))
-    (λ c. search needs) (λ c. search needs)
+    (λ c. let p = c .before .before .before .before .before .before .before .before .before in
+        let h = head-of-pair t p in
+        let e = left-side-fault _ _ _ _ _ _ _ (more t h) _ _ (head-is t h _ (p .before .code .given .1)) _ _
+        (sym (c .before .before .before .before .before .before .stmt-walk .ensures .0) ∙ c .enum-told .given .1) in
+        (c .enum-told .given .1 ∙ e, fault-filled _ _ _ _ _ _ (more t h) _ _ _ _ _ _ _ e))
+    (λ c κs. let l = c .before in
+        let p = pair-of-left t l in
+        omega (arith, pair-room t p, l .before .before .before .before .before .before .table3 .given, start t (head-of-pair t p) .pre))
+    (λ c κs. let l = c .before .before .before .before .before .before in
+        let h = head-of-pair t (pair-of-left t l) in
+        omega (arith, more t h, left-room t l, c .before .before .before .table4 .given, l .before .before .before .before .before .before .table3 .given, start t h .pre))
+    -- A part has fewer levels than were left for it, so there is room for one more.
+    (λ c κs. let l = c .before .before .before .before .before .before .before .before .before .before .before in
+        let fits = start t (head-of-pair t (pair-of-left t l)) .fits .levels in (
+          omega (arith, fits, shape-high _ _ _ _ _ _ _ _ (left-is t l)),
+          λ w e. omega (arith, fits, shape-high _ _ _ _ _ _ _ w (sym (c .before .before .before .before .stmt-walk2 .ensures .0) ∙ e)),
+        ))
+    (λ c. search needs) (λ c κs. omega (arith, start t (c .before .before .before .before) .pre)) (λ c. search needs) (λ c. search needs)
     (λ c. omega (arith, body-room t (c .before)))
     (λ c κs. let h = head-of-test t (test-of-expr t (c .before .before .before)) in omega (arith, more t h, body-room t (c .before .before .before), start t h .pre))
     (λ c. search needs) (λ c. search needs) (λ c. search needs) (λ c. search needs)
-    (body-returns t)
-    (test-store t)
-    (tested-requires t)
-    (λ c. search needs)
-    (λ c. search needs)
-    (nil-returns t)
+    (λ c. let r = c .before .before .before .before .before .before .before .before .before .before in
+        let k = test-of-expr t r in
+        let h = head-of-test t k in
+        let e = body-fault _ _ _ _ _ _ _ (more t h) _ _ (head-is t h _ (k .before .code2 .given .1)) _ (test-is t r) _ _
+        (sym (c .before .before .before .before .before .before .stmt-walk3 .ensures .0) ∙ c .enum-told2 .given .1) in
+        (c .enum-told2 .given .1 ∙ e, fault-filled _ _ _ _ _ _ (more t h) _ _ _ _ _ _ _ e))
+    (λ c κs. let k = test-of-expr t (expr-of-body t (c .before)) in
+        omega (arith, test-room t k, c .before .before .before .before .before .before .before .table6 .given, start t (head-of-test t k) .pre))
+    (λ c κs. let b = c .before .before .before .before in
+        let s = start t (head-of-test t (test-of-expr t (expr-of-body t b))) in
+        (s .pre .1 .0, s .pre .1 .1, omega (arith, s .fits .levels, shape-high _ _ _ _ _ _ _ _ (body-is t b))))
+    (λ c. search needs) (λ c. search needs) (nil-returns t) (λ c. search needs) (λ c. search needs)
+    (λ c. let k = c .before .before .before .before .before .before .before .before .before in
+        let h = k .before .before .before in
+        let head = head-is t h _ (k .before .v .given .1) in
+        let assigned = c .before .before .before .expr-shape in (
+          rw (c .assigned-of .ensures, assigned .ensures .0) (assign-shape _ _ _ _ _ _ _ (more t h) _ _ head),
+          assign-filled _ _ _ _ _ _ (more t h) _ _ head _ _ _ _
+              (c .before .before .before .before .before .before .before .store-statement2 .ensures) (assigned .ensures .1),
+        ))
     (λ c. search needs) (λ c. search needs)
-    (assign-returns t)
-    (λ c. search needs) (λ c. search needs)
-    (pair-returns t)
+    (λ c. let l = c .before .before .before .before .before .before .before .before .before .before .before .before in
+        let p = pair-of-left t l in
+        let h = head-of-pair t p in
+        let head = head-is t h _ (p .before .code .given .1) in
+        let left = stmt-shaped _ _ _ _ _ (left-is t l) in
+        let first = l .before .before .before .before .before .before .before .stmt-walk in
+        let second = c .before .before .before .before .before .stmt-walk2 in
+        let terms = ap (λ x. x .terms) (left .is) in (
+          rw (c .pair-of .ensures, second .ensures .0) (pair-shape _ _ _ _ _ _ _ (more t h) _ _ head _ (left-is t l)),
+          pair-filled _ _ _ _ _ _ (more t h) _ _ head (left .tree) _ _ (left .was) _ _ _ _ _ _ _ (first .ensures .1)
+              (c .before .before .before .before .before .before .before .before .before .before .store-statement3 .ensures) (rw terms at (second .ensures .1)),
+        ))
     (λ c. search needs)
-    (test-returns t)
+    (λ c. let k = c .before .before .before .before .before .before .before in
+        let h = head-of-test t k in
+        let e = test-fault _ _ _ _ _ _ _ (more t h) _ _ (head-is t h _ (k .before .code2 .given .1)) _ _
+        (sym (c .before .before .before .before .before .expr-shape2 .ensures .0) ∙ c .before .fault .given .1) in
+        (e, fault-filled _ _ _ _ _ _ (more t h) _ _ _ _ _ _ _ e))
     (λ c. search needs) (λ c. search needs)
-    (tested-returns t)
+    (λ c. let b = c .before .before .before .before .before in
+        let r = expr-of-body t b in
+        let k = test-of-expr t r in
+        let h = head-of-test t k in
+        let head = head-is t h _ (k .before .code2 .given .1) in
+        let test = shaped _ _ _ _ (test-is t r) in
+        let body = stmt-shaped _ _ _ _ _ (body-is t b) in
+        let second = b .before .before .before .before .before .before .before .stmt-walk3 in (
+          c .tested-of .ensures ∙ test-shape _ _ _ _ _ _ _ (more t h) _ _ head _ (test-is t r) _ (body-is t b),
+          test-filled _ _ _ _ _ _ (more t h) _ _ head (test .tree) _ _ (test .was) (body .tree) _ _ (body .was) _ _ _ _ _ _
+              (r .before .before .before .before .before .expr-shape2 .ensures .1) (second .ensures .1) (c .before .before .before .store-statement4 .ensures),
+        ))
     (fault-returns t)

@@ -6,28 +6,16 @@ use borrow.Author.Needs.{needs}
 use Rattle.handler.proofs.statements.assigned_of.Statement.{statement}
 use Rattle.handler.proofs.statements.assigned_of.Tie as tie
 
-returns : tie.Need-returns
-returns c =
-    let a = c .before .before .before in
-    let e = a .assigned .given .0 .0 .e in
-    let within : min (e + 1) (2 ^ 32) ≡ e + 1 = omega arith in
-    rw (a .assigned .given .1, within)
-
-returns-2 : tie.Need-returns-2
-returns-2 c = rw (c .before .assigned2 .given .1)
-
--- The sum of the nodes fits.
-add-terms : tie.Need-add-t11
-add-terms c =
-    let a = c .before .before .before in
-    omega (arith, a .before .before .pre .1 _ (a .assigned .given .1))
-
 pub assigned-of-spec : {M : Type 1} → statement M
 assigned-of-spec =
     tie.close
-    (tie.spec
-    (λ c. search needs) (λ c. search needs) (λ c. search needs)
-    add-terms
+    (tie.spec (λ c. search needs) (λ c. search needs) (λ c. search needs)
+    -- The sum of the nodes fits.
+    (λ c. let a = c .before .before .before in
+        omega (arith, a .before .before .pre .1 _ (a .assigned .given .1)))
     (λ c. search needs)
-    returns
-    returns-2)
+    (λ c. let a = c .before .before .before in
+        let e = a .assigned .given .0 .0 .e in
+        let within : min (e + 1) (2 ^ 32) ≡ e + 1 = omega arith in
+        rw (a .assigned .given .1, within))
+    (λ c. rw (c .before .assigned2 .given .1)))

@@ -11,11 +11,5 @@ within steps less = omega arith
 past : (steps : ℕ) → 2 ^ 32 ≤ steps → 2 ^ 32 ≡ min steps (2 ^ 32)
 past steps more = omega arith
 
-returns : tie.Need-returns
-returns c = within (c .before .args .steps) (c .if1 .taken)
-
-returns-2 : tie.Need-returns-2
-returns-2 c = past (c .before .args .steps) (c .if1 .left)
-
 pub capped-spec : {M : Type 1} → statement M
-capped-spec = tie.close (tie.spec returns returns-2)
+capped-spec = tie.close (tie.spec (λ c. within (c .before .args .steps) (c .if1 .taken)) (λ c. past (c .before .args .steps) (c .if1 .left)))

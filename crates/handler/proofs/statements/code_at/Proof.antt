@@ -6,41 +6,25 @@ use Rattle.handler.specs.Statements.{codeHead}
 use Rattle.handler.proofs.statements.code_at.Statement.{statement}
 use Rattle.handler.proofs.statements.code_at.Tie as tie
 
-returns : tie.Need-returns
-unfolding codeHead
-returns c = rw (eq-eqb _ 0 (c .if1 .taken))
-
-returns-2 : tie.Need-returns-2
-unfolding codeHead
-returns-2 c = rw (ne-eqb _ 0 (c .before .before .if1 .left), eq-eqb _ 1 (c .before .if2 .taken)) (c .target-at .ensures)
-
-returns-3 : tie.Need-returns-3
-unfolding codeHead
-returns-3 c =
-    let code = c .before .before .before .before .args .code in
-    rw (ne-eqb code 0 (c .before .before .if1 .left), ne-eqb code 1 (c .before .if2 .left), lt-ltb code 4 (omega arith))
-
-returns-4 : tie.Need-returns-4
-unfolding codeHead
-returns-4 c =
-    let code = c .before .before .before .before .before .args .code in
-    rw (
-      ne-eqb code 0 (c .before .before .before .if1 .left),
-      ne-eqb code 1 (c .before .before .if2 .left),
-      le-ltb code 4 (omega arith),
-      lt-ltb code 6 (omega arith),
-    )
-
-returns-5 : tie.Need-returns-5
-unfolding codeHead
-returns-5 c =
-    let code = c .before .before .before .before .before .args .code in
-    rw (
-      ne-eqb code 0 (c .before .before .before .if1 .left),
-      ne-eqb code 1 (c .before .before .if2 .left),
-      le-ltb code 4 (omega arith),
-      le-ltb code 6 (omega arith),
-    )
-
 pub code-at-spec : {M : Type 1} → statement M
-code-at-spec = tie.close (tie.spec returns (λ c κs. search needs) returns-2 returns-3 returns-4 returns-5)
+unfolding codeHead
+code-at-spec =
+    tie.close
+    (tie.spec (λ c. rw (eq-eqb _ 0 (c .if1 .taken))) (λ c κs. search needs)
+    (λ c. rw (ne-eqb _ 0 (c .before .before .if1 .left), eq-eqb _ 1 (c .before .if2 .taken)) (c .target-at .ensures))
+    (λ c. let code = c .before .before .before .before .args .code in
+        rw (ne-eqb code 0 (c .before .before .if1 .left), ne-eqb code 1 (c .before .if2 .left), lt-ltb code 4 (omega arith)))
+    (λ c. let code = c .before .before .before .before .before .args .code in
+        rw (
+          ne-eqb code 0 (c .before .before .before .if1 .left),
+          ne-eqb code 1 (c .before .before .if2 .left),
+          le-ltb code 4 (omega arith),
+          lt-ltb code 6 (omega arith),
+        ))
+    (λ c. let code = c .before .before .before .before .before .args .code in
+        rw (
+          ne-eqb code 0 (c .before .before .before .if1 .left),
+          ne-eqb code 1 (c .before .before .if2 .left),
+          le-ltb code 4 (omega arith),
+          le-ltb code 6 (omega arith),
+        )))

@@ -12,11 +12,7 @@ right-higher left right less = omega arith
 left-higher : (left right : ℕ) → right ≤ left → left + 1 ≡ suc (max left right)
 left-higher left right least = omega arith
 
-returns : tie.Need-returns
-returns c = right-higher _ _ (c .if1 .taken)
-
-returns-2 : tie.Need-returns-2
-returns-2 c = left-higher _ _ (c .if1 .left)
-
 pub pair-levels-spec : {M : Type 1} → statement M
-pair-levels-spec = tie.close (tie.spec (λ c. search needs) (λ c. search needs) returns returns-2)
+pair-levels-spec =
+    tie.close
+    (tie.spec (λ c. search needs) (λ c. search needs) (λ c. right-higher _ _ (c .if1 .taken)) (λ c. left-higher _ _ (c .if1 .left)))

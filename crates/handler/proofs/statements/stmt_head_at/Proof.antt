@@ -9,39 +9,24 @@ use Rattle.handler.specs.Statements.{markHead, stmtHead}
 use Rattle.handler.proofs.statements.stmt_head_at.Statement.{statement}
 use Rattle.handler.proofs.statements.stmt_head_at.Tie as tie
 
-returns : tie.Need-returns
-unfolding stmtHead markHead
-returns c = rw (← c .before .before .before .read .ensures, c .before .enum-told .given .1, c .bit-length .ensures)
-
-returns-2 : tie.Need-returns-2
-unfolding stmtHead markHead
-returns-2 c =
-    rw
-    (← c .before .before .before .before .read .ensures, c .before .before .code .given .1)
-    (⊎-elim (λ h. rw (eq-eqb _ 0 (h .taken))) (λ h. rw (ne-eqb _ 0 (h .0 .left), h .1 .taken)) (c .if1 .came))
-
-cast-code-at : tie.Need-cast-code-at
-cast-code-at c =
-    omega (arith, there _ _ _ _ _ (sym (c .before .before .before .before .before .read .ensures) ∙ c .before .before .before .code .given .1))
-
-returns-3 : tie.Need-returns-3
-unfolding stmtHead markHead
-returns-3 c =
-    rw (
-      ← c .before .before .before .before .before .before .read .ensures,
-      c .before .before .before .before .code .given .1,
-      ne-eqb _ 0 (c .before .before .if1 .left),
-      c .before .if2 .left,
-    )
-    (c .code-at .ensures)
-
 pub stmt-head-at-spec : {M : Type 1} → statement M
+unfolding stmtHead markHead
 stmt-head-at-spec =
     tie.close
-    (tie.spec
-    (λ c κs. search needs) (λ c. search needs) (λ c. search needs) (λ c κs. search needs)
-    returns
-    returns-2
-    cast-code-at
+    (tie.spec (λ c κs. search needs) (λ c. search needs) (λ c. search needs) (λ c κs. search needs)
+    (λ c. rw (← c .before .before .before .read .ensures, c .before .enum-told .given .1, c .bit-length .ensures))
+    (λ c.
+        rw
+        (← c .before .before .before .before .read .ensures, c .before .before .code .given .1)
+        (⊎-elim (λ h. rw (eq-eqb _ 0 (h .taken))) (λ h. rw (ne-eqb _ 0 (h .0 .left), h .1 .taken)) (c .if1 .came)))
+    (λ c.
+        omega (arith, there _ _ _ _ _ (sym (c .before .before .before .before .before .read .ensures) ∙ c .before .before .before .code .given .1)))
     (λ c κs. search needs)
-    returns-3)
+    (λ c.
+        rw (
+          ← c .before .before .before .before .before .before .read .ensures,
+          c .before .before .before .before .code .given .1,
+          ne-eqb _ 0 (c .before .before .if1 .left),
+          c .before .if2 .left,
+        )
+        (c .code-at .ensures)))

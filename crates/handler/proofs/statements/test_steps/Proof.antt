@@ -9,9 +9,6 @@ use Rattle.handler.proofs.StmtShapes.{cap-part}
 use Rattle.handler.proofs.statements.test_steps.Statement.{statement}
 use Rattle.handler.proofs.statements.test_steps.Tie as tie
 
-returns : tie.Need-returns
-returns c = rw (eq-eqb _ 4 (c .before .if1 .taken)) (omega arith)
-
 -- Both products are at most the capacity times a number of 33 bits.
 products : (c : tie.Else1) → let a = c .before .before .args in
     (a .n * (a .e + 2) ≤ capacity * (2 ^ 32 + 1)) × ((a .n - 1) * (c .before .capped .result + 1) ≤ capacity * (2 ^ 32 + 1))
@@ -21,23 +18,13 @@ products c =
       mul-le-mul {n₁ = a .n - 1} {m₁ = c .before .capped .result + 1} {n₂ = capacity} {m₂ = 2 ^ 32 + 1} (omega arith) (omega arith),
     )
 
-returns-2 : tie.Need-returns-2
-returns-2 c =
-    let a = c .before .before .before .args in
-    rw
-    (ne-eqb _ 4 (c .before .if1 .left), ← cap-part (a .n * (a .e + 2)) (a .n - 1) (a .body), ← c .before .before .capped .ensures)
-    (c .capped3 .ensures)
-
 pub test-steps-spec : {M : Type 1} → statement M
 test-steps-spec =
     tie.close
-    (tie.spec
-    (λ c κs. search needs) (λ c. search needs) (λ c. search needs) (λ c κs. search needs)
-    returns
-    (λ c. search needs)
-    (λ c. omega (arith, products c))
-    (λ c. search needs) (λ c. search needs)
-    (λ c. omega (arith, products c))
-    (λ c. omega (arith, products c))
-    (λ c κs. search needs)
-    returns-2)
+    (tie.spec (λ c κs. search needs) (λ c. search needs) (λ c. search needs) (λ c κs. search needs)
+    (λ c. rw (eq-eqb _ 4 (c .before .if1 .taken)) (omega arith)) (λ c. search needs) (λ c. omega (arith, products c)) (λ c. search needs)
+    (λ c. search needs) (λ c. omega (arith, products c)) (λ c. omega (arith, products c)) (λ c κs. search needs)
+    (λ c. let a = c .before .before .before .args in
+        rw
+        (ne-eqb _ 4 (c .before .if1 .left), ← cap-part (a .n * (a .e + 2)) (a .n - 1) (a .body), ← c .before .before .capped .ensures)
+        (c .capped3 .ensures)))

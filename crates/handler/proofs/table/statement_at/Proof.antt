@@ -12,11 +12,9 @@ word-is c =
     let a = c .before .before .args in
     ⊎-elim (λ h. h .2) (λ h. h .1 ∙ sym (List·getD-eq-default (a .table .now) 0 (h .0 .left))) (c .before .if1 .came)
 
-returns : tie.Need-returns
-unfolding statementIn statementOf
-returns c = ap statementOf (word-is c)
-
 pub statement-at-spec : {M : Type 1} → statement M
+unfolding statementIn statementOf
 statement-at-spec =
     tie.close
-    (tie.spec (λ c. search needs) (λ c. search needs) (λ c. search needs) (λ c. search needs) (λ c. search needs) (λ c. search needs) returns)
+    (tie.spec (λ c. search needs) (λ c. search needs) (λ c. search needs) (λ c. search needs) (λ c. search needs) (λ c. search needs)
+    (λ c. ap statementOf (word-is c)))

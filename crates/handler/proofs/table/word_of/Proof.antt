@@ -5,14 +5,9 @@ use Rattle.handler.specs.StatementTable.{statementWord}
 use Rattle.handler.proofs.table.word_of.Statement.{statement}
 use Rattle.handler.proofs.table.word_of.Tie as tie
 
-returns : tie.Need-returns
-unfolding statementWord
-returns c = refl
-
 pub word-of-spec : {M : Type 1} → statement M
+unfolding statementWord
 word-of-spec =
     tie.close
-    (tie.spec
-    (λ c. search needs) (λ c. search needs) (λ c. search needs) (λ c. search needs) (λ c. search needs) (λ c. search needs)
-    (λ c. search needs) (λ c. search needs) (λ c. search needs) (λ c. search needs) (λ c. search needs) (λ c. search needs)
-    returns)
+    (tie.spec (λ c. search needs) (λ c. search needs) (λ c. search needs) (λ c. search needs) (λ c. search needs) (λ c. search needs)
+    (λ c. search needs) (λ c. search needs) (λ c. search needs) (λ c. search needs) (λ c. search needs) (λ c. search needs) (λ c. refl))

@@ -12,9 +12,6 @@ word-is c =
     let a = c .before .before .args in
     ⊎-elim (λ h. h .2) (λ h. h .1 ∙ sym (List·getD-eq-default (a .table .now) 0 (h .0 .left))) (c .before .if1 .came)
 
-returns : tie.Need-returns
-unfolding termIn termOf
-returns c = ap termOf (word-is c)
-
 pub term-at-spec : {M : Type 1} → statement M
-term-at-spec = tie.close (tie.spec (λ c. search needs) (λ c. search needs) returns)
+unfolding termIn termOf
+term-at-spec = tie.close (tie.spec (λ c. search needs) (λ c. search needs) (λ c. ap termOf (word-is c)))

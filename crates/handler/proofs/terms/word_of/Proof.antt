@@ -5,9 +5,6 @@ use Rattle.handler.specs.Terms.{termWord}
 use Rattle.handler.proofs.terms.word_of.Statement.{statement}
 use Rattle.handler.proofs.terms.word_of.Tie as tie
 
-returns : tie.Need-returns
-unfolding termWord
-returns c = refl
-
 pub word-of-spec : {M : Type 1} → statement M
-word-of-spec = tie.close (tie.spec (λ c. search needs) (λ c. search needs) (λ c. search needs) (λ c. search needs) returns)
+unfolding termWord
+word-of-spec = tie.close (tie.spec (λ c. search needs) (λ c. search needs) (λ c. search needs) (λ c. search needs) (λ c. refl))
