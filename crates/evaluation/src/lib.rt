@@ -156,12 +156,10 @@ fn of_integers(n: u32, o: u32, left: Values, right: Values) -> Values
     requires { ⌜ (n ≤ capacity) × ((s : ℕ) → s < n → mag (integerIn left s) + mag (integerIn right s) < valueBound) ⌝ }
     ensures { λ r. ⌜ Applied n (λ s. getD (ofIntegers (integerIn left s) (integerIn right s)) o none) left right r ⌝ }
 {
-    let a = left.integers;
-    let b = right.integers;
     if o < LESS {
-        integers_of(sum_row(n, o, a, b))
+        integers_of(sum_row(n, o, left, right))
     } else if o < AND {
-        truths_of(compared(n, o, a, b))
+        truths_of(compared(n, o, left, right))
     } else {
         nothing()
     }

@@ -3,6 +3,7 @@
 use crate::EQUAL;
 use crate::LESS;
 use crate::PLUS;
+use crate::Values;
 use states::CAPACITY;
 use states::StateSet;
 ghost use mathlib.Core.Path.{_≡_};
@@ -15,7 +16,7 @@ ghost use lib.ListN.{getD};
 ghost use lib.Signed.{mag};
 ghost use Rattle.states.specs.Sets.{capacity, has};
 ghost use Rattle.semantics.specs.Language.{int, truth, ofIntegers};
-ghost use Rattle.evaluation.specs.Refinement.{lessCode, andCode, valueBound};
+ghost use Rattle.evaluation.specs.Refinement.{lessCode, andCode, valueBound, integerIn};
 
 // The number after x, or 0 after the last number below the limit.
 fn next_below(limit: u32, x: u32) -> u32
@@ -76,20 +77,15 @@ fn sum(o: u32, a: i64, b: i64) -> i64
 }
 
 // The sums or the differences of two rows, state by state.
-pub(crate) fn sum_row(
-    n: u32,
-    o: u32,
-    left: [i64; CAPACITY as usize],
-    right: [i64; CAPACITY as usize],
-) -> [i64; CAPACITY as usize]
-    requires { ⌜ (n ≤ capacity) × (o < lessCode) × ((s : ℕ) → s < n → mag (getD left s (pos 0)) + mag (getD right s (pos 0)) < valueBound) ⌝ }
+pub(crate) fn sum_row(n: u32, o: u32, left: Values, right: Values) -> [i64; CAPACITY as usize]
+    requires { ⌜ (n ≤ capacity) × (o < lessCode) × ((s : ℕ) → s < n → mag (integerIn left s) + mag (integerIn right s) < valueBound) ⌝ }
     ensures { λ r.
-        ⌜ ((s : ℕ) → s < n → (some (int (getD r s (pos 0))) ≡ getD (ofIntegers (getD left s (pos 0)) (getD right s (pos 0))) o none)
-        × (mag (getD r s (pos 0)) ≤ mag (getD left s (pos 0)) + mag (getD right s (pos 0)) + 1)) ⌝ }
+        ⌜ ((s : ℕ) → s < n → (some (int (getD r s (pos 0))) ≡ getD (ofIntegers (integerIn left s) (integerIn right s)) o none)
+        × (mag (getD r s (pos 0)) ≤ mag (integerIn left s) + mag (integerIn right s) + 1)) ⌝ }
 {
     let mut row = [0i64; CAPACITY as usize];
     for s in 0..n {
-        row[s as usize] = sum(o, left[s as usize], right[s as usize]);
+        row[s as usize] = sum(o, left.integers[s as usize], right.integers[s as usize]);
     }
     row
 }
@@ -118,19 +114,14 @@ fn with_state(found: StateSet, s: u32, one: bool) -> StateSet
 }
 
 // The states at which two integers compare as operation o asks.
-pub(crate) fn compared(
-    n: u32,
-    o: u32,
-    left: [i64; CAPACITY as usize],
-    right: [i64; CAPACITY as usize],
-) -> StateSet
+pub(crate) fn compared(n: u32, o: u32, left: Values, right: Values) -> StateSet
     requires { ⌜ (n ≤ capacity) × (lessCode ≤ o) × (o < andCode) ⌝ }
     ensures { λ r.
-        ⌜ ((s : ℕ) → s < n → some (truth (has r s)) ≡ getD (ofIntegers (getD left s (pos 0)) (getD right s (pos 0))) o none) ⌝ }
+        ⌜ ((s : ℕ) → s < n → some (truth (has r s)) ≡ getD (ofIntegers (integerIn left s) (integerIn right s)) o none) ⌝ }
 {
     let mut found = StateSet::empty();
     for s in 0..n {
-        found = with_state(found, s, compares(o, left[s as usize], right[s as usize]));
+        found = with_state(found, s, compares(o, left.integers[s as usize], right.integers[s as usize]));
     }
     found
 }

@@ -18,7 +18,7 @@ of-integers-spec =
     (λ c. let made = c .truths-of .ensures in
         λ s l. (rw (made .0, made .1) (c .before .compared .ensures s l), rw (made .2 s) (omega arith)))
     (λ c. let made = c .nothing .ensures in
-        let a = c .before .before .before .before .before .args in
+        let a = c .before .before .before .args in
         λ s l. (
           rw (made .0) (sym (List·getD-eq-default (ofIntegers (integerIn (a .left) s) (integerIn (a .right) s)) none {n = a .o} (omega arith))),
           rw (made .1 s) (omega arith),

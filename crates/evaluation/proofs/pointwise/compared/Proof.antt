@@ -12,14 +12,14 @@ use mir.Syntax.{w64}
 use mir.Facts.{toZ-ofZ}
 use Rattle.semantics.specs.Language.{truth, ofIntegers}
 use Rattle.semantics.specs.States.{isTruth}
-use Rattle.evaluation.specs.Refinement.{lessCode, andCode}
+use Rattle.evaluation.specs.Refinement.{lessCode, andCode, integerIn}
 use Rattle.evaluation.proofs.Runs.{Holds, holds-no-state, holds-more}
 use Rattle.evaluation.proofs.pointwise.compared.Statement.{statement}
 use Rattle.evaluation.proofs.pointwise.compared.Tie as tie
 
 abbrev Inv-loop : tie.InvT-loop
 Inv-loop n o left right found₀ s₀ found s =
-    (s ≤ n) × Holds (λ t. isTruth true (getD (ofIntegers (getD left t (pos 0)) (getD right t (pos 0))) o none)) s found
+    (s ≤ n) × Holds (λ t. isTruth true (getD (ofIntegers (integerIn left t) (integerIn right t)) o none)) s found
 
 abbrev μ-loop : tie.MeasureT-loop
 μ-loop n o left right found₀ s₀ found s = n - s
@@ -46,10 +46,10 @@ compared-spec =
     (λ c κs. search needs) (λ c. search needs) (λ c. search needs)
     (λ c. let k = c .before .before .before .before .before in
         let args = k .before .before .args in
-        let a = getD (args .t3) (k .loop .s) (pos 0) in
-        let b = getD (args .t4) (k .loop .s) (pos 0) in (
+        let a = integerIn (args .t3) (k .loop .s) in
+        let b = integerIn (args .t4) (k .loop .s) in (
           omega arith,
-          holds-more (λ t. isTruth true (getD (ofIntegers (getD (args .t3) t (pos 0)) (getD (args .t4) t (pos 0))) (args .o) none)) _ _ _ _ (omega arith)
+          holds-more (λ t. isTruth true (getD (ofIntegers (integerIn (args .t3) t) (integerIn (args .t4) t)) (args .o) none)) _ _ _ _ (omega arith)
               (carried (args .o) a b _ _ _ (toZ-ofZ {w = w64} {z = a} (sfits-of (c .before .before .before .compares-arg .given)))
               (toZ-ofZ {w = w64} {z = b} (sfits-of (c .before .before .compares-arg2 .given))) (c .before .compares .ensures))
               (c .with-state .ensures) (k .loop .inv .1),
@@ -57,4 +57,4 @@ compared-spec =
     (λ c s l. let k = c .before .before .before in
         let holds = rw (lt-ltb s (c .before .loop .s) (omega arith)) at (c .before .loop .inv .1 s) in
         ap (λ b. some (truth b)) holds
-        ∙ is-truth (k .args .o) (getD (k .args .t3) s (pos 0)) (getD (k .args .t4) s (pos 0)) (k .pre .1) (k .pre .2)))
+        ∙ is-truth (k .args .o) (integerIn (k .args .t3) s) (integerIn (k .args .t4) s) (k .pre .1) (k .pre .2)))
