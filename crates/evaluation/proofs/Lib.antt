@@ -4,5 +4,6 @@ pub mod Integers
 pub mod Walking
 pub mod Occurrences
 pub mod Laws
+pub mod Lifting
 pub mod Runs
 pub mod Cases

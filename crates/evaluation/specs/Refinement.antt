@@ -51,6 +51,10 @@ leafBound = 65536
 abbrev pub valueBound : ℕ
 valueBound = 281474976710656
 
+-- The magnitude of a short value is below this.
+abbrev pub shortBound : ℕ
+shortBound = 33554432
+
 -- The integer at a state, and the value there: by the row's kind an integer, a truth value or none.
 abbrev pub integerIn : Values → ℕ → ℤ
 integerIn row s = getD (row .integers) s (pos 0)

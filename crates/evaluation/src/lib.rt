@@ -34,7 +34,7 @@ ghost use Rattle.semantics.specs.Conditions.{isTrue, isFalse, afterStore, occur
 ghost use Rattle.handler.specs.Header.{isHead, sizesIn, machineIn};
 ghost use Rattle.handler.specs.Terms.{signed16, onTerm, exprFrom, exprIn};
 ghost use Rattle.evaluation.specs.Values.{inMask, leadsTo, variableIn, valueBy, isSmall, agreeIn};
-ghost use Rattle.evaluation.specs.Refinement.{integersKind, truthsKind, nothingKind, exprLevels, doubled, valueBound, integerIn, valueIn, Applied, LeafRow, Walked, Evaluated, storedBy};
+ghost use Rattle.evaluation.specs.Refinement.{integersKind, truthsKind, nothingKind, exprLevels, doubled, valueBound, shortBound, integerIn, valueIn, Applied, LeafRow, Walked, Evaluated, storedBy};
 
 // The kinds of a row: an integer at each state, a truth value at each state, or no value.
 const INTEGERS: u32 = 0;
@@ -48,6 +48,11 @@ const EXPR_LEVELS: u32 = MOST_EXPR_NODES + 1;
 
 // More than the magnitude of any value: a constant has 16 bits, and each level above it adds at most one bit.
 const VALUE_BOUND: u64 = 281474976710656;
+
+// More than the magnitude of a short value. A sum with so many times a size has 32 bits.
+const SHORT_BOUND: u32 = 33554432;
+
+const BELOW_SHORT: i64 = -33554433;
 
 // The codes of the operations + − < = > ∧ ∨, from 0. Those below LESS give an integer, those from LESS to below AND compare two
 // integers, and the last two take truth values.
@@ -340,14 +345,42 @@ pub fn agreeing(x: Variable, s: u32) -> StateSet
     }
 }
 
+// Whether a value is short, as almost every value is.
+fn is_short(z: i64) -> bool
+    ensures { λ r. ⌜ r ≡ ltb (mag z) shortBound ⌝ }
+{
+    (BELOW_SHORT < z) & (z < SHORT_BOUND as i64)
+}
+
 // The remainder, from 0 up, of a value by a size. The `%` of a signed number rounds toward 0. So enough sizes are added that the sum
-// is not negative, which needs no branch.
-fn wrapped(size: u32, z: i64) -> u32
+// is not negative.
+fn wrapped_long(size: u32, z: i64) -> u32
     requires { ⌜ (0 < size) × (size ≤ capacity) × (mag z < valueBound) ⌝ }
     ensures { λ r. ⌜ r ≡ remainder z size ⌝ }
 {
     let lifted = z + (VALUE_BOUND * size as u64) as i64;
     (lifted as u64 % size as u64) as u32
+}
+
+// The same of a short value: the sum has 32 bits, and dividing it takes half the time.
+fn wrapped_short(size: u32, z: i64) -> u32
+    requires { ⌜ (0 < size) × (size ≤ capacity) × (mag z < shortBound) ⌝ }
+    ensures { λ r. ⌜ r ≡ remainder z size ⌝ }
+{
+    let lifted = z + (SHORT_BOUND * size) as i64;
+    lifted as u32 % size
+}
+
+// The remainder, from 0 up, of a value by a size.
+fn wrapped(size: u32, z: i64) -> u32
+    requires { ⌜ (0 < size) × (size ≤ capacity) × (mag z < valueBound) ⌝ }
+    ensures { λ r. ⌜ r ≡ remainder z size ⌝ }
+{
+    if is_short(z) {
+        wrapped_short(size, z)
+    } else {
+        wrapped_long(size, z)
+    }
 }
 
 // The state after a store of z at state s, from the value that the variable has there.
