@@ -1,7 +1,7 @@
 -- Laws of the shapes of statements: capping the parts of a step number does not change the capped whole, and the shape of a
 -- statement follows from those of its parts.
-use Prim.Native.Nat.{ℕ, zero, suc, _+_, _-_, _*_, _^_, _<_, min, max}
-use mathlib.Core.Bool.{Bool, true, false, cond}
+use Prim.Native.Nat.{ℕ, zero, suc, _+_, _-_, _*_, _^_, _<_, min}
+use mathlib.Core.Bool.{Bool, true, false}
 use mathlib.Core.List.{List}
 use mathlib.Core.Option.{Option, none, some}
 use mathlib.Core.Path.{_≡_, refl, ap, ap₂, _∙_}
@@ -15,7 +15,7 @@ use Rattle.bits.specs.Fields.{fillAt}
 use Rattle.bits.specs.declared.Fill.{Fill}
 use Rattle.bits.specs.declared.Fill.the-variants.{Ends, Wrong}
 use Rattle.semantics.specs.declared.Kind.the-variants.{Integer, Truth}
-use Rattle.semantics.specs.Language.{Expr, Stmt, seq, par, if, while}
+use Rattle.semantics.specs.Language.{Expr, Stmt}
 use Rattle.semantics.specs.States.{product}
 use Rattle.semantics.specs.StepNumber.{E, steps}
 use Rattle.handler.specs.declared.expressions.ExprSummary.{ExprSummary}
@@ -26,11 +26,12 @@ use Rattle.handler.specs.declared.StmtShape.the-variants as stmt
 use Rattle.handler.specs.declared.StmtHead.the-variants.{Assign, Pair, Test}
 use Rattle.handler.specs.Expressions.{ExprRead, good, bad, wholeExpr}
 use Rattle.handler.specs.Statements.{stmtHead, StmtRead, whole, fault, tested, onAssigned, onRight, stmtAt, wholeStmt}
-use Rattle.handler.specs.Kinds.{width, orPlace, kindError, stmtWidth, stmtKindError}
+use Rattle.handler.specs.Kinds.{width, stmtWidth, stmtKindError}
 use Rattle.handler.specs.Terms.{exprNodes, stmtTerms}
 use Rattle.handler.specs.StatementTable.{statements, stmtLevels}
 use Rattle.handler.specs.Shapes.{asKindError, exprSummary, exprShape, stmtSummary, stmtShape, assignedOf, pairOf, testedOf, fittingOf, filledOf, handlerFound, handlerFile}
 use Rattle.handler.specs.Reading.{onKinds, onHandlerFill, onStmt}
+use Rattle.handler.proofs.Heads.{by-test}
 use Rattle.handler.proofs.Shapes.{or-earlier, shaped, faulted}
 use Rattle.handler.proofs.StmtFolds.{stmt-step, Marked, marked, whole-read, ReadStmt, stmt-read}
 
@@ -86,25 +87,9 @@ unfolding stmtShape
 pair-made N i at code next so-far behind l (fault k place) placed ends = refl
 pair-made N i at code next so-far behind l (whole r after end) placed ends =
     let sum : i + stmtTerms l + stmtTerms r ≡ i + (stmtTerms l + stmtTerms r) = omega arith in
-    rw (← or-earlier, ends, placed, sum) (by (eqb code 2))
-  where
-    made : ℕ → StmtShape
-    made s =
-        stmt.Whole (record {
-          steps = s;
-          error = asKindError (orPlace (stmtKindError (at + 3) l) (stmtKindError (at + 3 + stmtWidth l) r));
-          statements = after;
-          terms = i + (stmtTerms l + stmtTerms r);
-          levels = suc (max (stmtLevels l) (stmtLevels r));
-          next = end;
-        })
-
-    capped : min (min (steps N l) (2 ^ 32) + min (steps N r) (2 ^ 32) + 1) (2 ^ 32) ≡ min (steps N l + steps N r + 1) (2 ^ 32)
-    capped = omega arith
-
-    by : (b : Bool) → made (min (min (steps N l) (2 ^ 32) + min (steps N r) (2 ^ 32) + 1) (2 ^ 32)) ≡ stmtShape N i at (whole (cond b (seq l r) (par l r)) after end)
-    by true = rw capped
-    by false = rw capped
+    let capped : min (min (steps N l) (2 ^ 32) + min (steps N r) (2 ^ 32) + 1) (2 ^ 32) ≡ min (steps N l + steps N r + 1) (2 ^ 32) = omega arith in
+    by-test (λ S. pairOf (stmtSummary N i next l so-far behind) (stmtShape N (i + stmtTerms l) behind (whole r after end)) ≡ stmtShape N i at (whole S after end))
+    (eqb code 2) _ _ (λ e. rw (← or-earlier, ends, placed, sum, capped)) (λ e. rw (← or-earlier, ends, placed, sum, capped))
 
 -- An if or while whose test and body were read.
 tested-made : (N i at code next nodes behind after end : ℕ) (e : Expr) (b : Stmt) → next ≡ at + 3 → behind ≡ next + width e → nodes ≡ exprNodes e
@@ -112,25 +97,10 @@ tested-made : (N i at code next nodes behind after end : ℕ) (e : Expr) (b : St
 unfolding stmtShape
 tested-made N i at code next nodes behind after end e b placed ends counted =
     let sum : i + exprNodes e + stmtTerms b ≡ i + (exprNodes e + stmtTerms b) = omega arith in
-    rw (← or-earlier, ends, counted, placed, sum) (by (eqb code 4))
-  where
-    made : ℕ → StmtShape
-    made s =
-        stmt.Whole (record {
-          steps = s;
-          error = asKindError (orPlace (kindError Truth (at + 3) e) (stmtKindError (at + 3 + width e) b));
-          statements = after;
-          terms = i + (exprNodes e + stmtTerms b);
-          levels = suc (stmtLevels b);
-          next = end;
-        })
-
-    body : ℕ
-    body = min (steps N b) (2 ^ 32)
-
-    by : (t : Bool) → made (min (cond t (E e + 1 + body) (N * (E e + 2) + (N - 1) * (body + 1))) (2 ^ 32)) ≡ stmtShape N i at (whole (cond t (if e b) (while e b)) after end)
-    by true = ap made (omega arith)
-    by false = ap made (cap-part (N * (E e + 2)) (N - 1) (steps N b))
+    let capped : min (E e + 1 + min (steps N b) (2 ^ 32)) (2 ^ 32) ≡ min (E e + 1 + steps N b) (2 ^ 32) = omega arith in
+    by-test (λ S. stmt.Whole (testedOf N code (exprSummary Truth next e nodes behind) (stmtSummary N (i + nodes) behind b after end)) ≡ stmtShape N i at (whole S after end))
+    (eqb code 4) _ _ (λ t. rw (t, ← or-earlier, ends, counted, placed, sum, capped))
+    (λ t. rw (t, ← or-earlier, ends, counted, placed, sum, cap-part (N * (E e + 2)) (N - 1) (steps N b)))
 
 -- What a walk answers at each head, from what the walks of the parts answer.
 module _ (bytes : List ℕ) (count levels before at N i : ℕ) (more : 0 < levels) where
