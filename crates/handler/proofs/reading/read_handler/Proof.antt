@@ -20,7 +20,7 @@ use Rattle.handler.specs.StatementTable.{statements, StatementsStored}
 use Rattle.handler.specs.Reading.{readHandler}
 use Rattle.handler.specs.Shapes.{stmtShape, handlerFound, handlerFile, termsAfter}
 use Rattle.handler.proofs.StatementTable.{table-made}
-use Rattle.handler.proofs.StmtShapes.{found-read}
+use Rattle.handler.proofs.Shapes.{found-read}
 use Rattle.handler.proofs.Handlers.{KnownHandler, known-handler, found-refused, FoundHandler, found-handler}
 use Rattle.handler.proofs.reading.read_handler.Statement.{statement}
 use Rattle.handler.proofs.reading.read_handler.Tie as tie

@@ -1,4 +1,4 @@
--- Each arm is one law of StmtShapes and one of Filling, applied to what the head and the walks of the parts ensure.
+-- Each arm is one law of Shapes and one of Filling, applied to what the head and the walks of the parts ensure.
 use Prim.Native.Nat.{ℕ, _+_, _-_, _*_, _≤_, _<_}
 use mathlib.Core.Path.{_≡_, sym, ap, _∙_}
 use native.Mathlib.Nat.{pos-of-ne-zero}
@@ -14,9 +14,8 @@ use Rattle.handler.specs.declared.expressions.ExprShape.the-variants as 
 use Rattle.handler.specs.Expressions.{wholeExpr}
 use Rattle.handler.specs.Statements.{stmtHead, stmtAt}
 use Rattle.handler.specs.Shapes.{exprShape, stmtShape}
-use Rattle.handler.proofs.Shapes.{shaped, shape-small}
+use Rattle.handler.proofs.Shapes.{shaped, shape-small, stmt-shaped, shape-high, assign-shape, left-side-fault, pair-shape, test-fault, body-fault, test-shape}
 use Rattle.handler.proofs.StmtFolds.{stmt-step, Marked, marked, whole-read, stmt-read}
-use Rattle.handler.proofs.StmtShapes.{stmt-shaped, shape-high, assign-shape, left-side-fault, pair-shape, test-fault, body-fault, test-shape}
 use Rattle.handler.proofs.Filling.{fault-filled, nil-filled, assign-filled, pair-filled, test-filled}
 use Rattle.handler.proofs.statements.stmt_walk.Reads as stmt-walk
 use Rattle.handler.proofs.statements.stmt_walk.Kinds as stmt-walk-kinds
