@@ -69,10 +69,8 @@ module _ (bytes sizes : List ℕ) (h : Head) (at : ℕ) (read : headAt bytes ≡
     terms-are entry exit filled = rw (g .read) (rw (walked-is .1) at filled)
 
 -- What is known once the head is read.
-abbrev HeadKnown : tie.After-known-told2 → Type 0
-HeadKnown c = FoundHead (headAt (c .before .before .before .before .before .before .before .args .src .now)) (c .before .before .before .before .read-head .result) (c .before .end2 .given .0 .0)
-
-head-found : (c : tie.After-known-told2) → HeadKnown c
+head-found : (c : tie.After-known-told2)
+    → FoundHead (headAt (c .before .before .before .before .before .before .before .args .src .now)) (c .before .before .before .before .read-head .result) (c .before .end2 .given .0 .0)
 head-found c = found-head _ _ _ (c .before .before .before .before .read-head .ensures) (c .before .end2 .given .1)
 
 -- What is found, from what the walk answers: all 17 levels are read.
