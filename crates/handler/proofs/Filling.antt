@@ -163,13 +163,15 @@ module _ (bytes : List ℕ) (count levels before at i : ℕ) (more : 0 < levels)
 
   pub pair-filled : (code next : ℕ) → stmtHead bytes count (levels - 1) before at ≡ Pair code next
       → (l : Stmt) (so-far behind : ℕ) → below (before + 1) next ≡ whole l so-far behind → (table₀ table₁ table₂ table₃ exprs₀ exprs₁ exprs₂ : List ℕ)
-      → Stored table₀ table₁ exprs₀ exprs₁ (before + 1) next i (below (before + 1) next) → table₂ ≡ set table₁ before (statementWord (entry code 0 so-far 0 at))
+      → Stored table₀ table₁ exprs₀ exprs₁ (before + 1) next i (below (before + 1) next)
+      → table₂ ≡ set table₁ before (statementWord (entry code 0 so-far 0 at))
       → Stored table₂ table₃ exprs₁ exprs₂ so-far behind (i + stmtTerms l) (below so-far behind) → Stored table₀ table₃ exprs₀ exprs₂ before at i here
   unfolding Marked
   pair-filled code next head l so-far behind was table₀ table₁ table₂ table₃ exprs₀ exprs₁ exprs₂ first own second =
       rw (stmt-step bytes count levels before at _ more head, ← add-one before, was) (by (below so-far behind) second)
     where
-      by : (x : StmtRead) → Stored table₂ table₃ exprs₁ exprs₂ so-far behind (i + stmtTerms l) x → Stored table₀ table₃ exprs₀ exprs₂ before at i (onRight code l x)
+      by : (x : StmtRead) → Stored table₂ table₃ exprs₁ exprs₂ so-far behind (i + stmtTerms l) x
+          → Stored table₀ table₃ exprs₀ exprs₂ before at i (onRight code l x)
       by (fault k place) f = (tt, tt)
       by (whole r after end) f =
           let known = marked bytes count (levels - 1) before at _ head in
@@ -187,7 +189,8 @@ module _ (bytes : List ℕ) (count levels before at i : ℕ) (more : 0 < levels)
   pub test-filled : (code next : ℕ) → stmtHead bytes count (levels - 1) before at ≡ Test code next
       → (e : Expr) (nodes behind : ℕ) → wholeExpr bytes count next ≡ good e nodes behind
       → (b : Stmt) (after end : ℕ) → below (before + 1) behind ≡ whole b after end → (table₀ table₁ table₂ exprs₀ exprs₁ exprs₂ : List ℕ)
-      → TermsStored exprs₀ exprs₁ i (wholeExpr bytes count next) → Stored table₀ table₁ exprs₁ exprs₂ (before + 1) behind (i + nodes) (below (before + 1) behind)
+      → TermsStored exprs₀ exprs₁ i (wholeExpr bytes count next)
+      → Stored table₀ table₁ exprs₁ exprs₂ (before + 1) behind (i + nodes) (below (before + 1) behind)
       → table₂ ≡ set table₁ before (statementWord (entry code 0 after i at)) → Stored table₀ table₂ exprs₀ exprs₂ before at i here
   unfolding Marked
   test-filled code next head e nodes behind test b after end was table₀ table₁ table₂ exprs₀ exprs₁ exprs₂ first second own =

@@ -30,7 +30,8 @@ expr-fits k at (lit v) e = own (sameKind (kindOf v) k) none at e .0
 expr-fits k at (var v) e = own (sameKind Integer k) none at e .0
 expr-fits k at (op o l r) e = by (rowOf o) (λ a. expr-fits a (at + 5) l) (λ b. expr-fits b (at + 5 + width l) r) e
   where
-    by : (row : Row) → ((a : Kind) → kindError a (at + 5) l ≡ none → fits a l ≡ true) → ((b : Kind) → kindError b (at + 5 + width l) r ≡ none → fits b r ≡ true)
+    by : (row : Row) → ((a : Kind) → kindError a (at + 5) l ≡ none → fits a l ≡ true)
+        → ((b : Kind) → kindError b (at + 5 + width l) r ≡ none → fits b r ≡ true)
         → rowKindError row k at (λ a. kindError a (at + 5) l) (λ b. kindError b (at + 5 + width l) r) ≡ none
         → rowFits row k (λ a. fits a l) (λ b. fits b r) ≡ true
     by (Kinds a b c) left right e =

@@ -191,18 +191,19 @@ pair-made N i at code next so-far behind l (fault k place) placed ends = refl
 pair-made N i at code next so-far behind l (whole r after end) placed ends =
     let sum : i + stmtTerms l + stmtTerms r ≡ i + (stmtTerms l + stmtTerms r) = omega arith in
     let capped : min (min (steps N l) (2 ^ 32) + min (steps N r) (2 ^ 32) + 1) (2 ^ 32) ≡ min (steps N l + steps N r + 1) (2 ^ 32) = omega arith in
-    by-test (λ S. pairOf (stmtSummary N i next l so-far behind) (stmtShape N (i + stmtTerms l) behind (whole r after end)) ≡ stmtShape N i at (whole S after end))
-    (eqb code 2) _ _ (λ e. rw (← or-earlier, ends, placed, sum, capped)) (λ e. rw (← or-earlier, ends, placed, sum, capped))
+    let read = pairOf (stmtSummary N i next l so-far behind) (stmtShape N (i + stmtTerms l) behind (whole r after end)) in
+    by-test (λ S. read ≡ stmtShape N i at (whole S after end)) (eqb code 2) _ _ (λ e. rw (← or-earlier, ends, placed, sum, capped)) (λ e. rw (← or-earlier, ends, placed, sum, capped))
 
 -- An if or while whose test and body were read.
 tested-made : (N i at code next nodes behind after end : ℕ) (e : Expr) (b : Stmt) → next ≡ at + 3 → behind ≡ next + width e → nodes ≡ exprNodes e
-    → stmt.Whole (testedOf N code (exprSummary Truth next e nodes behind) (stmtSummary N (i + nodes) behind b after end)) ≡ stmtShape N i at (whole (tested code e b) after end)
+    → stmt.Whole (testedOf N code (exprSummary Truth next e nodes behind) (stmtSummary N (i + nodes) behind b after end))
+    ≡ stmtShape N i at (whole (tested code e b) after end)
 unfolding stmtShape
 tested-made N i at code next nodes behind after end e b placed ends counted =
     let sum : i + exprNodes e + stmtTerms b ≡ i + (exprNodes e + stmtTerms b) = omega arith in
     let capped : min (E e + 1 + min (steps N b) (2 ^ 32)) (2 ^ 32) ≡ min (E e + 1 + steps N b) (2 ^ 32) = omega arith in
-    by-test (λ S. stmt.Whole (testedOf N code (exprSummary Truth next e nodes behind) (stmtSummary N (i + nodes) behind b after end)) ≡ stmtShape N i at (whole S after end))
-    (eqb code 4) _ _ (λ t. rw (t, ← or-earlier, ends, counted, placed, sum, capped))
+    let read = stmt.Whole (testedOf N code (exprSummary Truth next e nodes behind) (stmtSummary N (i + nodes) behind b after end)) in
+    by-test (λ S. read ≡ stmtShape N i at (whole S after end)) (eqb code 4) _ _ (λ t. rw (t, ← or-earlier, ends, counted, placed, sum, capped))
     (λ t. rw (t, ← or-earlier, ends, counted, placed, sum, cap-part (N * (E e + 2)) (N - 1) (steps N b)))
 
 -- What a walk answers at each head, from what the walks of the parts answer.
@@ -250,7 +251,8 @@ module _ (bytes : List ℕ) (count levels before at N i : ℕ) (more : 0 < level
           rw (stmt-step bytes count levels before at _ more head, faulted Truth next (wholeExpr bytes count next) k place p)
 
       module _ (e : ExprSummary) (p : exprShape Truth next (wholeExpr bytes count next) ≡ expr.Whole e) where
-        pub body-fault : (k place : ℕ) → stmtShape N (i + e .nodes) (e .next) (below (before + 1) (e .next)) ≡ stmt.Fault k place → stmt.Fault k place ≡ here
+        pub body-fault : (k place : ℕ) → stmtShape N (i + e .nodes) (e .next) (below (before + 1) (e .next)) ≡ stmt.Fault k place
+            → stmt.Fault k place ≡ here
         unfolding stmtShape
         body-fault k place q =
             rw (

@@ -70,7 +70,7 @@ module _ (bytes sizes : List ℕ) (h : Head) (at : ℕ) (read : headAt bytes ≡
 
 -- What is known once the head is read.
 head-found : (c : tie.After-known-told2)
-    → FoundHead (headAt (c .before .before .before .before .before .before .before .args .src .now)) (c .before .before .before .before .read-head .result) (c .before .end2 .given .0 .0)
+    → let h = c .before .before .before .before in FoundHead (headAt (h .before .before .before .args .src .now)) (h .read-head .result) (c .before .end2 .given .0 .0)
 head-found c = found-head _ _ _ (c .before .before .before .before .read-head .ensures) (c .before .end2 .given .1)
 
 -- What is found, from what the walk answers: all 17 levels are read.

@@ -181,7 +181,8 @@ unfolding Marked wholeExpr
         omega (arith, start t h .pre, marked _ _ _ _ _ _ (head-is t h _ (c .before .before .v .given .1))))
     (λ c κs. omega (arith, start t (c .before .before .before .before .before .before .before .before) .pre))
     (λ c κs. let shape = c .before .before .expr-shape in
-        (omega (arith, start t (c .before .before .before .before .before .before .before .before .before .before .before) .pre), λ e is. shape-small 32 _ _ _ _ _ e (sym (shape .ensures .0) ∙ is) .room))
+        (omega (arith, start t (c .before .before .before .before .before .before .before .before .before .before .before) .pre),
+        λ e is. shape-small 32 _ _ _ _ _ e (sym (shape .ensures .0) ∙ is) .room))
     (λ c. search needs)
     (λ c κs. let h = head-of-pair t (c .before .before) in omega (arith, more t h, pair-room t (c .before .before), start t h .pre))
     (λ c. search needs) (λ c. search needs) (λ c. search needs) (λ c. search needs)
