@@ -2,7 +2,6 @@
 pub mod Sizes
 pub mod Integers
 pub mod Walking
-pub mod Occurrences
 pub mod Laws
 pub mod Lifting
 pub mod Runs

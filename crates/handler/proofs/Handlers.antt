@@ -8,6 +8,7 @@ use lib.ListN.{length}
 use Rattle.bits.specs.Fields.{fillAt}
 use Rattle.bits.specs.declared.Fill.{Fill}
 use Rattle.bits.specs.declared.Fill.the-variants.{Ends, Wrong}
+use Rattle.bits.proofs.Places.{FaultIn, fault-at, fill-inside}
 use Rattle.semantics.specs.Language.{Stmt, nil, assign, seq, par, if, while}
 use Rattle.semantics.specs.States.{product}
 use Rattle.semantics.specs.StepNumber.{steps}
@@ -21,10 +22,10 @@ use Rattle.handler.specs.Terms.{stmtTerms}
 use Rattle.handler.specs.StatementTable.{statements, stmtLevels}
 use Rattle.handler.specs.Reading.{HandlerRead, handler, refused, onKinds, onHandlerFill, onStmt, onHead, readHandler}
 use Rattle.handler.specs.Shapes.{handlerFile, termsAfter}
-use Rattle.handler.proofs.Heads.{head-read}
+use Rattle.handler.proofs.Heads.{head-in, head-read}
 use Rattle.handler.proofs.TermTable.{ExprsFit, ExprsIn, exprs-stored}
-use Rattle.handler.proofs.StmtFolds.{TargetsBelow, stmt-read}
-use Rattle.handler.proofs.Places.{statement-inside}
+use Rattle.handler.proofs.StmtFolds.{TargetsBelow, all-read, stmt-read}
+use Rattle.handler.proofs.Fitting.{stmt-within}
 
 -- What is known of a handler that was read.
 pub record KnownHandler (bytes sizes : List ℕ) (at : ℕ) (S : Stmt) : Type 0 where
@@ -39,49 +40,56 @@ pub record KnownHandler (bytes sizes : List ℕ) (at : ℕ) (S : Stmt) : Type 0 
   pub terms : stmtTerms S ≤ 1953
   pub exprs : ExprsFit S
 
-module _ (bytes sizes : List ℕ) (at : ℕ) (S : Stmt) (read-all : readHandler bytes ≡ handler sizes at S) where
-  by-kinds : (xs : List ℕ) (i : ℕ) (T : Stmt) (o : Option ℕ) → onKinds xs i T o ≡ handler sizes at S → (o ≡ none) × (handler xs i T ≡ handler sizes at S)
-  by-kinds xs i T none e = (refl, e)
-  by-kinds xs i T (some place) e = absurd (let z : _≡_ {A = ℕ} 0 1 = cc in omega arith)
+-- A file that is read is known, and a fault of it is in the file.
+module _ (bytes : List ℕ) where
+  abbrev pub KnownFile : HandlerRead → Type 0
+  KnownFile (handler sizes at S) = KnownHandler bytes sizes at S
+  KnownFile (refused k place) = FaultIn bytes 10 18 k place
 
-  by-fill : (xs : List ℕ) (i : ℕ) (T : Stmt) (f : Fill) → onHandlerFill xs i T f ≡ handler sizes at S
-      → (stmtKindError i T ≡ none) × (handler xs i T ≡ handler sizes at S)
-  by-fill xs i T Ends e = by-kinds xs i T (stmtKindError i T) e
-  by-fill xs i T (Wrong place) e = absurd (let z : _≡_ {A = ℕ} 0 1 = cc in omega arith)
+  module _ (sizes : List ℕ) (at : ℕ) (begins : head.headAt bytes ≡ head.declared sizes at) where
+    kinds-known : (S : Stmt) (after next : ℕ) → wholeStmt bytes (length sizes) at ≡ whole S after next → (o : Option ℕ) → stmtKindError at S ≡ o
+        → KnownFile (onKinds sizes at S o)
+    unfolding wholeStmt
+    kinds-known S after next read none fit =
+        let known = stmt-read 17 bytes (length sizes) 0 at S after next read in
+        let counted : after ≡ statements S = omega arith in
+        record {
+          head = begins;
+          starts = head-read bytes sizes at begins .starts;
+          read = rw (← counted, ← known .ends) read;
+          inside = omega arith;
+          fits = fit;
+          few = omega arith;
+          high = omega arith;
+          targets = known .targets;
+          terms = omega arith;
+          exprs = known .exprs;
+        }
+    kinds-known S after next read (some place) fit =
+        let known = stmt-read 17 bytes (length sizes) 0 at S after next read in
+        let within = rw fit at (stmt-within at S) in
+        fault-at bytes 10 18 16 refl place (omega arith)
 
-  by-stmt : (xs : List ℕ) (i : ℕ) (x : StmtRead) → head.headAt bytes ≡ head.declared xs i → wholeStmt bytes (length xs) i ≡ x
-      → onStmt bytes xs i x ≡ handler sizes at S → KnownHandler bytes sizes at S
-  unfolding wholeStmt
-  by-stmt xs i (fault k place) h w e = absurd (let z : _≡_ {A = ℕ} 0 1 = cc in omega arith)
-  by-stmt xs i (whole T after next) h w e =
-      let (fit, is) = by-fill xs i T (fillAt bytes next) e in
-      let sizes-are : xs ≡ sizes = cc in
-      let at-is : i ≡ at = cc in
-      let S-is : T ≡ S = cc in
-      let here : head.headAt bytes ≡ head.declared sizes at = rw (sizes-are, at-is) at h in
-      let read : wholeStmt bytes (length sizes) at ≡ whole S after next = rw (sizes-are, at-is, S-is) at w in
-      let known = stmt-read 17 bytes (length sizes) 0 at S after next read in
-      let counted : after ≡ statements S = omega arith in
-      record {
-        head = here;
-        starts = head-read bytes sizes at here .starts;
-        read = rw (← counted, ← known .ends) read;
-        inside = statement-inside bytes sizes at S read-all;
-        fits = rw (at-is, S-is) at fit;
-        few = omega arith;
-        high = omega arith;
-        targets = known .targets;
-        terms = omega arith;
-        exprs = known .exprs;
-      }
+    fill-known : (S : Stmt) (after next : ℕ) → wholeStmt bytes (length sizes) at ≡ whole S after next → (f : Fill) → fillAt bytes next ≡ f
+        → KnownFile (onHandlerFill sizes at S f)
+    fill-known S after next read Ends e = kinds-known S after next read (stmtKindError at S) refl
+    fill-known S after next read (Wrong place) e = fault-at bytes 10 18 18 refl place (fill-inside bytes next place e)
 
-  by-head : (h : head.HeadRead) → head.headAt bytes ≡ h → onHead bytes h ≡ handler sizes at S → KnownHandler bytes sizes at S
-  by-head (head.fault k place) h e = absurd (let z : _≡_ {A = ℕ} 0 1 = cc in omega arith)
-  by-head (head.declared xs i) h e = by-stmt xs i (wholeStmt bytes (length xs) i) h refl e
+    stmt-known : at ≤ 8 * length bytes → (x : StmtRead) → wholeStmt bytes (length sizes) at ≡ x → KnownFile (onStmt bytes sizes at x)
+    unfolding wholeStmt
+    stmt-known inside (fault k place) read = rw read at (all-read 17 bytes (length sizes) 0 at) inside
+    stmt-known inside (whole S after next) read = fill-known S after next read (fillAt bytes next) refl
 
-  pub known-handler : KnownHandler bytes sizes at S
+  head-known : (h : head.HeadRead) → head.headAt bytes ≡ h → KnownFile (onHead bytes h)
+  head-known (head.fault k place) e = rw e at (head-in bytes)
+  head-known (head.declared sizes at) e = stmt-known sizes at e (rw e at (head-in bytes) .1) (wholeStmt bytes (length sizes) at) refl
+
+  pub known-file : KnownFile (readHandler bytes)
   unfolding readHandler
-  known-handler = by-head (head.headAt bytes) refl read-all
+  known-file = head-known (head.headAt bytes) refl
+
+pub known-handler : (bytes sizes : List ℕ) (at : ℕ) (S : Stmt) → readHandler bytes ≡ handler sizes at S → KnownHandler bytes sizes at S
+known-handler bytes sizes at S e = rw e at (known-file bytes)
 
 -- A buffer of 1,953 words holds the expressions of the handler that was read.
 pub handler-exprs : (bytes sizes : List ℕ) (at : ℕ) (S : Stmt) (entry : List ℕ) → readHandler bytes ≡ handler sizes at S → 1953 ≤ length entry

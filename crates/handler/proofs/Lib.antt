@@ -5,10 +5,8 @@ pub mod TermTable
 pub mod Folds
 pub mod Shapes
 pub mod StmtFolds
-pub mod StmtShapes
 pub mod StatementTable
 pub mod Filling
-pub mod TermFilling
 pub mod Handlers
 pub mod Places
 pub mod Fitting

@@ -174,11 +174,7 @@ module _ (a b : List ℕ) where
       by (Operation o next) p g m later = rw (p .1) (left g o m later (exprAt levels a count (suc nodes) (x + 5)) refl)
       by (Fault k place) p g m later = tt
 
-  pub moved-expression : (count levels nodes x y : ℕ) (e : Expr) (after next : ℕ) → exprAt levels a count nodes x ≡ good e after next
-      → Same a x b y (width e) → exprAt levels b count nodes y ≡ good e after (y + width e)
-  moved-expression count levels nodes x y e after next p s = rw p at (expr-moves count levels nodes x y) s
-
   pub moved-whole : (count x y : ℕ) (e : Expr) (nodes next : ℕ) → wholeExpr a count x ≡ good e nodes next → Same a x b y (width e)
       → wholeExpr b count y ≡ good e nodes (y + width e)
   unfolding wholeExpr
-  moved-whole count x y e nodes next p s = moved-expression count 32 0 x y e nodes next p s
+  moved-whole count x y e nodes next p s = rw p at (expr-moves count 32 0 x y) s

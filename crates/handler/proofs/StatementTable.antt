@@ -1,7 +1,7 @@
 -- Laws of the statement table: a word gives its statement back, and a table that holds the words of a statement from number j on
 -- also holds those of its parts.
 use Prim.Native.Nat.{ℕ, zero, suc, _+_, _-_, _*_, _/_, _%_, _≤_, _<_}
-use mathlib.Core.List.{List, _∷_, _++_, append-assoc}
+use mathlib.Core.List.{List, _∷_, _++_}
 use mathlib.Core.Path.{_≡_, refl, _∙_}
 use native.Mathlib.Omega.{arith}
 use lib.ListN.{length, getD, drop, replicate, length-append}
@@ -12,7 +12,7 @@ use Rattle.handler.specs.declared.table.Statement.{Statement}
 use Rattle.handler.specs.Kinds.{width, stmtWidth}
 use Rattle.handler.specs.Terms.{exprNodes, stmtTerms}
 use Rattle.handler.specs.StatementTable.{statements, statementWord, statementOf, statementIn, afterFirst, exprNumber, statementRecord, wordOf, statementWords, statementTable}
-use Rattle.handler.proofs.Stores.{first-held, later-held, second-held}
+use Rattle.handler.proofs.Stores.{first-held, later-held, both-held}
 
 -- The fields of a word.
 word-fields : (code target after expr bit : ℕ) → code < 8 → target < 4 → after < 128 → expr < 2048
@@ -59,10 +59,8 @@ module _ (table : List ℕ) (j bit i : ℕ) where
   two l r word rest e =
       let first = statementWords (suc j) (bit + 3) i l in
       let second = statementWords (suc j + statements l) (bit + 3 + stmtWidth l) (i + stmtTerms l) r in
-      let left : drop (suc j) table ≡ first ++ (second ++ rest) = later-held table j word (first ++ second ++ rest) e ∙ append-assoc first second rest in (
-        record { rest = second ++ rest; is = left },
-        record { rest = rest; is = second-held table (suc j) (statements l) first (second ++ rest) (length-statementWords (suc j) (bit + 3) i l) left },
-      )
+      let held = both-held table (suc j) (statements l) first second rest (length-statementWords (suc j) (bit + 3) i l) (later-held table j word _ e) in
+      (record { rest = second ++ rest; is = held .0 }, record { rest = rest; is = held .1 })
 
   one : (e : Expr) (b : Stmt) (word : ℕ) (rest : List ℕ) → drop j table ≡ word ∷ (statementWords (suc j) (bit + 3 + width e) (i + exprNodes e) b ++ rest)
       → StatementIn table (suc j) (bit + 3 + width e) (i + exprNodes e) b

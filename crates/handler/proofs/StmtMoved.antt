@@ -108,7 +108,8 @@ module _ (a b : List ℕ) where
       abbrev Marks : StmtHead → Type 0
       Marks h = MarkMoves count x y below before h g
 
-      assign-moved : (v : ℕ) → Marks (Assign v (x + 5)) → (e : ExprRead) → wholeExpr a count (x + 5) ≡ e → StmtMoves (suc below) before x y (onAssigned v (suc so-far) e) here
+      assign-moved : (v : ℕ) → Marks (Assign v (x + 5)) → (e : ExprRead) → wholeExpr a count (x + 5) ≡ e
+          → StmtMoves (suc below) before x y (onAssigned v (suc so-far) e) here
       assign-moved v m (bad k place) read = tt
       assign-moved v m (good e nodes next) read = λ s deep few.
           let same = same-part a b x y (5 + width e) s in

@@ -1,6 +1,6 @@
 -- Laws of tables of words: runs of stores, and what a table holds from a number on.
 use Prim.Native.Nat.{ℕ, suc, _+_, _<_}
-use mathlib.Core.List.{List, [], _∷_, _++_}
+use mathlib.Core.List.{List, [], _∷_, _++_, append-assoc}
 use mathlib.Core.Path.{_≡_, refl, sym, ap, _∙_}
 use native.Mathlib.Omega.{arith}
 use lib.ListN.{length, getD, drop, set}
@@ -48,5 +48,9 @@ module _ (table : List ℕ) (j : ℕ) where
       let next : j + 1 ≡ suc j = omega arith in
       ap (λ n. drop n table) (sym next) ∙ sym (drop-drop 1 j table) ∙ ap (drop 1) e
 
-  pub second-held : (n : ℕ) (xs ys : List ℕ) → length xs ≡ n → drop j table ≡ xs ++ ys → drop (j + n) table ≡ ys
-  second-held n xs ys long e = sym (drop-drop n j table) ∙ ap (drop n) e ∙ drop-at xs ys n long
+  -- Two parts, of which the first has n words.
+  pub both-held : (n : ℕ) (xs ys rest : List ℕ) → length xs ≡ n → drop j table ≡ xs ++ ys ++ rest
+      → (drop j table ≡ xs ++ (ys ++ rest)) × (drop (j + n) table ≡ ys ++ rest)
+  both-held n xs ys rest long e =
+      let first = e ∙ append-assoc xs ys rest in
+      (first, sym (drop-drop n j table) ∙ ap (drop n) first ∙ drop-at xs (ys ++ rest) n long)

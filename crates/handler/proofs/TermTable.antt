@@ -2,7 +2,7 @@
 -- on gives the expression back.
 use Prim.Native.Nat.{ℕ, zero, suc, _+_, _-_, _*_, _/_, _%_, _≤_, _<_}
 use mathlib.Core.Bool.{true, false}
-use mathlib.Core.List.{List, _++_, append-assoc}
+use mathlib.Core.List.{List, _++_}
 use mathlib.Core.Path.{_≡_, refl, ap, _∙_}
 use native.Mathlib.Omega.{arith}
 use borrow.Author.Tests.{lt-ltb, le-ltb}
@@ -13,7 +13,7 @@ use lib.Signed.{mag}
 use Rattle.semantics.specs.Language.{Val, int, truth, Expr, lit, var, op, Stmt, nil, assign, seq, par, if, while}
 use Rattle.handler.specs.declared.terms.Term.{Term}
 use Rattle.handler.specs.Terms.{bits16, signed16, exprNodes, exprTerm, termWord, termOf, termIn, firstWord, termWords, stmtTerms, handlerTerms, exprFrom, exprIn}
-use Rattle.handler.proofs.Stores.{first-held, later-held, second-held}
+use Rattle.handler.proofs.Stores.{first-held, later-held, both-held}
 
 -- The fields of a word.
 word-fields : (tag value right : ℕ) → tag < 4 → value < 65536
@@ -61,13 +61,9 @@ pub record TermsIn (table : List ℕ) (i : ℕ) (e : Expr) : Type 0 where
 module _ (table : List ℕ) where
   operands-held : (i o : ℕ) (l r : Expr) → TermsIn table i (op o l r) → TermsIn table (suc i) l × TermsIn table (suc i + exprNodes l) r
   operands-held i o l r h =
-      let first = termWords (suc i) l in
       let second = termWords (suc i + exprNodes l) r in
-      let left : drop (suc i) table ≡ first ++ (second ++ h .rest)
-      = later-held table i (firstWord i (op o l r)) (first ++ second ++ h .rest) (h .is) ∙ append-assoc first second (h .rest) in (
-        record { rest = second ++ h .rest; is = left },
-        record { rest = h .rest; is = second-held table (suc i) (exprNodes l) first (second ++ h .rest) (length-termWords (suc i) l) left },
-      )
+      let held = both-held table (suc i) (exprNodes l) (termWords (suc i) l) second (h .rest) (length-termWords (suc i) l) (later-held table i _ _ (h .is)) in
+      (record { rest = second ++ h .rest; is = held .0 }, record { rest = h .rest; is = held .1 })
 
   -- The first node of an expression.
   own-word : (i : ℕ) (e : Expr) → ExprFits e → (rest : List ℕ) → termOf (getD (termWords i e ++ rest) 0 0) ≡ exprTerm i e
@@ -140,30 +136,19 @@ module _ (table : List ℕ) (i : ℕ) where
   halves : (l r : Stmt) (rest : List ℕ) → drop i table ≡ handlerTerms i l ++ handlerTerms (i + stmtTerms l) r ++ rest
       → i + (stmtTerms l + stmtTerms r) ≤ 1953 → ExprsFit l × ExprsFit r → ExprsIn table i l × ExprsIn table (i + stmtTerms l) r
   halves l r rest e room fits =
-      let first = handlerTerms i l in
       let second = handlerTerms (i + stmtTerms l) r in
-      let left : drop i table ≡ first ++ (second ++ rest) = e ∙ append-assoc first second rest in (
-        record { rest = second ++ rest; is = left; room = omega arith; fits = fits .0 },
-        record {
-          rest = rest;
-          is = second-held table i (stmtTerms l) first (second ++ rest) (length-handlerTerms i l) left;
-          room = omega arith;
-          fits = fits .1;
-        },
+      let held = both-held table i (stmtTerms l) (handlerTerms i l) second rest (length-handlerTerms i l) e in (
+        record { rest = second ++ rest; is = held .0; room = omega arith; fits = fits .0 },
+        record { rest = rest; is = held .1; room = omega arith; fits = fits .1 },
       )
 
   tested : (e : Expr) (b : Stmt) (rest : List ℕ) → drop i table ≡ termWords i e ++ handlerTerms (i + exprNodes e) b ++ rest
       → i + (exprNodes e + stmtTerms b) ≤ 1953 → (exprNodes e ≤ 31) × ExprFits e × ExprsFit b → (exprIn table i ≡ e) × ExprsIn table (i + exprNodes e) b
   tested e b rest p room fits =
       let second = handlerTerms (i + exprNodes e) b in
-      let left : drop i table ≡ termWords i e ++ (second ++ rest) = p ∙ append-assoc (termWords i e) second rest in (
-        expr-held table i e (fits .0) (fits .1) (record { rest = second ++ rest; is = left }),
-        record {
-          rest = rest;
-          is = second-held table i (exprNodes e) (termWords i e) (second ++ rest) (length-termWords i e) left;
-          room = omega arith;
-          fits = fits .2;
-        },
+      let held = both-held table i (exprNodes e) (termWords i e) second rest (length-termWords i e) p in (
+        expr-held table i e (fits .0) (fits .1) (record { rest = second ++ rest; is = held .0 }),
+        record { rest = rest; is = held .1; room = omega arith; fits = fits .2 },
       )
 
   pub parts-exprs : (S : Stmt) → ExprsIn table i S → PartsExprs table i S

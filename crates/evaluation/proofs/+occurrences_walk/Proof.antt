@@ -6,8 +6,7 @@ use borrow.Author.Needs.{needs}
 use borrow.Fn.Kinds.{In}
 use borrow.Fn.PlainCycle.{Measures, is, falls, and}
 use Rattle.handler.specs.Terms.{termIn}
-use Rattle.evaluation.proofs.Walking.{operation-inside}
-use Rattle.evaluation.proofs.Occurrences.{no-level, constant-occurs, variable-occurs, sum-small, both-occur}
+use Rattle.evaluation.proofs.Walking.{operation-inside, no-level, constant-occurs, variable-occurs, sum-small, both-occur}
 use Rattle.evaluation.proofs.occurrences_walk.Reads as walk
 use Rattle.evaluation.proofs.occurrences_walk.Kinds as walk-kinds
 use Rattle.evaluation.proofs.+occurrences_walk.Lts-occurrences_walk as lts

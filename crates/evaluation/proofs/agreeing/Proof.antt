@@ -1,13 +1,11 @@
 -- The states are those at which the variable has the value that it has at s.
-use Prim.Native.Nat.{ℕ}
 use native.Mathlib.Nat.{mod-lt}
 use mathlib.Core.Bool.{Bool, true, false, _&&_}
 use mathlib.Core.Path.{_≡_}
-use lib.Dec.{ltb, eqb}
+use lib.Dec.{ltb}
 use borrow.Author.Needs.{needs}
 use Rattle.states.proofs.Search.{and-left}
-use Rattle.evaluation.specs.declared.Variable.{Variable}
-use Rattle.evaluation.specs.Values.{valueBy, isSmall, agreeIn}
+use Rattle.evaluation.specs.Values.{isSmall, agreeIn}
 use Rattle.evaluation.proofs.Laws.{SmallVariable, small}
 use Rattle.evaluation.proofs.agreeing.Statement.{statement}
 use Rattle.evaluation.proofs.agreeing.Tie as tie
@@ -19,22 +17,12 @@ asked c b e = rw (← c .is-small .ensures) e
 known : (c : tie.After-struct-known2) → SmallVariable (c .before .before .before .before .args .x)
 known c = small _ (and-left _ _ (asked (c .before .before .before) true (c .before .if1 .taken)))
 
--- Where s is a state, the states with its value agree with it; where it is not, none do.
-module _ (x : Variable) (s t : ℕ) where
-  agree-there : (isSmall x && ltb s (x .states)) ≡ true → agreeIn x s t ≡ (ltb t (x .states) && eqb (valueBy x s) (valueBy x t))
-  unfolding agreeIn
-  agree-there e = rw e
-
-  agree-nowhere : (isSmall x && ltb s (x .states)) ≡ false → agreeIn x s t ≡ false
-  unfolding agreeIn
-  agree-nowhere e = rw e
-
 pub agreeing-spec : {M : Type 1} → statement M
+unfolding agreeIn
 agreeing-spec =
     tie.close
     (tie.spec (λ c κs. search needs) (λ c. known c .weighs) (λ c. known (c .before) .sized)
     (λ c κs. let k = known (c .before) in (k .few, k .weighs, k .light, k .short, mod-lt _ (k .sized))) (λ c κs. search needs)
     (λ c t. let k = c .before .before .before in
-        let a = k .before .before .before .args in
-        rw (agree-there (a .x) (a .s) t (asked (k .before .before) true (k .if1 .taken))) (c .states-with .ensures t))
-    (λ c t. let k = c .before .before .before in rw (agree-nowhere _ _ t (asked k false (c .before .if1 .left))) (c .empty .ensures t)))
+        rw (asked (k .before .before) true (k .if1 .taken)) (c .states-with .ensures t))
+    (λ c t. let k = c .before .before .before in rw (asked k false (c .before .if1 .left)) (c .empty .ensures t)))

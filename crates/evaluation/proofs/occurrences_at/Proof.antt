@@ -4,7 +4,7 @@ use borrow.Author.Needs.{needs}
 use Rattle.semantics.specs.Conditions.{occurrences}
 use Rattle.handler.specs.Terms.{exprIn}
 use Rattle.evaluation.specs.Values.{inMask}
-use Rattle.evaluation.proofs.Occurrences.{none-occur}
+use Rattle.evaluation.proofs.Walking.{none-occur}
 use Rattle.evaluation.proofs.occurrences_at.Statement.{statement}
 use Rattle.evaluation.proofs.occurrences_at.Tie as tie
 

@@ -72,7 +72,8 @@ module _ (head : Head) (table : List ℕ) (expr : ℕ) (row : Values) (known : E
       → ((s : ℕ) → machineIn head .states ≤ s → (t : ℕ) → mem (entryAt rows s) t ≡ false)
       → (s t : ℕ) → mem (entryAt rows s) t ≡ (ltb s (machineIn head .states) && after s t)
   filled rows below past s t =
-      split s (machineIn head .states) (λ l. rw (lt-ltb s (machineIn head .states) l) (below s l t)) (λ l. rw (le-ltb s (machineIn head .states) l) (past s l t))
+      split s (machineIn head .states) (λ l. rw (lt-ltb s (machineIn head .states) l) (below s l t))
+      (λ l. rw (le-ltb s (machineIn head .states) l) (past s l t))
 
 -- The variable's numbers are small.
 small-variable : (k : tie.After-variable-of Inv-loop μ-loop) → isSmall (k .variable-of .result) ≡ true

@@ -1,4 +1,4 @@
--- The head, the row and the walks of the two operands are taken apart in turn. Each return is one law of Shapes and one of TermFilling.
+-- The head, the row and the walks of the two operands are taken apart in turn. Each return is one law of Shapes and one of Filling.
 use Prim.Native.Nat.{ℕ, _+_, _-_, _<_}
 use mathlib.Core.Path.{_≡_, sym, _∙_}
 use native.Mathlib.Nat.{pos-of-ne-zero}
@@ -14,7 +14,7 @@ use Rattle.handler.specs.Expressions.{exprHead, bad, exprAt}
 use Rattle.handler.specs.Shapes.{exprShape}
 use Rattle.handler.proofs.Folds.{expr-step, childless, row-used, Headed, headed-as}
 use Rattle.handler.proofs.Shapes.{shaped, FewNodes, shape-small, left-operand-fault, right-operand-fault, op-shape}
-use Rattle.handler.proofs.TermFilling.{head-fits, leaf-filled, expr-fault-filled, operation-filled}
+use Rattle.handler.proofs.Filling.{head-fits, leaf-filled, expr-fault-filled, operation-filled}
 use Rattle.handler.proofs.expressions.expr_walk.Reads as expr-walk
 use Rattle.handler.proofs.expressions.expr_walk.Kinds as expr-walk-kinds
 use Rattle.handler.proofs.expressions.+expr_walk.Lts-expr_walk as lts

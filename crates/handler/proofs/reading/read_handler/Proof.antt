@@ -20,7 +20,7 @@ use Rattle.handler.specs.StatementTable.{statements, StatementsStored}
 use Rattle.handler.specs.Reading.{readHandler}
 use Rattle.handler.specs.Shapes.{stmtShape, handlerFound, handlerFile, termsAfter}
 use Rattle.handler.proofs.StatementTable.{table-made}
-use Rattle.handler.proofs.StmtShapes.{found-read}
+use Rattle.handler.proofs.Shapes.{found-read}
 use Rattle.handler.proofs.Handlers.{KnownHandler, known-handler, found-refused, FoundHandler, found-handler}
 use Rattle.handler.proofs.reading.read_handler.Statement.{statement}
 use Rattle.handler.proofs.reading.read_handler.Tie as tie
@@ -69,10 +69,8 @@ module _ (bytes sizes : List ℕ) (h : Head) (at : ℕ) (read : headAt bytes ≡
     terms-are entry exit filled = rw (g .read) (rw (walked-is .1) at filled)
 
 -- What is known once the head is read.
-abbrev HeadKnown : tie.After-known-told2 → Type 0
-HeadKnown c = FoundHead (headAt (c .before .before .before .before .before .before .before .args .src .now)) (c .before .before .before .before .read-head .result) (c .before .end2 .given .0 .0)
-
-head-found : (c : tie.After-known-told2) → HeadKnown c
+head-found : (c : tie.After-known-told2)
+    → let h = c .before .before .before .before in FoundHead (headAt (h .before .before .before .args .src .now)) (h .read-head .result) (c .before .end2 .given .0 .0)
 head-found c = found-head _ _ _ (c .before .before .before .before .read-head .ensures) (c .before .end2 .given .1)
 
 -- What is found, from what the walk answers: all 17 levels are read.

@@ -1,4 +1,4 @@
--- Each arm is one law of StmtShapes and one of Filling, applied to what the head and the walks of the parts ensure.
+-- Each arm is one law of Shapes and one of Filling, applied to what the head and the walks of the parts ensure.
 use Prim.Native.Nat.{ℕ, _+_, _-_, _*_, _≤_, _<_}
 use mathlib.Core.Path.{_≡_, sym, ap, _∙_}
 use native.Mathlib.Nat.{pos-of-ne-zero}
@@ -14,9 +14,8 @@ use Rattle.handler.specs.declared.expressions.ExprShape.the-variants as 
 use Rattle.handler.specs.Expressions.{wholeExpr}
 use Rattle.handler.specs.Statements.{stmtHead, stmtAt}
 use Rattle.handler.specs.Shapes.{exprShape, stmtShape}
-use Rattle.handler.proofs.Shapes.{shaped, shape-small}
+use Rattle.handler.proofs.Shapes.{shaped, shape-small, stmt-shaped, shape-high, assign-shape, left-side-fault, pair-shape, test-fault, body-fault, test-shape}
 use Rattle.handler.proofs.StmtFolds.{stmt-step, Marked, marked, whole-read, stmt-read}
-use Rattle.handler.proofs.StmtShapes.{stmt-shaped, shape-high, assign-shape, left-side-fault, pair-shape, test-fault, body-fault, test-shape}
 use Rattle.handler.proofs.Filling.{fault-filled, nil-filled, assign-filled, pair-filled, test-filled}
 use Rattle.handler.proofs.statements.stmt_walk.Reads as stmt-walk
 use Rattle.handler.proofs.statements.stmt_walk.Kinds as stmt-walk-kinds
@@ -182,7 +181,8 @@ unfolding Marked wholeExpr
         omega (arith, start t h .pre, marked _ _ _ _ _ _ (head-is t h _ (c .before .before .v .given .1))))
     (λ c κs. omega (arith, start t (c .before .before .before .before .before .before .before .before) .pre))
     (λ c κs. let shape = c .before .before .expr-shape in
-        (omega (arith, start t (c .before .before .before .before .before .before .before .before .before .before .before) .pre), λ e is. shape-small 32 _ _ _ _ _ e (sym (shape .ensures .0) ∙ is) .room))
+        (omega (arith, start t (c .before .before .before .before .before .before .before .before .before .before .before) .pre),
+        λ e is. shape-small 32 _ _ _ _ _ e (sym (shape .ensures .0) ∙ is) .room))
     (λ c. search needs)
     (λ c κs. let h = head-of-pair t (c .before .before) in omega (arith, more t h, pair-room t (c .before .before), start t h .pre))
     (λ c. search needs) (λ c. search needs) (λ c. search needs) (λ c. search needs)

@@ -5,7 +5,7 @@ use native.Mathlib.Omega.{arith}
 use borrow.Author.Needs.{needs}
 use borrow.Author.Tests.{eq-eqb, ne-eqb}
 use Rattle.states.specs.Sets.{capacity}
-use Rattle.handler.proofs.StmtShapes.{cap-part}
+use Rattle.handler.proofs.Shapes.{cap-part}
 use Rattle.handler.proofs.statements.test_steps.Statement.{statement}
 use Rattle.handler.proofs.statements.test_steps.Tie as tie
 
