@@ -187,6 +187,3 @@ module _ (n : ℕ) (S R : List ℕ) (d : Derivation) (x : Encodable n S R d) whe
 
   pub relation-back : (r : ℕ) → r < length R → relationMembers (packed (fileParts n S R d)) n (length S) r ≡ getD R r 0
   relation-back = held-relation file n S R d fields
-
-  pub length-back : length (packed (fileParts n S R d)) ≡ bytesFor (10 + n * length S + n * n * length R + nodeBits d)
-  length-back = length-packed (fileParts n S R d) ∙ ap bytesFor (width-file n S R d)

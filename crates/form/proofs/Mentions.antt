@@ -263,7 +263,3 @@ module _ (m : ℕ) where
   pub few-distinct : (xs : List ℕ) → All (λ x. x < m) xs → Few m (distinct xs)
   unfolding distinct
   few-distinct xs below = few-all [] xs few-none below
-
--- The distinct ones of a list that is not empty are at least one.
-pub distinct-some : (xs : List ℕ) (x : ℕ) → isIn xs x ≡ true → 1 ≤ length (distinct xs)
-distinct-some xs x h = omega (arith, place-below (distinct xs) x (in-distinct xs x ∙ h))

@@ -97,10 +97,6 @@ module _ (s : List ℕ) (at : ℕ) (ps : List Part) where
   unfolding putAll
   all-fits inside fits = rw (has-room s at (widthOf ps) inside fits)
 
-  pub length-all : length (putAll s at ps) ≡ length s
-  unfolding putAll
-  length-all = either (λ l. length l ≡ length s) (hasRoom s at (widthOf ps)) _ s (length-parts s at ps) refl
-
   -- Fields of 1 to 64 bits together are written as one.
   pub all-joined : 1 ≤ widthOf ps → widthOf ps ≤ 64 → putField s at (widthOf ps) (valueOf ps) ≡ putAll s at ps
   unfolding putField putAll isThere hasRoom
