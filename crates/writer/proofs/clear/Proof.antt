@@ -22,8 +22,7 @@ kept c = ap length (c .loop .inv .1) ∙ length-cleared (c .before .before .befo
 pub clear-spec : {M : Type 1} → statement M
 clear-spec =
     tie.close
-    (tie.spec Inv-loop
-    μ-loop
+    (tie.spec Inv-loop μ-loop
     (λ c κs. search needs)
     (λ c. (search needs, sym (cleared-within _ 0 (omega arith))))
     (λ c. omega (arith, kept (c .before)))

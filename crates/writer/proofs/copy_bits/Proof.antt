@@ -27,8 +27,7 @@ pub copy-bits-spec : {M : Type 1} → statement M
 unfolding putBits
 copy-bits-spec =
     tie.close
-    (tie.spec Inv-loop
-    μ-loop
+    (tie.spec Inv-loop μ-loop
     (λ c. (search needs, refl))
     (λ c. search needs) (λ c κs. search needs) (λ c. omega arith) (λ c. omega arith) (λ c κs. search needs) (λ c κs. search needs)
     (λ c. search needs) (λ c. search needs)

@@ -26,8 +26,7 @@ pub put-bits-spec : {M : Type 1} → statement M
 unfolding putBits
 put-bits-spec =
     tie.close
-    (tie.spec Inv-loop
-    μ-loop
+    (tie.spec Inv-loop μ-loop
     (λ c. (search needs, refl))
     (λ c. search needs) (λ c. search needs) (λ c κs. search needs) (λ c. search needs) (λ c. search needs) (λ c. search needs)
     (λ c κs. (omega arith, omega arith, omega (arith, kept (c .before .before .before))))

@@ -26,8 +26,7 @@ pub clear-spec : {M : Type 1} → statement M
 unfolding tabulate written
 clear-spec =
     tie.close
-    (tie.spec Inv-loop
-    μ-loop
+    (tie.spec Inv-loop μ-loop
     (λ c κs. search needs)
     (λ c. (search needs, refl))
     (λ c. omega (arith, kept (c .before)))

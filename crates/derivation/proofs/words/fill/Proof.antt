@@ -40,8 +40,7 @@ past s n sets relations i over =
 pub fill-spec : {M : Type 1} → statement M
 fill-spec =
     tie.close
-    (tie.spec Inv-loop
-    μ-loop
+    (tie.spec Inv-loop μ-loop
     (λ c κs. search needs) (λ c κs. search needs)
     (λ c. let a = c .before .before .before .before .before .before .before .args in
     let none = c .before .before .before .clear .ensures in

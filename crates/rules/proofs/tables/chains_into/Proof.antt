@@ -37,8 +37,7 @@ one c =
 pub chains-into-spec : {M : Type 1} → statement M
 chains-into-spec =
     tie.close
-    (tie.spec Inv-loop
-    μ-loop
+    (tie.spec Inv-loop μ-loop
     (λ c κs. search needs) (λ c κs. search needs)
     (λ c. passed-none _ _ _ (start-below _ (c .before .before .before .args .from) _ (start c)))
     (λ c κs. search needs) (λ c κs. search needs) (λ c κs. search needs) (λ c κs. search needs)

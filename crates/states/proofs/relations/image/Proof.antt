@@ -33,8 +33,7 @@ pub image-spec : {M : Type 1} → statement M
 unfolding has
 image-spec =
     tie.close
-    (tie.spec Inv-loop
-    μ-loop
+    (tie.spec Inv-loop μ-loop
     (λ c κs. search needs) (λ c κs. search needs) (λ c κs. search needs) (λ c κs. search needs)
     (λ c. gathered-none _ _ _ _ (start-below _ (c .before .before .before .before .before .args .set) _ (start (c .before))) (c .empty .ensures))
     (λ c κs. search needs) (λ c κs. search needs) (λ c. search needs) (λ c. search needs)

@@ -37,8 +37,7 @@ row-ends c =
 pub starting-spec : {M : Type 1} → statement M
 starting-spec =
     tie.close
-    (tie.spec Inv-loop
-    μ-loop
+    (tie.spec Inv-loop μ-loop
     (λ c κs. search needs) (λ c κs. search needs) (λ c κs. search needs)
     loop-holds
     (λ c. search needs) (λ c. search needs) (λ c. search needs) (λ c κs. search needs) (λ c κs. search needs) (λ c. search needs) (λ c. search needs)

@@ -27,8 +27,7 @@ pub put-members-spec : {M : Type 1} → statement M
 unfolding putBits
 put-members-spec =
     tie.close
-    (tie.spec Inv-loop
-    μ-loop
+    (tie.spec Inv-loop μ-loop
     (λ c. search needs)
     (λ c. let a = c .before .args in
     let none : min (64 * 0) (a .n) ≡ 0 = omega arith in
