@@ -5,6 +5,7 @@ use mathlib.Core.Path.{_≡_, refl, _∙_, ap}
 use native.Mathlib.Omega.{arith}
 use lib.ListN.{length, getD, drop, length-append}
 use lib.Seq.{getD-drop}
+use Rattle.semantics.specs.declared.Names.{Names}
 use Rattle.semantics.specs.Derivations.{Derivation, skip, assignment, sequence, parallel, conditional, iteration, weaken, namesOf, nodes}
 use Rattle.derivation.specs.declared.Node.{Node}
 use Rattle.derivation.specs.declared.NodeHead.{NodeHead}
@@ -19,60 +20,52 @@ module _ (rule P R G Q K W after bit : ℕ) (rule-fits : rule < 8) (P-fits : P <
   abbrev word : ℕ
   word = rule + 8 * (P + 16 * (R + 16 * (G + 16 * (Q + 16 * (K + 16 * (W + 16 * (after + 128 * bit)))))))
 
-  rule-back : word % 8 ≡ rule
-  rule-back = omega arith
-
-  P-back : word / 2 ^ 3 % 16 ≡ P
-  P-back = omega arith
-
-  R-back : word / 2 ^ 7 % 16 ≡ R
-  R-back = omega arith
-
-  G-back : word / 2 ^ 11 % 16 ≡ G
-  G-back = omega arith
-
-  Q-back : word / 2 ^ 15 % 16 ≡ Q
-  Q-back = omega arith
-
-  K-back : word / 2 ^ 19 % 16 ≡ K
-  K-back = omega arith
-
-  W-back : word / 2 ^ 23 % 16 ≡ W
-  W-back = omega arith
-
-  after-back : word / 2 ^ 27 % 128 ≡ after
-  after-back = omega arith
-
-  bit-back : word / 2 ^ 34 ≡ bit
-  bit-back = omega arith
+  fields : (word % 8 ≡ rule) × (word / 2 ^ 3 % 16 ≡ P) × (word / 2 ^ 7 % 16 ≡ R) × (word / 2 ^ 11 % 16 ≡ G) × (word / 2 ^ 15 % 16 ≡ Q)
+      × (word / 2 ^ 19 % 16 ≡ K) × (word / 2 ^ 23 % 16 ≡ W) × (word / 2 ^ 27 % 128 ≡ after) × (word / 2 ^ 34 ≡ bit)
+  fields = (omega arith, omega arith, omega arith, omega arith, omega arith, omega arith, omega arith, omega arith, omega arith)
 
   fields-back : nodeOf word ≡ record { rule = rule; names = record { p = P; r = R; g = G; q = Q }; k = K; w = W; after = after; bit = bit }
   unfolding nodeOf
-  fields-back = rw (rule-back, P-back, R-back, G-back, Q-back, K-back, W-back, after-back, bit-back)
+  fields-back = rw (fields .0, fields .1, fields .2, fields .3, fields .4, fields .5, fields .6, fields .7, fields .8)
 
 pub node-back : (x : Node) → Fits x → nodeOf (nodeWord x) ≡ x
 unfolding nodeWord
 node-back x f = fields-back _ _ _ _ _ _ _ _ _ (f .rule-fits) (f .P-fits) (f .R-fits) (f .G-fits) (f .Q-fits) (f .K-fits) (f .W-fits) (f .after-fits)
 
--- Every node of a derivation names tables that there are.
-module _ (sets relations : ℕ) where
-  abbrev pub Known : Derivation → Type 0
-  Known (skip h) = Named sets relations h
-  Known (assignment h) = Named sets relations h
-  Known (sequence h l r) = Named sets relations h × Known l × Known r
-  Known (parallel h l r) = Named sets relations h × Known l × Known r
-  Known (conditional h d) = Named sets relations h × Known d
-  Known (iteration h K W d) = Named sets relations h × (K < sets) × (W < relations) × Known d
-  Known (weaken h d) = Named sets relations h × Known d
+-- What holds at the root of each rule's derivations.
+pub by-rule : (F : Derivation → Type 0) → ((h : Names) → F (skip h)) → ((h : Names) → F (assignment h))
+    → ((h : Names) (l r : Derivation) → F (sequence h l r)) → ((h : Names) (l r : Derivation) → F (parallel h l r))
+    → ((h : Names) (d : Derivation) → F (conditional h d)) → ((h : Names) (K W : ℕ) (d : Derivation) → F (iteration h K W d))
+    → ((h : Names) (d : Derivation) → F (weaken h d)) → (d : Derivation) → F d
+by-rule F a b c e f g i (skip h) = a h
+by-rule F a b c e f g i (assignment h) = b h
+by-rule F a b c e f g i (sequence h l r) = c h l r
+by-rule F a b c e f g i (parallel h l r) = e h l r
+by-rule F a b c e f g i (conditional h d) = f h d
+by-rule F a b c e f g i (iteration h K W d) = g h K W d
+by-rule F a b c e f g i (weaken h d) = i h d
 
-  pub names-known : (d : Derivation) → Known d → Named sets relations (namesOf d)
-  names-known (skip h) known = known
-  names-known (assignment h) known = known
-  names-known (sequence h l r) known = known .0
-  names-known (parallel h l r) known = known .0
-  names-known (conditional h d) known = known .0
-  names-known (iteration h K W d) known = known .0
-  names-known (weaken h d) known = known .0
+-- A fact of the names of every node, with one of K and one of W at a while.
+module _ (Own : Names → Type 0) (P Q : ℕ → Type 0) where
+  abbrev pub EveryNode : Derivation → Type 0
+  EveryNode (skip h) = Own h
+  EveryNode (assignment h) = Own h
+  EveryNode (sequence h l r) = Own h × EveryNode l × EveryNode r
+  EveryNode (parallel h l r) = Own h × EveryNode l × EveryNode r
+  EveryNode (conditional h d) = Own h × EveryNode d
+  EveryNode (iteration h K W d) = Own h × P K × Q W × EveryNode d
+  EveryNode (weaken h d) = Own h × EveryNode d
+
+  pub at-root : (d : Derivation) → EveryNode d → Own (namesOf d)
+  at-root = by-rule (λ d. EveryNode d → Own (namesOf d)) (λ h e. e) (λ h e. e) (λ h l r e. e .0) (λ h l r e. e .0) (λ h d e. e .0)
+      (λ h K W d e. e .0) (λ h d e. e .0)
+
+-- Every node of a derivation names tables that there are.
+abbrev pub Known : ℕ → ℕ → Derivation → Type 0
+Known sets relations = EveryNode (Named sets relations) (λ K. K < sets) (λ W. W < relations)
+
+pub names-known : (sets relations : ℕ) (d : Derivation) → Known sets relations d → Named sets relations (namesOf d)
+names-known sets relations = at-root _ _ _
 
 pub length-nodeWords : (i bit : ℕ) (d : Derivation) → length (nodeWords i bit d) ≡ nodes d
 length-nodeWords i bit (skip h) = refl
@@ -86,13 +79,9 @@ length-nodeWords i bit (iteration h K W d) = ap suc (length-nodeWords (suc i) (b
 length-nodeWords i bit (weaken h d) = ap suc (length-nodeWords (suc i) (bit + 19) d)
 
 first-word : (i bit : ℕ) (d : Derivation) (rest : List ℕ) → getD (nodeWords i bit d ++ rest) 0 0 ≡ nodeWord (nodeRecord i bit d)
-first-word i bit (skip h) rest = refl
-first-word i bit (assignment h) rest = refl
-first-word i bit (sequence h l r) rest = refl
-first-word i bit (parallel h l r) rest = refl
-first-word i bit (conditional h d) rest = refl
-first-word i bit (iteration h K W d) rest = refl
-first-word i bit (weaken h d) rest = refl
+first-word i bit =
+    by-rule (λ d. (rest : List ℕ) → getD (nodeWords i bit d ++ rest) 0 0 ≡ nodeWord (nodeRecord i bit d))
+    (λ h _. refl) (λ h _. refl) (λ h l r _. refl) (λ h l r _. refl) (λ h d _. refl) (λ h K W d _. refl) (λ h d _. refl)
 
 -- A node that names tables that there are has room in a word.
 module _ (sets relations : ℕ) (few-sets : sets ≤ mostTables) (few-relations : relations ≤ mostTables) where

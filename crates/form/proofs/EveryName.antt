@@ -2,9 +2,9 @@
 use Prim.Native.Nat.{ℕ, _<_}
 use mathlib.Core.List.{List, [], _∷_, _++_}
 use Rattle.semantics.specs.declared.Names.{Names}
-use Rattle.semantics.specs.Derivations.{Derivation, skip, assignment, sequence, parallel, conditional, iteration, weaken, namesOf}
+use Rattle.semantics.specs.Derivations.{Derivation, skip, assignment, sequence, parallel, conditional, iteration, weaken}
 use Rattle.derivation.proofs.Heads.{Named}
-use Rattle.derivation.proofs.NodeTable.{Known}
+use Rattle.derivation.proofs.NodeTable.{EveryNode, Known}
 use Rattle.form.specs.Mentions.{setsOf, relationsOf, inOrder}
 use Rattle.form.proofs.Mentions.{All, all-none, all-cons, all-first, all-rest, all-both, all-left, all-right}
 
@@ -14,23 +14,7 @@ module _ (P Q : ℕ → Type 0) where
   OwnNames h = P (h .p) × Q (h .r) × Q (h .g) × Q (h .q)
 
   abbrev pub EveryName : Derivation → Type 0
-  EveryName (skip h) = OwnNames h
-  EveryName (assignment h) = OwnNames h
-  EveryName (sequence h l r) = OwnNames h × EveryName l × EveryName r
-  EveryName (parallel h l r) = OwnNames h × EveryName l × EveryName r
-  EveryName (conditional h d) = OwnNames h × EveryName d
-  EveryName (iteration h K W d) = OwnNames h × P K × Q W × EveryName d
-  EveryName (weaken h d) = OwnNames h × EveryName d
-
-  -- At the root.
-  pub own-names : (d : Derivation) → EveryName d → OwnNames (namesOf d)
-  own-names (skip h) e = e
-  own-names (assignment h) e = e
-  own-names (sequence h l r) e = e .0
-  own-names (parallel h l r) e = e .0
-  own-names (conditional h d) e = e .0
-  own-names (iteration h K W d) e = e .0
-  own-names (weaken h d) e = e .0
+  EveryName = EveryNode OwnNames P Q
 
   -- The mentions of a node are the first of the lists.
   module _ (h : Names) (relations : List ℕ) where
@@ -97,19 +81,24 @@ module _ (P Q : ℕ → Type 0) where
   every-relation (iteration h K W d) e = three-added h _ (e .0) (all-cons Q W _ (e .2) (every-relation d (e .3)))
   every-relation (weaken h d) e = three-added h _ (e .0) (every-relation d (e .1))
 
+-- A fact at every node, from another.
+every-imp : {Own Own′ : Names → Type 0} {P P′ Q Q′ : ℕ → Type 0} → ((h : Names) → Own h → Own′ h) → ((K : ℕ) → P K → P′ K) → ((W : ℕ) → Q W → Q′ W)
+    → (d : Derivation) → EveryNode Own P Q d → EveryNode Own′ P′ Q′ d
+every-imp own p q (skip h) e = own h e
+every-imp own p q (assignment h) e = own h e
+every-imp own p q (sequence h l r) e = (own h (e .0), every-imp own p q l (e .1), every-imp own p q r (e .2))
+every-imp own p q (parallel h l r) e = (own h (e .0), every-imp own p q l (e .1), every-imp own p q r (e .2))
+every-imp own p q (conditional h d) e = (own h (e .0), every-imp own p q d (e .1))
+every-imp own p q (iteration h K W d) e = (own h (e .0), p K (e .1), q W (e .2), every-imp own p q d (e .3))
+every-imp own p q (weaken h d) e = (own h (e .0), every-imp own p q d (e .1))
+
 -- Names below the counts, as the reader leaves them.
 module _ (sets relations : ℕ) where
   own-named : (h : Names) → OwnNames (λ i. i < sets) (λ r. r < relations) h → Named sets relations h
   own-named h e = record { P-below = e .0; R-below = e .1; G-below = e .2; Q-below = e .3 }
 
   pub every-known : (d : Derivation) → EveryName (λ i. i < sets) (λ r. r < relations) d → Known sets relations d
-  every-known (skip h) e = own-named h e
-  every-known (assignment h) e = own-named h e
-  every-known (sequence h l r) e = (own-named h (e .0), every-known l (e .1), every-known r (e .2))
-  every-known (parallel h l r) e = (own-named h (e .0), every-known l (e .1), every-known r (e .2))
-  every-known (conditional h d) e = (own-named h (e .0), every-known d (e .1))
-  every-known (iteration h K W d) e = (own-named h (e .0), e .1, e .2, every-known d (e .3))
-  every-known (weaken h d) e = (own-named h (e .0), every-known d (e .1))
+  every-known = every-imp own-named (λ K l. l) (λ W l. l)
 
   -- What holds below the counts holds at each node of a derivation that was read.
   module _ (P Q : ℕ → Type 0) (a : (i : ℕ) → i < sets → P i) (b : (r : ℕ) → r < relations → Q r) where
@@ -117,13 +106,7 @@ module _ (sets relations : ℕ) where
     named-own h n = (a _ (n .P-below), b _ (n .R-below), b _ (n .G-below), b _ (n .Q-below))
 
     pub known-every : (d : Derivation) → Known sets relations d → EveryName P Q d
-    known-every (skip h) n = named-own h n
-    known-every (assignment h) n = named-own h n
-    known-every (sequence h l r) n = (named-own h (n .0), known-every l (n .1), known-every r (n .2))
-    known-every (parallel h l r) n = (named-own h (n .0), known-every l (n .1), known-every r (n .2))
-    known-every (conditional h d) n = (named-own h (n .0), known-every d (n .1))
-    known-every (iteration h K W d) n = (named-own h (n .0), a K (n .1), b W (n .2), known-every d (n .3))
-    known-every (weaken h d) n = (named-own h (n .0), known-every d (n .1))
+    known-every = every-imp named-own a b
 
   pub known-sets : (d : Derivation) → Known sets relations d → All (λ i. i < sets) (inOrder setsOf d)
   known-sets d n = every-set _ _ d (known-every _ (λ r. r < relations) (λ i l. l) (λ r l. l) d n)

@@ -2,7 +2,7 @@
 use Prim.Native.Nat.{ℕ, zero, suc, _+_, _*_, _^_, _≤_, _<_}
 use mathlib.Core.Bool.{true, or-true}
 use mathlib.Core.List.{List, [], _∷_, _++_, map}
-use mathlib.Core.Path.{_≡_, refl, sym, _∙_, ap}
+use mathlib.Core.Path.{_≡_, refl, sym}
 use native.Mathlib.Nat.{mul-zero, mul-suc}
 use native.Mathlib.Omega.{arith}
 use borrow.Author.Tests.{le-leb, eq-eqb}
@@ -187,6 +187,3 @@ module _ (n : ℕ) (S R : List ℕ) (d : Derivation) (x : Encodable n S R d) whe
 
   pub relation-back : (r : ℕ) → r < length R → relationMembers (packed (fileParts n S R d)) n (length S) r ≡ getD R r 0
   relation-back = held-relation file n S R d fields
-
-  pub length-back : length (packed (fileParts n S R d)) ≡ bytesFor (10 + n * length S + n * n * length R + nodeBits d)
-  length-back = length-packed (fileParts n S R d) ∙ ap bytesFor (width-file n S R d)

@@ -104,9 +104,6 @@ module _ (bytes : List ℕ) (n sets relations root : ℕ) (d : Derivation) (e : 
         levels-most = rw (levels-rename (setMembers bytes n) (relationMembers bytes n sets) d) (shown .levels-most);
       }
 
-  pub encodable : Encodable n (setsIn x) (relationsIn x) (numbered x)
-  encodable = any-encodable n x writable
-
   -- Its form is read with the same rules over tables with the same members.
   pub form-read : readProof (formOf n x) n
       ≡ proof (length (setsIn x)) (length (relationsIn x)) (rowAt n (length (setsIn x)) (length (relationsIn x)) 0) (numbered x)

@@ -1,6 +1,6 @@
 -- Laws of first mention: where an element of a list is, what a mention adds, and how many distinct ones there can be.
 use Prim.Native.Nat.{ℕ, zero, suc, _+_, _≤_, _<_}
-use mathlib.Core.Bool.{Bool, true, false, cond, _||_, or-false, or-assoc, false≢true}
+use mathlib.Core.Bool.{Bool, true, false, cond, not, _||_, or-false, or-assoc, false≢true}
 use mathlib.Core.List.{List, [], _∷_, _++_, map, append-nil, append-assoc}
 use mathlib.Core.Path.{_≡_, refl, sym, _∙_, ap, subst}
 use mathlib.Core.Logic.{⊎-elim}
@@ -9,7 +9,8 @@ use native.Mathlib.Omega.{arith}
 use borrow.Author.Tests.{eqb-true, eq-eqb, lt-ltb, le-ltb}
 use lib.Dec.{ltb, eqb}
 use lib.ListN.{length, getD, length-append}
-use Rattle.states.proofs.Search.{or-left, or-right, or-cases, below-cases}
+use Rattle.states.proofs.Search.{or-left, or-right, or-cases}
+use Rattle.states.proofs.Reach.{count, count-more, count-all}
 use Rattle.form.specs.Mentions.{isIn, placeIn, mentioned, allMentioned, distinct}
 
 -- The place of x in a list that has x, or has it not.
@@ -198,43 +199,24 @@ all-map P f [] all = all-none P
 all-map P f (y ∷ l) all = all-cons P (f y) (map f l) (all-first (λ x. P (f x)) y l all) (all-map P f l (all-rest (λ x. P (f x)) y l all))
 
 -- How many of the numbers below m are not in a list.
-unfoldable pub unseen : ℕ → List ℕ → ℕ
-unseen zero l = 0
-unseen (suc m) l = unseen m l + cond (isIn l m) 0 1
+abbrev pub unseen : ℕ → List ℕ → ℕ
+unseen m l = count m (λ x. not (isIn l x))
 
 -- The elements of a list and the numbers below m that are not in it are together at most m.
 pub record Few (m : ℕ) (l : List ℕ) : Type 0 where
   pub room : length l + unseen m l ≤ m
 
--- A list with more in it leaves fewer numbers.
-digit-less : (a b : Bool) → (a ≡ true → b ≡ true) → cond {A = ℕ} b 0 1 ≤ cond a 0 1
-digit-less true b h = rw (h refl) (omega arith)
-digit-less false true h = omega arith
-digit-less false false h = omega arith
-
-module _ (a b : List ℕ) (more : All (λ x. isIn b x ≡ true) a) where
-  unseen-mono : (m : ℕ) → unseen m b ≤ unseen m a
-  unfolding unseen
-  unseen-mono zero = omega arith
-  unseen-mono (suc m) = omega (arith, unseen-mono m, digit-less (isIn a m) (isIn b m) (more m))
-
-  unseen-less : (m x : ℕ) → x < m → isIn a x ≡ false → isIn b x ≡ true → unseen m b < unseen m a
-  unfolding unseen
-  unseen-less zero x l out into = absurd (omega arith)
-  unseen-less (suc m) x l out into =
-      below-cases (λ y. isIn a y ≡ false → isIn b y ≡ true → unseen (suc m) b < unseen (suc m) a) m x l
-      (λ o i. rw (o, i) (omega (arith, unseen-mono m)))
-      (λ low o i. omega (arith, unseen-less m x low o i, digit-less (isIn a m) (isIn b m) (more m)))
-      out into
+neither : (a b : Bool) → not (a || b) ≡ true → not a ≡ true
+neither true b h = h
+neither false b h = refl
 
 module _ (m : ℕ) where
   pub few-none : Few m []
-  unfolding unseen isIn
-  few-none = record { room = most m }
+  unfolding isIn
+  few-none = record { room = most }
     where
-      most : (m : ℕ) → 0 + unseen m [] ≤ m
-      most zero = omega arith
-      most (suc m) = omega (arith, most m)
+      most : 0 + count m (λ x. true) ≤ m
+      most = omega (arith, count-all m)
 
   pub few-length : (l : List ℕ) → Few m l → length l ≤ m
   few-length l few = omega (arith, few .room)
@@ -242,7 +224,8 @@ module _ (m : ℕ) where
   module _ (l : List ℕ) (few : Few m l) (x : ℕ) (below : x < m) where
     -- A number below m that is not there leaves room.
     fewer : isIn l x ≡ false → unseen m (mentioned l x) < unseen m l
-    fewer out = unseen-less l (mentioned l x) (λ y h. in-mentioned l x y ∙ or-left _ _ h) m x below out (mentioned-in l x)
+    fewer out =
+        count-more m _ _ (λ y h. neither (isIn l y) (eqb x y) (ap not (sym (in-mentioned l x y)) ∙ h)) x below (ap not (mentioned-in l x)) (ap not out)
 
     pub few-room : isIn l x ≡ false → length l < m
     few-room out = omega (arith, few .room, fewer out)
@@ -263,7 +246,3 @@ module _ (m : ℕ) where
   pub few-distinct : (xs : List ℕ) → All (λ x. x < m) xs → Few m (distinct xs)
   unfolding distinct
   few-distinct xs below = few-all [] xs few-none below
-
--- The distinct ones of a list that is not empty are at least one.
-pub distinct-some : (xs : List ℕ) (x : ℕ) → isIn xs x ≡ true → 1 ≤ length (distinct xs)
-distinct-some xs x h = omega (arith, place-below (distinct xs) x (in-distinct xs x ∙ h))

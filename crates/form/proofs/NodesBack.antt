@@ -21,7 +21,7 @@ use Rattle.derivation.specs.Nodes.{NodeRead, whole, onChild, onLeftNode, onNode
 use Rattle.derivation.specs.Nodes.{namedTable, loopHead, namesHead, ruleHead, nodeHead}
 use Rattle.derivation.specs.NodeTable.{ruleOf, loopNames, nodeBits}
 use Rattle.derivation.proofs.Heads.{Named, named-there}
-use Rattle.derivation.proofs.NodeTable.{Known, names-known}
+use Rattle.derivation.proofs.NodeTable.{Known, by-rule, names-known}
 use Rattle.form.specs.Mentions.{inOrder, rootNode}
 use Rattle.form.specs.Form.{partsOf}
 
@@ -38,13 +38,10 @@ width-nodes (weaken h d) = omega (arith, width-nodes d)
 
 -- The least that a derivation has.
 least-size : (d : Derivation) → (ruleOf d < 7) × (1 ≤ levels d) × (1 ≤ nodes d) × (19 ≤ nodeBits d)
-least-size (skip h) = omega arith
-least-size (assignment h) = omega arith
-least-size (sequence h l r) = omega arith
-least-size (parallel h l r) = omega arith
-least-size (conditional h d) = omega arith
-least-size (iteration h K W d) = omega arith
-least-size (weaken h d) = omega arith
+least-size =
+    by-rule (λ d. (ruleOf d < 7) × (1 ≤ levels d) × (1 ≤ nodes d) × (19 ≤ nodeBits d))
+    (λ h. omega arith) (λ h. omega arith) (λ h l r. omega arith) (λ h l r. omega arith) (λ h d. omega arith) (λ h K W d. omega arith)
+    (λ h d. omega arith)
 
 module _ (bytes : List ℕ) (sets relations : ℕ) where
   -- A name of a table that there is.
@@ -186,13 +183,10 @@ module _ (sets relations : ℕ) (few-sets : sets ≤ mostTables) (few-relations 
   root-fit d known = node-fit (rootNode d) (names-known sets relations d known) (small d known)
     where
       small : (d : Derivation) → Known sets relations d → (ruleOf d < 8) × (loopNames d .0 < 16) × (loopNames d .1 < 16)
-      small (skip h) known = omega arith
-      small (assignment h) known = omega arith
-      small (sequence h l r) known = omega arith
-      small (parallel h l r) known = omega arith
-      small (conditional h d) known = omega arith
-      small (iteration h K W d) known = omega (arith, known .1, known .2)
-      small (weaken h d) known = omega arith
+      small =
+          by-rule (λ d. Known sets relations d → (ruleOf d < 8) × (loopNames d .0 < 16) × (loopNames d .1 < 16)) (λ h k. omega arith)
+          (λ h k. omega arith)
+          (λ h l r k. omega arith) (λ h l r k. omega arith) (λ h d k. omega arith) (λ h K W d k. omega (arith, k .1, k .2)) (λ h d k. omega arith)
 
   pub nodes-fit : (d : Derivation) → Known sets relations d → Fitting (inOrder partsOf d)
   unfolding inOrder

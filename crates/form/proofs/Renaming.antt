@@ -7,7 +7,7 @@ use Rattle.semantics.specs.declared.Names.{Names}
 use Rattle.semantics.specs.Derivations.{Derivation, skip, assignment, sequence, parallel, conditional, iteration, weaken, namesOf, nodes, levels}
 use Rattle.derivation.specs.declared.Node.{Node}
 use Rattle.derivation.specs.NodeTable.{nodeBits}
-use Rattle.derivation.proofs.NodeTable.{Known}
+use Rattle.derivation.proofs.NodeTable.{Known, by-rule}
 use Rattle.form.specs.Members.{namesBy, nodeBy, rename}
 use Rattle.form.specs.Mentions.{setsOf, relationsOf, rootNode, inOrder}
 use Rattle.form.specs.Form.{partsOf}
@@ -60,58 +60,40 @@ module _ (f g f′ g′ : ℕ → ℕ) where
   rename-same d a b = rename-agree d (every-name _ _ d a b)
 
 module _ (f g : ℕ → ℕ) where
-  pub names-renamed : (d : Derivation) → namesOf (rename f g d) ≡ namesBy f g (namesOf d)
+  -- As many nodes, levels and bits.
+  counts-renamed : (d : Derivation) → (nodes (rename f g d) ≡ nodes d) × (levels (rename f g d) ≡ levels d) × (nodeBits (rename f g d) ≡ nodeBits d)
   unfolding rename
-  names-renamed (skip h) = refl
-  names-renamed (assignment h) = refl
-  names-renamed (sequence h l r) = refl
-  names-renamed (parallel h l r) = refl
-  names-renamed (conditional h d) = refl
-  names-renamed (iteration h K W d) = refl
-  names-renamed (weaken h d) = refl
+  counts-renamed (skip h) = (refl, refl, refl)
+  counts-renamed (assignment h) = (refl, refl, refl)
+  counts-renamed (sequence h l r) = let (a, b, c) = counts-renamed l in let (x, y, z) = counts-renamed r in rw (a, b, c, x, y, z) (refl, refl, refl)
+  counts-renamed (parallel h l r) = let (a, b, c) = counts-renamed l in let (x, y, z) = counts-renamed r in rw (a, b, c, x, y, z) (refl, refl, refl)
+  counts-renamed (conditional h d) = let (a, b, c) = counts-renamed d in rw (a, b, c) (refl, refl, refl)
+  counts-renamed (iteration h K W d) = let (a, b, c) = counts-renamed d in rw (a, b, c) (refl, refl, refl)
+  counts-renamed (weaken h d) = let (a, b, c) = counts-renamed d in rw (a, b, c) (refl, refl, refl)
 
   pub nodes-rename : (d : Derivation) → nodes (rename f g d) ≡ nodes d
-  unfolding rename
-  nodes-rename (skip h) = refl
-  nodes-rename (assignment h) = refl
-  nodes-rename (sequence h l r) = rw (nodes-rename l, nodes-rename r)
-  nodes-rename (parallel h l r) = rw (nodes-rename l, nodes-rename r)
-  nodes-rename (conditional h d) = rw (nodes-rename d)
-  nodes-rename (iteration h K W d) = rw (nodes-rename d)
-  nodes-rename (weaken h d) = rw (nodes-rename d)
+  nodes-rename d = counts-renamed d .0
 
   pub levels-rename : (d : Derivation) → levels (rename f g d) ≡ levels d
-  unfolding rename
-  levels-rename (skip h) = refl
-  levels-rename (assignment h) = refl
-  levels-rename (sequence h l r) = rw (levels-rename l, levels-rename r)
-  levels-rename (parallel h l r) = rw (levels-rename l, levels-rename r)
-  levels-rename (conditional h d) = rw (levels-rename d)
-  levels-rename (iteration h K W d) = rw (levels-rename d)
-  levels-rename (weaken h d) = rw (levels-rename d)
+  levels-rename d = counts-renamed d .1
 
   pub nodeBits-rename : (d : Derivation) → nodeBits (rename f g d) ≡ nodeBits d
-  unfolding rename
-  nodeBits-rename (skip h) = refl
-  nodeBits-rename (assignment h) = refl
-  nodeBits-rename (sequence h l r) = rw (nodeBits-rename l, nodeBits-rename r)
-  nodeBits-rename (parallel h l r) = rw (nodeBits-rename l, nodeBits-rename r)
-  nodeBits-rename (conditional h d) = rw (nodeBits-rename d)
-  nodeBits-rename (iteration h K W d) = rw (nodeBits-rename d)
-  nodeBits-rename (weaken h d) = rw (nodeBits-rename d)
+  nodeBits-rename d = counts-renamed d .2
 
-  -- The root's own sets, relations and fields.
+  -- The root's own sets, relations, fields and names.
   root-renamed : (d : Derivation) → (setsOf (rootNode (rename f g d)) ≡ map f (setsOf (rootNode d)))
       × (relationsOf (rootNode (rename f g d)) ≡ map g (relationsOf (rootNode d)))
-      × (partsOf (rootNode (rename f g d)) ≡ partsOf (nodeBy f g (rootNode d)))
+      × (partsOf (rootNode (rename f g d)) ≡ partsOf (nodeBy f g (rootNode d))) × (namesOf (rename f g d) ≡ namesBy f g (namesOf d))
   unfolding rename setsOf relationsOf partsOf
-  root-renamed (skip h) = (refl, refl, refl)
-  root-renamed (assignment h) = (refl, refl, refl)
-  root-renamed (sequence h l r) = (refl, refl, refl)
-  root-renamed (parallel h l r) = (refl, refl, refl)
-  root-renamed (conditional h d) = (refl, refl, refl)
-  root-renamed (iteration h K W d) = (refl, refl, refl)
-  root-renamed (weaken h d) = (refl, refl, refl)
+  root-renamed =
+      by-rule (λ d. (setsOf (rootNode (rename f g d)) ≡ map f (setsOf (rootNode d))) ×
+      (relationsOf (rootNode (rename f g d)) ≡ map g (relationsOf (rootNode d)))
+      × (partsOf (rootNode (rename f g d)) ≡ partsOf (nodeBy f g (rootNode d))) × (namesOf (rename f g d) ≡ namesBy f g (namesOf d)))
+      (λ h. (refl, refl, refl, refl)) (λ h. (refl, refl, refl, refl)) (λ h l r. (refl, refl, refl, refl)) (λ h l r. (refl, refl, refl, refl))
+      (λ h d. (refl, refl, refl, refl)) (λ h K W d. (refl, refl, refl, refl)) (λ h d. (refl, refl, refl, refl))
+
+  pub names-renamed : (d : Derivation) → namesOf (rename f g d) ≡ namesBy f g (namesOf d)
+  names-renamed d = root-renamed d .3
 
   -- What the nodes have under the new names, if the root's is known from the root under the old ones.
   module _ {A : Type 0} (own old : Node → List A) (root : (d : Derivation) → own (rootNode (rename f g d)) ≡ old (rootNode d)) where

@@ -18,9 +18,9 @@ use Rattle.semantics.specs.Derivations.{Derivation, skip, assignment, sequence,
 use Rattle.semantics.specs.Conditions.{statementCode, targetOf, exprOf, firstOf}
 use Rattle.semantics.specs.Checking.{firstBroken, orBroken, atNode, skipObligations, assignmentObligations, sequenceObligations, parallelObligations, ifObligations, whileObligations, weakenObligations, obligations, firstFault}
 use Rattle.derivation.specs.Tables.{setAt, rowAt, inSetOf, inRelationOf}
-use Rattle.derivation.proofs.NodeTable.{Known}
+use Rattle.derivation.proofs.NodeTable.{Known, at-root}
 use Rattle.form.specs.Members.{namesBy, rename, setMembers, relationMembers, byMembers}
-use Rattle.form.proofs.EveryName.{OwnNames, EveryName, own-names, every-name, known-every}
+use Rattle.form.proofs.EveryName.{OwnNames, EveryName, every-name, known-every}
 use Rattle.form.proofs.Renaming.{names-renamed, nodes-rename}
 
 -- Bit j of w bits, the first the most significant.
@@ -59,7 +59,7 @@ module _ (t : Tables) (inSet : ℕ → ℕ → Bool) (inRelation : ℕ → ℕ �
   own-spec h e = rw (e .0, e .1, e .2, e .3)
 
   root-spec : (d : Derivation) → Same d → specOf t (namesOf d) ≡ specOf u (namesOf (rename f g d))
-  root-spec d e = own-spec (namesOf d) (own-names SameSet SameRelation d e) ∙ ap (specOf u) (sym (names-renamed f g d))
+  root-spec d e = own-spec (namesOf d) (at-root _ _ _ d e) ∙ ap (specOf u) (sym (names-renamed f g d))
 
   -- The conditions of a node look at the members only.
   same-obligations : (d : Derivation) → Same d → (S : Stmt) → obligations t d S ≡ obligations u (rename f g d) S

@@ -13,7 +13,7 @@ use borrow.Author.Tests.{lt-ltb, le-ltb, le-leb, eqb-true}
 use Rattle.states.specs.Search.{implies, all, any, must, holds}
 use Rattle.states.specs.Sets.{capacity, has}
 use Rattle.states.specs.declared.StateSet.{StateSet}
-use Rattle.states.proofs.Search.{and-left, and-right, and-both, or-cases, not-true-false, all-cong, all-not, any-cong, any-none, any-at, holds-must}
+use Rattle.states.proofs.Search.{turned, and-left, and-right, and-both, or-cases, not-true-false, all-cong, all-not, any-cong, any-none, any-at, holds-must}
 use Rattle.states.proofs.Members.{Passed}
 use Rattle.semantics.specs.declared.Names.{Names}
 use Rattle.semantics.specs.Language.{Expr, eqZ}
@@ -55,16 +55,12 @@ module _ (m : Machine) (c : Spec) (p : ℕ → Bool) (same : (v : ℕ) → p v �
 -- If not every member of a set is in another, some member is not.
 not-within : (n : ℕ) (a b : ℕ → Bool) → not (all n (λ t. implies (a t) (b t))) ≡ any n (λ t. a t && not (b t))
 unfolding implies
-not-within n a b = ap not (all-cong n _ _ (λ t l. turned (a t) (b t)) ∙ all-not n _) ∙ twice _
+not-within n a b = ap not (all-cong n _ _ (λ t l. both-ways (a t) (b t)) ∙ all-not n _) ∙ sym (turned (not (any n (λ t. a t && not (b t)))) _ refl)
   where
-    turned : (x y : Bool) → (not x || y) ≡ not (x && not y)
-    turned true true = refl
-    turned true false = refl
-    turned false y = refl
-
-    twice : (x : Bool) → not (not x) ≡ x
-    twice true = refl
-    twice false = refl
+    both-ways : (x y : Bool) → (not x || y) ≡ not (x && not y)
+    both-ways true true = refl
+    both-ways true false = refl
+    both-ways false y = refl
 
 -- A state that agrees with s agrees with the same states as s; so does s itself, even if it is no state.
 pub alike : (x : Variable) (s u : ℕ) → (agreeIn x s u || ltb u capacity && eqb s u) ≡ true → (t : ℕ) → agreeIn x u t ≡ agreeIn x s t

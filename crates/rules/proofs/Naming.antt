@@ -1,7 +1,7 @@
 -- The states that a condition names, looked up by its number, and each condition's search as one of the three searches of the code.
 use Prim.Native.Nat.{ℕ, _<_}
 use mathlib.Core.Path.{_≡_, refl, sym, ap, ap₂, _∙_, subst}
-use mathlib.Core.Bool.{Bool, true, false, not, _&&_, _||_}
+use mathlib.Core.Bool.{Bool, true, false, not, _&&_, _||_, and-assoc}
 use mathlib.Core.List.{List, [], _∷_, _++_}
 use mathlib.Core.Option.{none, some}
 use lib.Dec.{ltb, eqb}
@@ -135,12 +135,8 @@ module _ (n : ℕ) where
       ≡ inSet n p (λ s. inSet n (λ t. (eqb t s || rel n rows′ s t) && p t && f t) (λ t. must (rel n good′ s t)))
   exit-same from into p f {rows} {rows′} {good} {good′} made members ends same same′ filled =
       pair-same from p (rel n made) (λ s t. (eqb t s || rel n rows′ s t) && p t && f t) (rel n good) (rel n good′) members
-      (λ s t l low m. filled s t low l ∙ ap₂ _&&_ (ap₂ (λ b x. b || rel n x s t) (eqb-turned s t) same) (ends t) ∙ nested (eqb t s || rel n rows′ s t) (p t) (f t))
+      (λ s t l low m. filled s t low l ∙ ap₂ _&&_ (ap₂ (λ b x. b || rel n x s t) (eqb-turned s t) same) (ends t) ∙ sym (and-assoc (eqb t s || rel n rows′ s t) (p t) (f t)))
       (λ s t l low m. ap (λ x. rel n x s t) same′)
-    where
-      nested : (a b c : Bool) → (a && (b && c)) ≡ (a && b && c)
-      nested true b c = refl
-      nested false b c = refl
 
   -- A chain of two pairs, by the words that hold the rows.
   pub chain-same : (from : StateSet) (p : ℕ → Bool) {a a′ b b′ g g′ : List ℕ} → ((s : ℕ) → has from s ≡ p s) → a ≡ a′ → b ≡ b′ → g ≡ g′

@@ -15,7 +15,11 @@ use Rattle.states.specs.declared.StateSet.{StateSet}
 use Rattle.states.proofs.Members.{Passed, passed-all}
 use Rattle.semantics.specs.Conditions.{inSet, sameSet, sameRelation, setLiesIn, relationLiesIn}
 
--- The step and the end of a loop that counts the states up.
+-- The start, the step and the end of a loop that counts the states up.
+pub none-held : (f : ℕ → Search) → true ≡ holds (each 0 f)
+unfolding each holds
+none-held f = refl
+
 pub holds-next : (s : ℕ) (f : ℕ → Search) → (holds (each s f) && holds (f s)) ≡ holds (each (s + 1) f)
 unfolding each
 holds-next s f = rw add-one (sym (holds-orElse (each s f) (named s (f s)) ∙ ap (λ b. holds (each s f) && b) (holds-named s (f s))))

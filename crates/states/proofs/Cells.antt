@@ -1,16 +1,21 @@
 -- An array with a cell for each state that a set can hold, filled by a loop: the cells below k satisfy P, and the
 -- others still have their initial value d.
-use Prim.Native.Nat.{ℕ, _+_, _<_, _≤_, zero-le}
+use Prim.Native.Nat.{ℕ, zero, suc, _+_, _<_, _≤_}
 use native.Mathlib.Nat.{not-suc-le-zero}
 use native.Mathlib.Numerals.{add-one}
-use native.Mathlib.Decide.{decLt}
 use native.Mathlib.Omega.{arith}
 use mathlib.Core.List.{List}
-use mathlib.Core.Path.{_≡_, _∙_}
-use lib.ListN.{getD, length, set, replicate, length-replicate, getD-replicate, length-set, List·getD-eq-default}
+use mathlib.Core.Path.{_≡_, refl, _∙_}
+use lib.ListN.{getD, length, set, replicate, length-replicate, length-set}
 use lib.Seq.{getD-set-same, getD-set-other}
 use Rattle.states.specs.Sets.{capacity}
 use Rattle.states.proofs.Search.{below-cases}
+
+-- A new array has the same value in each cell, and past its end too.
+pub blank : {A : Type 0} (n : ℕ) (d : A) (s : ℕ) → getD (replicate n d) s d ≡ d
+blank zero d s = refl
+blank (suc n) d zero = refl
+blank (suc n) d (suc s) = blank n d s
 
 module _ {A : Type 0} (d : A) (P : ℕ → A → Type 0) where
   pub record Cells (k : ℕ) (row : List A) : Type 0 where
@@ -21,11 +26,7 @@ module _ {A : Type 0} (d : A) (P : ℕ → A → Type 0) where
 
   pub cells-none : Cells 0 (replicate capacity d)
   cells-none =
-      record { most = omega arith; long = length-replicate capacity d; hold = λ s l. absurd (not-suc-le-zero l); rest = λ s l. at s (decLt s capacity) }
-    where
-      at : (s : ℕ) → Dec (s < capacity) → getD (replicate capacity d) s d ≡ d
-      at s (yes l) = getD-replicate capacity s d d l
-      at s (no l) = List·getD-eq-default (replicate capacity d) d {n = s} (omega (arith, length-replicate capacity d))
+      record { most = omega arith; long = length-replicate capacity d; hold = λ s l. absurd (not-suc-le-zero l); rest = λ s l. blank capacity d s }
 
   pub cells-more : (k : ℕ) (row : List A) (x : A) → k < capacity → P k x → Cells k row → Cells (k + 1) (set row k x)
   cells-more k row x l new old =
@@ -37,6 +38,5 @@ module _ {A : Type 0} (d : A) (P : ℕ → A → Type 0) where
           (rw (getD-set-same row k x d (omega (arith, old .long))) new)
           (λ low. rw (getD-set-other row k s x d (omega arith)) (old .hold s low))
 
--- A new array has the same value in each cell, and past its end too.
 pub cell-none : {A : Type 0} (d : A) (s : ℕ) → getD (replicate capacity d) s d ≡ d
-cell-none d s = cells-none d (λ s x. Unit {0}) .rest s zero-le
+cell-none d s = blank capacity d s

@@ -1,6 +1,6 @@
 -- Sets stored one after the other in words. An entry that is stored is read back, and the other entries are unchanged: proved for entries
 -- of any width w, and used at the width of a set.
-use Prim.Native.Nat.{ℕ, zero, suc, _+_, _*_, _<_, _≤_}
+use Prim.Native.Nat.{ℕ, suc, _+_, _*_, _<_, _≤_}
 use native.Mathlib.Decide.{decLt}
 use native.Mathlib.Numerals.{add-one}
 use native.Mathlib.Omega.{arith}
@@ -8,14 +8,15 @@ use mathlib.Core.Path.{_≡_, refl, sym, ap, _∙_}
 use mathlib.Core.Logic.{_⊎_, inl, inr}
 use mathlib.Core.Bool.{Bool, true, false, _&&_}
 use mathlib.Core.List.{List, [], _∷_, append-assoc}
-use lib.ListN.{getD, length, set, take, drop, replicate, length-take, length-drop, length-set, length-replicate, getD-replicate, drop-of-length-le, List·getD-eq-default}
+use lib.ListN.{getD, length, set, take, drop, replicate, length-take, length-drop, length-set, length-replicate, drop-of-length-le, List·getD-eq-default}
 use lib.Seq.{sets, sets-eq, length-sets, ext-getD, getD-take, getD-drop, getD-set-other, length-take-le, take-at, drop-at, drop-drop}
 use lib.Dec.{ltb}
 use borrow.Author.Tests.{ltb-true, lt-ltb}
 use Rattle.states.specs.declared.StateSet.{StateSet}
 use Rattle.states.specs.Sets.{setWords, capacity, mem, has, wordsIn, entryAt, withEntry}
 use Rattle.states.proofs.Search.{and-left, and-right, not-true-false, below-cases}
-use Rattle.states.proofs.Words.{mem-zeros, mem-below}
+use Rattle.states.proofs.Words.{mem-zeros, mem-below, mem-nought}
+use Rattle.states.proofs.Cells.{blank}
 use Rattle.states.proofs.Reach.{Between}
 
 -- Entries of w words.
@@ -97,12 +98,8 @@ entry-word words i s = at (drop (setWords * i) words) ∙ ap (λ x. mem (x ∷ [
     same : setWords * i + 0 ≡ i
     same = omega arith
 
-    zeros : (k : ℕ) → _≡_ {A = ℕ} (getD (0 ∷ []) k 0) 0
-    zeros zero = refl
-    zeros (suc k) = refl
-
     at : (l : List ℕ) → mem (take setWords l) s ≡ mem (getD l 0 0 ∷ []) s
-    at [] = mem-zeros [] (λ k. refl) s ∙ sym (mem-zeros (0 ∷ []) zeros s)
+    at [] = mem-zeros [] (λ k. refl) s ∙ sym (mem-nought s)
     at (x ∷ xs) = refl
 
 -- Rows filled by a loop: those below k have the pairs of f, and the others have none.
@@ -114,17 +111,12 @@ pub record RowsFilled (f : ℕ → ℕ → Bool) (k : ℕ) (rows : List ℕ) : T
 
 module _ (f : ℕ → ℕ → Bool) where
   pub rows-none : RowsFilled f 0 (replicate (setWords * capacity) 0)
-  rows-none = record { most = omega arith; long = long; hold = λ s l. absurd (omega arith); rest = λ s l. entry-zeros _ zeros s }
-    where
-      long : length (replicate {A = ℕ} (setWords * capacity) 0) ≡ setWords * capacity
-      long = length-replicate {A = ℕ} (setWords * capacity) 0
-
-      zeros : (k : ℕ) → _≡_ {A = ℕ} (getD (replicate (setWords * capacity) 0) k 0) 0
-      zeros k = at (decLt k (setWords * capacity))
-        where
-          at : Dec (k < setWords * capacity) → _≡_ {A = ℕ} (getD (replicate (setWords * capacity) 0) k 0) 0
-          at (yes l) = getD-replicate (setWords * capacity) k 0 0 l
-          at (no l) = List·getD-eq-default (replicate {A = ℕ} (setWords * capacity) 0) 0 {n = k} (omega (arith, long))
+  rows-none = record {
+    most = omega arith;
+    long = length-replicate {A = ℕ} (setWords * capacity) 0;
+    hold = λ s l. absurd (omega arith);
+    rest = λ s l. entry-zeros _ (blank {A = ℕ} (setWords * capacity) 0) s;
+  }
 
   pub rows-more : (k : ℕ) (rows : List ℕ) (set : StateSet) → k < capacity → ((t : ℕ) → has set t ≡ f k t)
       → RowsFilled f k rows → RowsFilled f (k + 1) (withEntry rows k set)

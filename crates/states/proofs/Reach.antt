@@ -64,7 +64,7 @@ count-more (suc n) p q h s l out into =
     (λ low o i. omega (arith, count-more n p q h s low o i, digit-mono (p n) (q n) (h n)))
     out into
 
-count-all : (n : ℕ) → count n (λ s. true) ≤ n
+pub count-all : (n : ℕ) → count n (λ s. true) ≤ n
 unfolding count
 count-all zero = zero-le
 count-all (suc n) = omega (arith, count-all n)

@@ -229,11 +229,6 @@ must-none b e = sym (holds-must b) ∙ none-holds _ e
 pub given-none : (b : Bool) (x : Search) → given b x ≡ none → b ≡ true → x ≡ none
 given-none b x e h = holds-none x (implies-at b _ (sym (holds-given b x) ∙ none-holds _ e) h)
 
-pub orElse-none : (x y : Search) → orElse x y ≡ none → (x ≡ none) × (y ≡ none)
-orElse-none x y e =
-    let both : (holds x && holds y) ≡ true = sym (holds-orElse x y) ∙ none-holds _ e in
-    (holds-none x (and-left (holds x) (holds y) both), holds-none y (and-right (holds x) (holds y) both))
-
 pub each-none : (n : ℕ) (f : ℕ → Search) → each n f ≡ none → (s : ℕ) → s < n → f s ≡ none
 each-none n f e s l = holds-none _ (all-at n _ (sym (holds-each n f) ∙ none-holds _ e) s l)
 

@@ -8,12 +8,12 @@ use native.Mathlib.Nat.{add-zero, add-assoc, zero-add, zero-div, mod-lt, mod-eq-
 use native.Mathlib.Omega.{arith}
 use borrow.Author.Tests.{le-ltb, le-leb}
 use lib.Arith.{digits-div, digits-mod, digits-lt}
-use lib.ListN.{length, getD, replicate, length-replicate}
+use lib.ListN.{length, replicate, length-replicate}
 use lib.Pow.{pow-add, pow-pos}
 use Rattle.bits.specs.Fields.{bitAt, bitsAt, isThere, firstSet, fillBits, furtherByte, fillFrom, fillAt}
 use Rattle.bits.specs.declared.Fill.the-variants.{Ends}
 use Rattle.bits.proofs.Laws.{bits-agree}
-use Rattle.bits.proofs.Places.{either}
+use Rattle.states.proofs.Cells.{blank}
 use Rattle.writer.specs.Writing.{putBits, putField, hasRoom}
 use Rattle.writer.specs.Packing.{Part, widthOf, putParts, putAll, bytesFor, packed}
 use Rattle.writer.proofs.Holding.{Holds, Fitting}
@@ -97,10 +97,6 @@ module _ (s : List ℕ) (at : ℕ) (ps : List Part) where
   unfolding putAll
   all-fits inside fits = rw (has-room s at (widthOf ps) inside fits)
 
-  pub length-all : length (putAll s at ps) ≡ length s
-  unfolding putAll
-  length-all = either (λ l. length l ≡ length s) (hasRoom s at (widthOf ps)) _ s (length-parts s at ps) refl
-
   -- Fields of 1 to 64 bits together are written as one.
   pub all-joined : 1 ≤ widthOf ps → widthOf ps ≤ 64 → putField s at (widthOf ps) (valueOf ps) ≡ putAll s at ps
   unfolding putField putAll isThere hasRoom
@@ -128,14 +124,9 @@ holds-append s at (p ∷ ps) qs all =
     ((all .0, later .0), rw (← add-assoc at (p .width) (widthOf ps)) (later .1))
 
 -- Cleared bytes have no bit set.
-cleared-byte : (n i : ℕ) → getD (replicate {A = ℕ} n 0) i 0 ≡ 0
-cleared-byte zero i = refl
-cleared-byte (suc n) zero = refl
-cleared-byte (suc n) (suc i) = cleared-byte n i
-
 cleared-bit : (n i : ℕ) → bitAt (replicate n 0) i ≡ 0
 unfolding bitAt
-cleared-bit n i = rw (cleared-byte n (i / 8), zero-div)
+cleared-bit n i = rw (blank {A = ℕ} n 0 (i / 8), zero-div)
 
 none-set : (s : List ℕ) (at n : ℕ) → ((j : ℕ) → at ≤ j → bitAt s j ≡ 0) → firstSet s at n ≡ none
 unfolding firstSet

@@ -11,29 +11,6 @@ use Rattle.rules.proofs.Naming.{other, plain, done, silent, found-as, i
 use Rattle.rules.proofs.common_states.Statement.{statement}
 use Rattle.rules.proofs.common_states.Tie as tie
 
-returns : tie.Need-returns
-unfolding statesFor given c31 wordRelation
-returns c fits =
-    let d = c .before .before .before in
-    let p = d .before .before .before .set-at .ensures in
-    rw (d .match .keys1)
-    (found-as _ _ (c .least-pair .ensures)
-    (into-same _ _ _ _ _ _ p p (d .before .before .rows-of .ensures) (c .before .before .all-into .ensures _)))
-
-returns-2 : tie.Need-returns-2
-unfolding statesFor given c32 wordRelation
-returns-2 c fits =
-    let d = c .before in
-    let q = d .before .rows-of2 .ensures in
-    rw (d .match .keys2) (found-as _ _ (c .least-chain .ensures) (chain-same _ _ _ (d .before .before .before .set-at .ensures) (d .before .before .rows-of .ensures) q q))
-
-returns-3 : tie.Need-returns-3
-unfolding statesFor given c33 wordRelation
-returns-3 c fits =
-    let d = c .before in
-    let q = d .before .rows-of2 .ensures in
-    rw (d .match .keys3) (found-as _ _ (c .least-chain2 .ensures) (chain-same _ _ _ (d .before .before .before .set-at .ensures) q (d .before .before .rows-of .ensures) q))
-
 returns-4 : tie.Need-returns-4
 unfolding naming
 returns-4 c fits =
@@ -41,12 +18,22 @@ returns-4 c fits =
     sym (ap naming (silent _ _ (plain fits refl (other (ne-eqb _ 31 (no .0 .0 .1)) (other (ne-eqb _ 32 (no .0 .1)) (other (ne-eqb _ 33 (no .1)) done))))))
 
 pub common-states-spec : {M : Type 1} → statement M
+unfolding statesFor given c31 wordRelation c32 c33
 common-states-spec =
     tie.close
-    (tie.spec
-    (λ c κs. search needs) (λ c κs. search needs) (λ c κs. search needs) (λ c κs. search needs) (λ c. search needs) (λ c κs. search needs)
+    (tie.spec (λ c κs. search needs) (λ c κs. search needs) (λ c κs. search needs) (λ c κs. search needs) (λ c. search needs) (λ c κs. search needs)
     (λ c κs. search needs) (λ c κs. search needs)
-    returns
-    returns-2
-    returns-3
+    (λ c fits. let d = c .before .before .before in
+    let p = d .before .before .before .set-at .ensures in
+    rw (d .match .keys1)
+    (found-as _ _ (c .least-pair .ensures)
+    (into-same _ _ _ _ _ _ p p (d .before .before .rows-of .ensures) (c .before .before .all-into .ensures _))))
+    (λ c fits. let d = c .before in
+    let q = d .before .rows-of2 .ensures in
+    rw (d .match .keys2) (found-as _ _ (c .least-chain .ensures)
+    (chain-same _ _ _ (d .before .before .before .set-at .ensures) (d .before .before .rows-of .ensures) q q)))
+    (λ c fits. let d = c .before in
+    let q = d .before .rows-of2 .ensures in
+    rw (d .match .keys3) (found-as _ _ (c .least-chain2 .ensures)
+    (chain-same _ _ _ (d .before .before .before .set-at .ensures) q (d .before .before .rows-of .ensures) q)))
     returns-4)

@@ -6,13 +6,12 @@ use Rattle.rules.proofs.Asking.{no-fault, one-fault}
 use Rattle.rules.proofs.node_fault.Statement.{statement}
 use Rattle.rules.proofs.node_fault.Tie as tie
 
-returns : tie.Need-returns
-returns c =
-    let a = c .before .before .before .before .before .args in
-    no-fault (obligationsIn (a .exprs .now) (a .head) (a .work .now) (a .node) (a .statement) (a .first) (a .second)) (sym (c .before .before .node-verdict .ensures) ∙ c .enum-told .given .1)
-
-returns-2 : tie.Need-returns-2
-returns-2 c = one-fault _ _ (sym (c .before .before .before .before .node-verdict .ensures) ∙ c .before .before .number .given .1) (c .node-states .ensures)
-
 pub node-fault-spec : {M : Type 1} → statement M
-node-fault-spec = tie.close (tie.spec (λ c κs. search needs) (λ c. search needs) (λ c. search needs) (λ c κs. search needs) returns returns-2)
+node-fault-spec =
+    tie.close
+    (tie.spec (λ c κs. search needs) (λ c. search needs) (λ c. search needs) (λ c κs. search needs)
+    (λ c. let a = c .before .before .before .before .before .args in
+    no-fault (obligationsIn (a .exprs .now) (a .head) (a .work .now) (a .node) (a .statement) (a .first) (a .second))
+    (sym (c .before .before .node-verdict .ensures) ∙ c .enum-told .given .1))
+    (λ c. one-fault _ _ (sym (c .before .before .before .before .node-verdict .ensures) ∙ c .before .before .number .given .1)
+    (c .node-states .ensures)))

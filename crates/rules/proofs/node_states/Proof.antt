@@ -10,48 +10,19 @@ use Rattle.rules.proofs.Naming.{plain, done, before-silent}
 use Rattle.rules.proofs.node_states.Statement.{statement}
 use Rattle.rules.proofs.node_states.Tie as tie
 
-returns : tie.Need-returns
-unfolding obligationsIn
-returns c = rw (c .before .match .keys1) ((rw (c .before .before .before .before .before .states-in .ensures) at (c .skip-states .ensures)) _)
-
-returns-2 : tie.Need-returns-2
-unfolding obligationsIn
-returns-2 c = rw (c .before .match .keys2) (c .assignment-states .ensures _)
-
-returns-3 : tie.Need-returns-3
-unfolding obligationsIn
-returns-3 c = rw (c .before .match .keys3) ((rw (c .before .before .before .before .before .states-in .ensures) at (c .sequence-states .ensures)) _)
-
-returns-4 : tie.Need-returns-4
-unfolding obligationsIn
-returns-4 c = rw (c .before .match .keys4) ((rw (c .before .before .before .before .before .states-in .ensures) at (c .parallel-states .ensures)) _)
-
-returns-5 : tie.Need-returns-5
-unfolding obligationsIn
-returns-5 c = rw (c .before .match .keys5) (c .if-states .ensures _ _)
-
-returns-6 : tie.Need-returns-6
-unfolding obligationsIn
-returns-6 c = rw (c .before .match .keys6) (c .while-states .ensures _ _)
-
-returns-7 : tie.Need-returns-7
-unfolding obligationsIn c70 c71 c72 c73
-returns-7 c =
-    let other = c .before .match .rest in
-    rw (ne-eqb _ 0 (other .0 .0 .0 .0 .0 .1), ne-eqb _ 1 (other .0 .0 .0 .0 .1), ne-eqb _ 2 (other .0 .0 .0 .1), ne-eqb _ 3 (other .0 .0 .1), ne-eqb _ 4 (other .0 .1), ne-eqb _ 5 (other .1))
-    (rw (c .before .before .before .before .before .states-in .ensures) at (c .common-states .ensures true)
-    ∙ sym (ap naming (before-silent _ _ _ (plain _ refl (plain _ refl (plain _ refl (plain _ refl done)))))))
-
 pub node-states-spec : {M : Type 1} → statement M
+unfolding obligationsIn c70 c71 c72 c73
 node-states-spec =
     tie.close
-    (tie.spec
-    (λ c κs. search needs) (λ c κs. search needs) (λ c κs. search needs) (λ c κs. search needs) (λ c κs. search needs)
+    (tie.spec (λ c κs. search needs) (λ c κs. search needs) (λ c κs. search needs) (λ c κs. search needs) (λ c κs. search needs)
     (λ c κs. search needs) (λ c κs. search needs) (λ c κs. search needs)
-    returns
-    returns-2
-    returns-3
-    returns-4
-    returns-5
-    returns-6
-    returns-7)
+    (λ c. rw (c .before .match .keys1) ((rw (c .before .before .before .before .before .states-in .ensures) at (c .skip-states .ensures)) _))
+    (λ c. rw (c .before .match .keys2) (c .assignment-states .ensures _))
+    (λ c. rw (c .before .match .keys3) ((rw (c .before .before .before .before .before .states-in .ensures) at (c .sequence-states .ensures)) _))
+    (λ c. rw (c .before .match .keys4) ((rw (c .before .before .before .before .before .states-in .ensures) at (c .parallel-states .ensures)) _))
+    (λ c. rw (c .before .match .keys5) (c .if-states .ensures _ _))
+    (λ c. rw (c .before .match .keys6) (c .while-states .ensures _ _))
+    (λ c. let other = c .before .match .rest in
+    rw (ne-eqb _ 0 (other .0 .0 .0 .0 .0 .1), ne-eqb _ 1 (other .0 .0 .0 .0 .1), ne-eqb _ 2 (other .0 .0 .0 .1), ne-eqb _ 3 (other .0 .0 .1), ne-eqb _ 4 (other .0 .1), ne-eqb _ 5 (other .1))
+    (rw (c .before .before .before .before .before .states-in .ensures) at (c .common-states .ensures true)
+    ∙ sym (ap naming (before-silent _ _ _ (plain _ refl (plain _ refl (plain _ refl (plain _ refl done)))))))))

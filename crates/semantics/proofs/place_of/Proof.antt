@@ -7,11 +7,9 @@ use Rattle.semantics.specs.Facts.{Fact, noPlace, facts}
 use Rattle.semantics.proofs.place_of.Statement.{statement}
 use Rattle.semantics.proofs.place_of.Tie as tie
 
-returns : tie.Need-returns
-returns c = List·getD-map (λ (f : Fact). f .place) facts (c .before .before .args .number) noPlace
-
-returns-2 : tie.Need-returns-2
-returns-2 c = sym (ap (λ (f : Fact). f .place) (List·getD-eq-default facts noPlace (c .if1 .left)))
-
 pub place-of-spec : {M : Type 1} → statement M
-place-of-spec = tie.close (tie.spec (λ c. search needs) returns returns-2)
+place-of-spec =
+    tie.close
+    (tie.spec (λ c. search needs)
+    (λ c. List·getD-map (λ (f : Fact). f .place) facts (c .before .before .args .number) noPlace)
+    (λ c. sym (ap (λ (f : Fact). f .place) (List·getD-eq-default facts noPlace (c .if1 .left)))))

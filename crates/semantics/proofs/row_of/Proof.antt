@@ -6,16 +6,9 @@ use borrow.Author.Tests.{lt-ltb, le-ltb}
 use Rattle.semantics.proofs.row_of.Statement.{statement}
 use Rattle.semantics.proofs.row_of.Tie as tie
 
-returns : tie.Need-returns
-returns c = simp (lt-ltb _ _ (c .before .before .before .before .if1 .taken)) refl
-
-returns-2 : tie.Need-returns-2
-returns-2 c = simp (le-ltb _ _ (c .if1 .left))
-
 pub row-of-spec : {M : Type 1} → statement M
 row-of-spec =
     tie.close
-    (tie.spec
-    (λ c. search needs) (λ c. search needs) (λ c. search needs) (λ c. search needs) (λ c. search needs)
-    returns
-    returns-2)
+    (tie.spec (λ c. search needs) (λ c. search needs) (λ c. search needs) (λ c. search needs) (λ c. search needs)
+    (λ c. simp (lt-ltb _ _ (c .before .before .before .before .if1 .taken)) refl)
+    (λ c. simp (le-ltb _ _ (c .if1 .left))))

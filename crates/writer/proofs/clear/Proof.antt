@@ -19,28 +19,18 @@ abbrev μ-loop : tie.MeasureT-loop
 kept : (c : tie.At-loop Inv-loop μ-loop) → length (c .loop .out) ≡ length (c .before .before .before .args .out .now)
 kept c = ap length (c .loop .inv .1) ∙ length-cleared (c .before .before .before .args .out .now) (c .loop .i)
 
-loop-again : tie.Need-loop-again Inv-loop μ-loop
-loop-again c =
-    let l = c .before .loop in
-    (search needs, rw (l .inv .1) (clear-more _ (l .i) (omega arith)))
-
-returns : tie.Need-returns Inv-loop μ-loop
-returns c =
-    let l = c .before in
-    let a = l .before .before .before .args in
-    let all : l .loop .i ≡ min (a .count) (length (a .out .now)) = omega arith in
-    rw (l .loop .inv .1, all) (cleared-least (a .out .now) (a .count))
-
 pub clear-spec : {M : Type 1} → statement M
 clear-spec =
     tie.close
-    (tie.spec
-    Inv-loop
-    μ-loop
+    (tie.spec Inv-loop μ-loop
     (λ c κs. search needs)
     (λ c. (search needs, sym (cleared-within _ 0 (omega arith))))
     (λ c. omega (arith, kept (c .before)))
     (λ c. search needs) (λ c. search needs)
-    loop-again
+    (λ c. let l = c .before .loop in
+    (search needs, rw (l .inv .1) (clear-more _ (l .i) (omega arith))))
     (λ c. kept (c .before))
-    returns)
+    (λ c. let l = c .before in
+    let a = l .before .before .before .args in
+    let all : l .loop .i ≡ min (a .count) (length (a .out .now)) = omega arith in
+    rw (l .loop .inv .1, all) (cleared-least (a .out .now) (a .count))))

@@ -21,22 +21,17 @@ fits c =
     let room = in-room (a .out .now) (a .to) (a .width) (sym (c .before .has-room .ensures) ∙ c .if2 .taken) in
     (omega arith, room .0, room .1)
 
-returns : tie.Need-returns
-returns c =
-    let t = c .before .before .before .before in
+pub copy-spec : {M : Type 1} → statement M
+unfolding copied
+copy-spec =
+    tie.close
+    (tie.spec (λ c. search needs) (λ c κs. search needs) (λ c κs. fits (c .before)) (λ c. search needs)
+    (λ c. let t = c .before .before .before .before in
     let a = t .before .before .before .before .before .before .args in
     let f = fits t in
-    rw (copied-fits (a .out .now) (a .to) (a .src .now) (a .from) (a .width) (f .1) (f .2) (f .0)) (c .before .before .copy-bits .ensures)
-
-returns-2 : tie.Need-returns-2
-unfolding copied
-returns-2 c =
-    let a = c .before .before .before .args in
+    rw (copied-fits (a .out .now) (a .to) (a .src .now) (a .from) (a .width) (f .1) (f .2) (f .0)) (c .before .before .copy-bits .ensures))
+    (λ c. let a = c .before .before .before .args in
     ⊎-elim
     (λ h. rw (sym (h .2 .ensures) ∙ h .3 .left))
     (λ h. rw (le-ltb (a .from + a .width) (2 ^ 64) (omega (arith, h .left)), and-false))
-    (c .if1 .came)
-
-pub copy-spec : {M : Type 1} → statement M
-copy-spec =
-    tie.close (tie.spec (λ c. search needs) (λ c κs. search needs) (λ c κs. fits (c .before)) (λ c. search needs) returns returns-2)
+    (c .if1 .came)))

@@ -17,41 +17,28 @@ Inv-loop src from out₀ to width done₀ out done = (done ≤ width) × (out �
 abbrev μ-loop : tie.MeasureT-loop
 μ-loop src from out₀ to width done₀ out done = width - done
 
-loop-holds : tie.Need-loop-holds Inv-loop μ-loop
-unfolding putBits
-loop-holds c = (search needs, refl)
-
 -- The buffer keeps its length.
 kept : (c : tie.At-loop Inv-loop μ-loop) → length (c .loop .out) ≡ length (c .before .before .before .args .out .now)
 kept c =
     let a = c .before .before .before .args in
     ap length (c .loop .inv .1) ∙ length-put (a .out .now) (a .to) (c .loop .done) _
 
-loop-again : tie.Need-loop-again Inv-loop μ-loop
-loop-again c =
-    let put = c .before .before in
+pub copy-bits-spec : {M : Type 1} → statement M
+unfolding putBits
+copy-bits-spec =
+    tie.close
+    (tie.spec Inv-loop μ-loop
+    (λ c. (search needs, refl))
+    (λ c. search needs) (λ c κs. search needs) (λ c. omega arith) (λ c. omega arith) (λ c κs. search needs) (λ c κs. search needs)
+    (λ c. search needs) (λ c. search needs)
+    (λ c. let put = c .before .before in
     let l = put .before .before .before .before .before in
     let a = l .before .before .before .args in (
       omega arith,
       put .put .ensures
           ∙ rw (put .before .number-at .ensures, l .loop .inv .1)
           (copy-more (a .out .now) (a .src .now) (a .to) (a .from) (l .loop .done) _ (omega arith) (omega arith) (omega arith) (omega arith)),
-    )
-
-returns : tie.Need-returns Inv-loop μ-loop
-returns c =
-    let all : c .before .loop .done ≡ c .before .before .before .before .args .width = omega arith in
-    rw all at (c .before .loop .inv .1)
-
-pub copy-bits-spec : {M : Type 1} → statement M
-copy-bits-spec =
-    tie.close
-    (tie.spec
-    Inv-loop
-    μ-loop
-    loop-holds
-    (λ c. search needs) (λ c κs. search needs) (λ c. omega arith) (λ c. omega arith) (λ c κs. search needs) (λ c κs. search needs)
-    (λ c. search needs) (λ c. search needs)
-    loop-again
+    ))
     (λ c. kept (c .before))
-    returns)
+    (λ c. let all : c .before .loop .done ≡ c .before .before .before .before .args .width = omega arith in
+    rw all at (c .before .loop .inv .1)))

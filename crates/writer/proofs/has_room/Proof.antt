@@ -10,15 +10,12 @@ use Rattle.writer.specs.Writing.{hasRoom}
 use Rattle.writer.proofs.has_room.Statement.{statement}
 use Rattle.writer.proofs.has_room.Tie as tie
 
-returns : tie.Need-returns
-unfolding hasRoom
-returns c = let a = c .before .before .args in rw (le-ltb (a .at + a .width) (2 ^ 64) (omega arith), and-false)
-
-returns-2 : tie.Need-returns-2
-unfolding hasRoom hasBits
-returns-2 c =
-    let a = c .before .before .before .args in
-    c .has-bits .ensures ∙ rw (lt-ltb (a .at + a .width) (2 ^ 64) (omega arith), and-true)
-
 pub has-room-spec : {M : Type 1} → statement M
-has-room-spec = tie.close (tie.spec (λ c. search needs) returns (λ c κs. search needs) returns-2)
+unfolding hasRoom hasBits
+has-room-spec =
+    tie.close
+    (tie.spec (λ c. search needs)
+    (λ c. let a = c .before .before .args in rw (le-ltb (a .at + a .width) (2 ^ 64) (omega arith), and-false))
+    (λ c κs. search needs)
+    (λ c. let a = c .before .before .before .args in
+    c .has-bits .ensures ∙ rw (lt-ltb (a .at + a .width) (2 ^ 64) (omega arith), and-true)))

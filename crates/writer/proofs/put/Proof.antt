@@ -12,21 +12,15 @@ use Rattle.writer.proofs.put.Tie as tie
 fits : (c : tie.Then1) → let a = c .before .before .before .before .args in isThere (a .out .now) (a .at) (a .width) ≡ true
 fits c = sym (c .before .is-there .ensures) ∙ c .if1 .taken
 
-put-bits-requires : tie.Need-put-bits-requires
-put-bits-requires c κs =
-    let a = c .before .before .before .before .before .args in
-    let t = in-full (a .out .now) (a .at) (a .width) (fits (c .before)) in
-    (t .most, t .inside, t .fits)
-
-returns : tie.Need-returns
-unfolding putField
-returns c = rw (fits (c .before .before .before .before)) (c .before .before .put-bits .ensures)
-
-returns-2 : tie.Need-returns-2
-unfolding putField
-returns-2 c = rw (← c .before .is-there .ensures, c .if1 .left)
-
 pub put-spec : {M : Type 1} → statement M
+unfolding putField
 put-spec =
     tie.close
-    (tie.spec (λ c κs. search needs) put-bits-requires (λ c. search needs) returns (λ c. search needs) returns-2)
+    (tie.spec (λ c κs. search needs)
+    (λ c κs. let a = c .before .before .before .before .before .args in
+    let t = in-full (a .out .now) (a .at) (a .width) (fits (c .before)) in
+    (t .most, t .inside, t .fits))
+    (λ c. search needs)
+    (λ c. rw (fits (c .before .before .before .before)) (c .before .before .put-bits .ensures))
+    (λ c. search needs)
+    (λ c. rw (← c .before .is-there .ensures, c .if1 .left)))

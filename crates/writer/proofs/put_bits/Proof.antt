@@ -16,44 +16,28 @@ Inv-loop out₀ at width value done₀ out done = (done ≤ width) × (out ≡ p
 abbrev μ-loop : tie.MeasureT-loop
 μ-loop out₀ at width value done₀ out done = width - done
 
-loop-holds : tie.Need-loop-holds Inv-loop μ-loop
-unfolding putBits
-loop-holds c = (search needs, refl)
-
 -- The buffer's length never changes.
 kept : (c : tie.At-loop Inv-loop μ-loop) → length (c .loop .out) ≡ length (c .before .before .args .out .now)
 kept c =
     let a = c .before .before .args in
     ap length (c .loop .inv .1) ∙ length-put (a .out .now) (a .at) (c .loop .done) (a .value / 2 ^ (a .width - c .loop .done))
 
-store-requires : tie.Need-store-requires Inv-loop μ-loop
-store-requires c κs = (omega arith, omega arith, omega (arith, kept (c .before .before .before)))
-
-loop-again : tie.Need-loop-again Inv-loop μ-loop
-loop-again c =
-    let l = c .before .before .before .before .before .before in
+pub put-bits-spec : {M : Type 1} → statement M
+unfolding putBits
+put-bits-spec =
+    tie.close
+    (tie.spec Inv-loop μ-loop
+    (λ c. (search needs, refl))
+    (λ c. search needs) (λ c. search needs) (λ c κs. search needs) (λ c. search needs) (λ c. search needs) (λ c. search needs)
+    (λ c κs. (omega arith, omega arith, omega (arith, kept (c .before .before .before))))
+    (λ c. search needs) (λ c. search needs)
+    (λ c. let l = c .before .before .before .before .before .before in
     let a = l .before .before .args in
     let k = c .before .before .before .before .in-byte .result in (
       omega arith,
       rw (c .before .before .store .ensures, l .loop .inv .1)
           (put-more (a .out .now) (a .at) (l .loop .done) k (a .width) (a .value) (omega arith)),
-    )
-
-returns : tie.Need-returns Inv-loop μ-loop
-returns c =
-    let all : c .before .loop .done ≡ c .before .before .before .args .width = omega arith in
-    rw (all, sub-self, div-one) at (c .before .loop .inv .1)
-
-pub put-bits-spec : {M : Type 1} → statement M
-put-bits-spec =
-    tie.close
-    (tie.spec
-    Inv-loop
-    μ-loop
-    loop-holds
-    (λ c. search needs) (λ c. search needs) (λ c κs. search needs) (λ c. search needs) (λ c. search needs) (λ c. search needs)
-    store-requires
-    (λ c. search needs) (λ c. search needs)
-    loop-again
+    ))
     (λ c. kept (c .before))
-    returns)
+    (λ c. let all : c .before .loop .done ≡ c .before .before .before .args .width = omega arith in
+    rw (all, sub-self, div-one) at (c .before .loop .inv .1)))

@@ -15,28 +15,19 @@ byte-at c = let a = c .before .before .args in getD (a .out .now) (a .at / 8) 0
 small : (c : tie.After-slice-known2) → byte-at c < 256
 small c = omega (arith, c .slice-known2 .given (c .before .before .args .at / 8))
 
-cast-out : tie.Need-cast-out
-cast-out c =
-    let a = c .before .before .before .args in
+pub store-spec : {M : Type 1} → statement M
+store-spec =
+    tie.close
+    (tie.spec (λ c. search needs)
+    (λ c. omega (arith, small c))
+    (λ c. search needs) (λ c. search needs)
+    (λ c κs. (small c, omega arith))
+    (λ c. let a = c .before .before .before .args in
     omega (
       arith,
       c .with-bits .ensures,
       byte-below (byte-at (c .before)) (a .k) (8 - a .at % 8 - a .k) (a .value) (small (c .before)) (omega arith),
-    )
-
-returns : tie.Need-returns
-returns c =
-    let a = c .before .before .before .args in
-    rw (c .with-bits .ensures) (sym (byte-put (a .out .now) (a .at) (a .k) (a .value) (omega arith) (omega arith)))
-
-pub store-spec : {M : Type 1} → statement M
-store-spec =
-    tie.close
-    (tie.spec
-    (λ c. search needs)
-    (λ c. omega (arith, small c))
+    ))
     (λ c. search needs) (λ c. search needs)
-    (λ c κs. (small c, omega arith))
-    cast-out
-    (λ c. search needs) (λ c. search needs)
-    returns)
+    (λ c. let a = c .before .before .before .args in
+    rw (c .with-bits .ensures) (sym (byte-put (a .out .now) (a .at) (a .k) (a .value) (omega arith) (omega arith)))))

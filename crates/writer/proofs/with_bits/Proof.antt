@@ -6,29 +6,16 @@ use Rattle.writer.proofs.Bytes.{power, front-fits, byte-below, byte-cod
 use Rattle.writer.proofs.with_bits.Statement.{statement}
 use Rattle.writer.proofs.with_bits.Tie as tie
 
-rem-result : tie.Need-rem-result
-rem-result c = omega (arith, power (c .args .k) (omega arith), pow-pos (c .args .k))
-
-rem-result-2 : tie.Need-rem-result-2
-rem-result-2 c = omega (arith, power (c .args .after) (omega arith), pow-pos (c .args .after))
-
-add-result : tie.Need-add-result
-add-result c = let a = c .args in omega (arith, front-fits (a .byte) (a .k) (a .after) (a .value) (search needs) (search needs))
-
 returns : tie.Need-returns
 returns c = let a = c .args in byte-coded (a .byte) (a .k) (a .after) (a .value) (search needs) (search needs)
-
-add-result-2 : tie.Need-add-result-2
-add-result-2 c = let a = c .args in omega (arith, returns c, byte-below (a .byte) (a .k) (a .after) (a .value) (search needs) (search needs))
 
 pub with-bits-spec : {M : Type 1} → statement M
 with-bits-spec =
     tie.close
-    (tie.spec
-    (λ c. search needs) (λ c. search needs) (λ c. search needs) (λ c. search needs)
-    rem-result
-    add-result
+    (tie.spec (λ c. search needs) (λ c. search needs) (λ c. search needs) (λ c. search needs)
+    (λ c. omega (arith, power (c .args .k) (omega arith), pow-pos (c .args .k)))
+    (λ c. let a = c .args in omega (arith, front-fits (a .byte) (a .k) (a .after) (a .value) (search needs) (search needs)))
     (λ c. search needs) (λ c. search needs)
-    rem-result-2
-    add-result-2
+    (λ c. omega (arith, power (c .args .after) (omega arith), pow-pos (c .args .after)))
+    (λ c. let a = c .args in omega (arith, returns c, byte-below (a .byte) (a .k) (a .after) (a .value) (search needs) (search needs)))
     returns)

@@ -11,20 +11,16 @@ use Rattle.derivation.specs.Tables.{tablesThere}
 use Rattle.derivation.proofs.header.are_there.Statement.{statement}
 use Rattle.derivation.proofs.header.are_there.Tie as tie
 
-returns : tie.Need-returns
-unfolding tablesThere
-returns c =
-    ⊎-elim
+pub are-there-spec : {M : Type 1} → statement M
+unfolding tablesThere hasBits
+are-there-spec =
+    tie.close
+    (tie.spec
+    (λ c. ⊎-elim
     (λ h. rw (lt-leb 1 (c .before .before .args .n) (omega arith)))
     (λ h. simp (lt-leb (c .before .before .args .n) capacity (omega (arith, ltb-true)), and-false))
-    (c .if1 .came)
-
-returns-2 : tie.Need-returns-2
-unfolding tablesThere hasBits
-returns-2 c =
-    let a = c .before .before .before .before .before .args in
+    (c .if1 .came))
+    (λ c κs. search needs) (λ c κs. search needs)
+    (λ c. let a = c .before .before .before .before .before .args in
     simp (le-leb 1 (a .n) (omega arith), le-leb (a .n) capacity (omega (arith, ltb-false)), ← c .before .row-cursor .ensures)
-    (simp zero-add at (c .has-bits .ensures))
-
-pub are-there-spec : {M : Type 1} → statement M
-are-there-spec = tie.close (tie.spec returns (λ c κs. search needs) (λ c κs. search needs) returns-2)
+    (simp zero-add at (c .has-bits .ensures))))

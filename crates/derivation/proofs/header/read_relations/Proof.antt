@@ -12,18 +12,8 @@ use Rattle.derivation.proofs.Counts.{count-range}
 use Rattle.derivation.proofs.header.read_relations.Statement.{statement}
 use Rattle.derivation.proofs.header.read_relations.Tie as tie
 
-returns : tie.Need-returns
-unfolding relationsRead
-returns c = rw (← c .before .before .before .read .ensures, c .before .enum-told .given .1, c .bit-length .ensures)
-
 counted : (c : tie.Then1) → (1 ≤ c .before .before .before .count .given .0 .0) × (c .before .before .before .count .given .0 .0 ≤ mostTables)
 counted c = count-range _ (sym (c .before .is-count .ensures) ∙ c .if1 .taken)
-
-row-cursor-requires : tie.Need-row-cursor-requires
-unfolding tablesThere
-row-cursor-requires c κs =
-    let tests = simp and-eq-true-iff at (sym (c .before .are-there .ensures) ∙ c .if2 .taken) in
-    omega (arith, leb-true, counted (c .before .before))
 
 -- A count that is 1 to 16 leaves it to whether the tables are there.
 judged : (c : tie.After-are-there) →
@@ -43,34 +33,24 @@ judged c =
       ← c .are-there .ensures,
     )
 
-returns-2 : tie.Need-returns-2
-returns-2 c = rw (c .row-cursor .ensures) (sym (rw (c .before .if2 .taken) at (judged (c .before .before))))
-
-returns-3 : tie.Need-returns-3
-returns-3 c = rw (c .bit-length2 .ensures) (sym (rw (c .before .if2 .left) at (judged (c .before .before))))
-
-returns-4 : tie.Need-returns-4
-unfolding relationsRead
-returns-4 c =
-    let field = c .before .before .before in
-    let a = field .before .before .before .before .args in
-    let fault : relationsRead (a .src .now) (a .n) (a .sets) (fieldAt (a .src .now) 5 5) ≡ Fault 21 5 =
-    rw (← field .before .before .read .ensures, field .count .given .1, ← c .before .is-count .ensures, c .if1 .left)
-    in
-    sym fault
-
 pub read-relations-spec : {M : Type 1} → statement M
+unfolding relationsRead tablesThere
 read-relations-spec =
     tie.close
-    (tie.spec
-    (λ c κs. search needs) (λ c. search needs) (λ c. search needs) (λ c κs. search needs)
-    returns
+    (tie.spec (λ c κs. search needs) (λ c. search needs) (λ c. search needs) (λ c κs. search needs)
+    (λ c. rw (← c .before .before .before .read .ensures, c .before .enum-told .given .1, c .bit-length .ensures))
     (λ c κs. search needs)
     (λ c. omega (arith, counted c))
     (λ c κs. omega (arith, counted c))
     (λ c. search needs)
-    row-cursor-requires
-    returns-2
+    (λ c κs. let tests = simp and-eq-true-iff at (sym (c .before .are-there .ensures) ∙ c .if2 .taken) in
+    omega (arith, leb-true, counted (c .before .before)))
+    (λ c. rw (c .row-cursor .ensures) (sym (rw (c .before .if2 .taken) at (judged (c .before .before)))))
     (λ c κs. search needs)
-    returns-3
-    returns-4)
+    (λ c. rw (c .bit-length2 .ensures) (sym (rw (c .before .if2 .left) at (judged (c .before .before)))))
+    (λ c. let field = c .before .before .before in
+    let a = field .before .before .before .before .args in
+    let fault : relationsRead (a .src .now) (a .n) (a .sets) (fieldAt (a .src .now) 5 5) ≡ Fault 21 5 =
+    rw (← field .before .before .read .ensures, field .count .given .1, ← c .before .is-count .ensures, c .if1 .left)
+    in
+    sym fault))

@@ -7,32 +7,18 @@ use Rattle.derivation.proofs.Counts.{count-range}
 use Rattle.derivation.proofs.header.read_tables.Statement.{statement}
 use Rattle.derivation.proofs.header.read_tables.Tie as tie
 
-returns : tie.Need-returns
-unfolding tablesAt setsRead
-returns c = rw (← c .before .before .before .read .ensures, c .before .enum-told .given .1, c .bit-length .ensures)
-
-returns-2 : tie.Need-returns-2
-unfolding tablesAt setsRead
-returns-2 c =
-    let judged = c .before in
-    let field = judged .before .before .before in
-    rw (← field .before .before .read .ensures, field .sets .given .1, ← judged .before .is-count .ensures, judged .if1 .taken)
-    (c .read-relations .ensures)
-
-returns-3 : tie.Need-returns-3
-unfolding tablesAt setsRead
-returns-3 c =
-    let field = c .before .before .before in
-    rw (← field .before .before .read .ensures, field .sets .given .1, ← c .before .is-count .ensures, c .if1 .left)
-
 pub read-tables-spec : {M : Type 1} → statement M
+unfolding tablesAt setsRead
 read-tables-spec =
     tie.close
-    (tie.spec
-    (λ c κs. search needs) (λ c. search needs) (λ c. search needs) (λ c κs. search needs)
-    returns
+    (tie.spec (λ c κs. search needs) (λ c. search needs) (λ c. search needs) (λ c κs. search needs)
+    (λ c. rw (← c .before .before .before .read .ensures, c .before .enum-told .given .1, c .bit-length .ensures))
     (λ c κs. search needs)
     (λ c. omega (arith, count-range _ (sym (c .before .is-count .ensures) ∙ c .if1 .taken)))
     (λ c κs. omega (arith, count-range _ (sym (c .before .is-count .ensures) ∙ c .if1 .taken)))
-    returns-2
-    returns-3)
+    (λ c. let judged = c .before in
+    let field = judged .before .before .before in
+    rw (← field .before .before .read .ensures, field .sets .given .1, ← judged .before .is-count .ensures, judged .if1 .taken)
+    (c .read-relations .ensures))
+    (λ c. let field = c .before .before .before in
+    rw (← field .before .before .read .ensures, field .sets .given .1, ← c .before .is-count .ensures, c .if1 .left)))

@@ -17,17 +17,13 @@ small c =
     let p = c .pre in
     row-offsets (a .n) (a .sets) (a .relation) (a .state) (p .0) (p .1) (p .2) (p .3)
 
-returns : tie.Need-returns
-unfolding rowAt
-returns c = refl
-
 pub row-cursor-spec : {M : Type 1} → statement M
+unfolding rowAt
 row-cursor-spec =
     tie.close
-    (tie.spec
+    (tie.spec (λ c. omega (arith, small c))
     (λ c. omega (arith, small c))
     (λ c. omega (arith, small c))
     (λ c. omega (arith, small c))
     (λ c. omega (arith, small c))
-    (λ c. omega (arith, small c))
-    returns)
+    (λ c. refl))

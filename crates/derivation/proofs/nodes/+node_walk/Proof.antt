@@ -68,25 +68,6 @@ module _ (t : ℕ) where
   near : (c : Seen) → start c .args .at < 2 ^ 30
   near c = omega (arith, few c)
 
-  returns : lts.Need-returns (callees t) (given t) node-walk.Post
-  returns c = no-level _ _ _ _ _ _ _ _ (c .if1 .taken)
-
-  store-requires : lts.Need-store-node-requires (callees t) (given t) node-walk.Post
-  store-requires c κs =
-      let s = c .before .before .before in
-      (few s, head-fits _ _ (start s .pre .1 .0) (start s .pre .1 .1) _ _ (within s) _ _ (omega (arith, few s)), near s)
-
-  returns-2 : lts.Need-returns-2 (callees t) (given t) node-walk.Post
-  returns-2 c =
-      let s = c .before .before .before .before in
-      let leaf = ltb-true _ 2 (sym (c .before .before .before .has-no-child .ensures) ∙ c .before .before .if2 .taken) in
-      leaf-done _ _ _ _ _ _ (some s) _ (x s) (is-head s) leaf _ (c .store-node .ensures)
-
-  walk-requires : lts.Need-node-walk-requires (callees t) (given t) node-walk.Post
-  walk-requires c κs =
-      let s = c .before .before .before in
-      omega (arith, some s, next-near _ _ _ _ (within s))
-
   past : (c : Walked) → 2 ≤ x (seen c) .rule
   past c = ltb-false _ 2 (sym (c .before .before .before .has-no-child .ensures) ∙ c .before .before .if2 .left)
 
@@ -97,89 +78,64 @@ module _ (t : ℕ) where
       let s = seen w in
       after-few _ _ _ _ _ _ (some s) _ (x s) (is-head s) _ _ (w .node-walk .ensures) (past w) _ _ _ (c .after .given .1)
 
-  store-requires-2 : lts.Need-store-node-requires-2 (callees t) (given t) node-walk.Post
-  store-requires-2 c κs =
-      let ends = c .before .before in
-      let s = seen (ends .before .before) in
-      (few s, head-fits _ _ (start s .pre .1 .0) (start s .pre .1 .1) _ _ (within s) _ _ (omega (arith, few s, few-after ends)), near s)
-
-  walk-requires-2 : lts.Need-node-walk-requires-2 (callees t) (given t) node-walk.Post
-  walk-requires-2 c κs =
-      let ends = c .before .before .before .before .before .before in
-      let w = ends .before .before in
-      let s = seen w in
-      let near = end-near _ _ _ _ _ _ (some s) _ (x s) (is-head s) _ _ (w .node-walk .ensures) (past w) _ _ _ (ends .after .given .1) (2 ^ 20) (start s .pre .1 .2) in
-      omega (arith, some s, start s .pre, near)
-
-  above-requires : lts.Need-above-both-requires (callees t) (given t) node-walk.Post
-  above-requires c κs =
-      let ends = c .before .before .before .before .before .before .before in
-      let w = ends .before .before in
-      let s = seen w in
-      level-fits _ _ _ _ _ _ (some s) _ (x s) (is-head s) _ _ (w .node-walk .ensures) (past w) _ _ _ (ends .after .given .1) (start s .fits .levels .fits) _ _ _
-      (c .node-walk2 .ensures)
-
-  returns-3 : lts.Need-returns-3 (callees t) (given t) node-walk.Post
-  returns-3 c =
-      let second = c .before in
-      let asked = second .before .before .before in
-      let own = asked .before in
-      let ends = own .before .before .before in
-      let w = ends .before .before in
-      let s = seen w in
-      two-done _ _ _ _ _ _ (some s) _ (x s) (is-head s) _ _ (w .node-walk .ensures) (past w) _ _ _ (ends .after .given .1)
-      (ltb-true _ 4 (sym (asked .has-two-children .ensures) ∙ second .before .before .if3 .taken)) _ (own .store-node2 .ensures) _ _ (second .node-walk2 .ensures)
-      _ (c .above-both .ensures)
-
-  add-level : lts.Need-add-t34 (callees t) (given t) node-walk.Post
-  add-level c =
-      let ends = c .before .before .before .before .before in
-      let w = ends .before .before in
-      let s = seen w in
-      omega (
-        arith,
-        start s .fits .levels,
-        levels-few _ _ _ _ _ _ (some s) _ (x s) (is-head s) _ _ (w .node-walk .ensures) (past w) _ _ _ (ends .after .given .1),
-      )
-
-  returns-5 : lts.Need-returns-5 (callees t) (given t) node-walk.Post
-  returns-5 c =
-      let w = c .before .before .before in
-      let s = seen w in
-      first-faulty _ _ _ _ _ _ (some s) _ (x s) (is-head s) _ _ (w .node-walk .ensures) (past w) _ _ _ (c .before .fault2 .given .1)
-
-  returns-6 : lts.Need-returns-6 (callees t) (given t) node-walk.Post
-  returns-6 c =
-      let own = c .before .before in
-      let ends = own .before .before .before in
-      let w = ends .before .before in
-      let s = seen w in
-      one-done _ _ _ _ _ _ (some s) _ (x s) (is-head s) _ _ (w .node-walk .ensures) (past w) _ _ _ (ends .after .given .1)
-      (ltb-false _ 4 (sym (c .before .has-two-children .ensures) ∙ c .if3 .left)) _ (own .store-node2 .ensures)
-
-  returns-4 : lts.Need-returns-4 (callees t) (given t) node-walk.Post
-  returns-4 c =
-      let read = c .before .before .before in
-      no-head _ _ _ _ _ _ (read .before .if1 .left) _ _ _ _ (sym (read .node-head-at .ensures) ∙ c .before .fault .given .1)
-
 pub +node-walk-spec : {M : Type 1} → statement M
 +node-walk-spec =
     close μ-node-walk λ t.
     lts.spec (callees t) (given t) node-walk.Post
-    (returns t)
+    (λ c. no-level _ _ _ _ _ _ _ _ (c .if1 .taken))
     (λ c. search needs) (λ c κs. search needs) (λ c. search needs) (λ c. search needs)
     (λ c. omega (arith, few t c))
     (λ c κs. search needs)
-    (store-requires t)
-    (returns-2 t)
-    (walk-requires t)
+    (λ c κs. let s = c .before .before .before in
+    (few t s, head-fits _ _ (start t s .pre .1 .0) (start t s .pre .1 .1) _ _ (within t s) _ _ (omega (arith, few t s)), near t s))
+    (λ c. let s = c .before .before .before .before in
+    let leaf = ltb-true _ 2 (sym (c .before .before .before .has-no-child .ensures) ∙ c .before .before .if2 .taken) in
+    leaf-done _ _ _ _ _ _ (some t s) _ (x t s) (is-head t s) leaf _ (c .store-node .ensures))
+    (λ c κs. let s = c .before .before .before in
+    omega (arith, some t s, next-near _ _ _ _ (within t s)))
     (λ c. search needs) (λ c. search needs)
-    (store-requires-2 t)
+    (λ c κs. let ends = c .before .before in
+    let s = seen t (ends .before .before) in
+    (few t s, head-fits _ _ (start t s .pre .1 .0) (start t s .pre .1 .1) _ _ (within t s) _ _ (omega (arith, few t s, few-after t ends)), near t s))
     (λ c κs. search needs)
-    (walk-requires-2 t)
-    (above-requires t)
-    (returns-3 t)
-    (add-level t)
-    (returns-4 t)
-    (returns-5 t)
-    (returns-6 t)
+    (λ c κs. let ends = c .before .before .before .before .before .before in
+    let w = ends .before .before in
+    let s = seen t w in
+    let near = end-near _ _ _ _ _ _ (some t s) _ (x t s) (is-head t s) _ _ (w .node-walk .ensures) (past t w) _ _ _ (ends .after .given .1) (2 ^ 20)
+    (start t s .pre .1 .2) in
+    omega (arith, some t s, start t s .pre, near))
+    (λ c κs. let ends = c .before .before .before .before .before .before .before in
+    let w = ends .before .before in
+    let s = seen t w in
+    level-fits _ _ _ _ _ _ (some t s) _ (x t s) (is-head t s) _ _ (w .node-walk .ensures) (past t w) _ _ _ (ends .after .given .1)
+    (start t s .fits .levels .fits) _ _ _
+    (c .node-walk2 .ensures))
+    (λ c. let second = c .before in
+    let asked = second .before .before .before in
+    let own = asked .before in
+    let ends = own .before .before .before in
+    let w = ends .before .before in
+    let s = seen t w in
+    two-done _ _ _ _ _ _ (some t s) _ (x t s) (is-head t s) _ _ (w .node-walk .ensures) (past t w) _ _ _ (ends .after .given .1)
+    (ltb-true _ 4 (sym (asked .has-two-children .ensures) ∙ second .before .before .if3 .taken)) _ (own .store-node2 .ensures) _ _
+    (second .node-walk2 .ensures)
+    _ (c .above-both .ensures))
+    (λ c. let ends = c .before .before .before .before .before in
+    let w = ends .before .before in
+    let s = seen t w in
+    omega (
+      arith,
+      start t s .fits .levels,
+      levels-few _ _ _ _ _ _ (some t s) _ (x t s) (is-head t s) _ _ (w .node-walk .ensures) (past t w) _ _ _ (ends .after .given .1),
+    ))
+    (λ c. let read = c .before .before .before in
+    no-head _ _ _ _ _ _ (read .before .if1 .left) _ _ _ _ (sym (read .node-head-at .ensures) ∙ c .before .fault .given .1))
+    (λ c. let w = c .before .before .before in
+    let s = seen t w in
+    first-faulty _ _ _ _ _ _ (some t s) _ (x t s) (is-head t s) _ _ (w .node-walk .ensures) (past t w) _ _ _ (c .before .fault2 .given .1))
+    (λ c. let own = c .before .before in
+    let ends = own .before .before .before in
+    let w = ends .before .before in
+    let s = seen t w in
+    one-done _ _ _ _ _ _ (some t s) _ (x t s) (is-head t s) _ _ (w .node-walk .ensures) (past t w) _ _ _ (ends .after .given .1)
+    (ltb-false _ 4 (sym (c .before .has-two-children .ensures) ∙ c .if3 .left)) _ (own .store-node2 .ensures))

@@ -11,33 +11,19 @@ use Rattle.derivation.proofs.nodes.above_both.Tie as tie
 fits : (c : tie.After-second2) → (suc (c .before .before .args .left) < 2 ^ 32) × (suc (c .second2 .given .0 .1 .0) < 2 ^ 32)
 fits c = rw (c .second2 .given .1) at (c .before .before .pre)
 
-returns : tie.Need-returns
-unfolding aboveBoth
-returns c =
-    let ends = c .before .before in
-    let right = ends .second2 .given .0 .1 .0 in
-    let most : suc (max (ends .before .before .args .left) right) ≡ right + 1 = omega arith in
-    rw (ends .second2 .given .1, most)
-
-returns-2 : tie.Need-returns-2
-unfolding aboveBoth
-returns-2 c = rw (c .before .second .given .1)
-
-returns-3 : tie.Need-returns-3
-unfolding aboveBoth
-returns-3 c =
-    let ends = c .before .before in
-    let left = ends .before .before .args .left in
-    let most : suc (max left (ends .second2 .given .0 .1 .0)) ≡ left + 1 = omega arith in
-    rw (ends .second2 .given .1, most)
-
 pub above-both-spec : {M : Type 1} → statement M
+unfolding aboveBoth
 above-both-spec =
     tie.close
-    (tie.spec
-    (λ c. search needs) (λ c. search needs)
+    (tie.spec (λ c. search needs) (λ c. search needs)
     (λ c. omega (arith, fits (c .before .before)))
-    returns
+    (λ c. let ends = c .before .before in
+    let right = ends .second2 .given .0 .1 .0 in
+    let most : suc (max (ends .before .before .args .left) right) ≡ right + 1 = omega arith in
+    rw (ends .second2 .given .1, most))
     (λ c. omega (arith, fits (c .before .before)))
-    returns-2
-    returns-3)
+    (λ c. rw (c .before .second .given .1))
+    (λ c. let ends = c .before .before in
+    let left = ends .before .before .args .left in
+    let most : suc (max left (ends .second2 .given .0 .1 .0)) ≡ left + 1 = omega arith in
+    rw (ends .second2 .given .1, most)))

@@ -7,10 +7,6 @@ use Rattle.derivation.specs.Nodes.{onPair, loopHead}
 use Rattle.derivation.proofs.nodes.loop_head.Statement.{statement}
 use Rattle.derivation.proofs.nodes.loop_head.Tie as tie
 
-returns : tie.Need-returns
-unfolding loopHead
-returns c = rw (ne-eqb _ 5 (c .if1 .taken))
-
 -- The pair, read with the node after it.
 in-pair : (c : tie.After-names-at) →
     let a = c .before .before .before .args in
@@ -19,19 +15,12 @@ in-pair : (c : tie.After-names-at) →
 unfolding loopHead
 in-pair c = rw (eq-eqb _ 5 (c .before .if1 .left)) (c .names-at .ensures _)
 
-returns-2 : tie.Need-returns-2
-unfolding onPair
-returns-2 c = sym (rw (c .before .fault .given .1) at (in-pair (c .before .before .before)))
-
-returns-3 : tie.Need-returns-3
-unfolding onPair
-returns-3 c = sym (rw (c .before .pair .given .1) at (in-pair (c .before .before .before)))
-
 pub loop-head-spec : {M : Type 1} → statement M
+unfolding loopHead onPair
 loop-head-spec =
     tie.close
     (tie.spec
-    returns
+    (λ c. rw (ne-eqb _ 5 (c .if1 .taken)))
     (λ c κs. search needs) (λ c. search needs) (λ c. search needs)
-    returns-2
-    returns-3)
+    (λ c. sym (rw (c .before .fault .given .1) at (in-pair (c .before .before .before))))
+    (λ c. sym (rw (c .before .pair .given .1) at (in-pair (c .before .before .before)))))

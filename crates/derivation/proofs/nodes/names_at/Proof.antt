@@ -7,56 +7,32 @@ use Rattle.derivation.proofs.Heads.{named-missing, named-over, named-th
 use Rattle.derivation.proofs.nodes.names_at.Statement.{statement}
 use Rattle.derivation.proofs.nodes.names_at.Tie as tie
 
-returns : tie.Need-returns
+pub names-at-spec : {M : Type 1} → statement M
 unfolding onPair
-returns c f =
-    rw (c .bit-length .ensures)
-    (named-missing _ _ _ _ (sym (c .before .before .before .read .ensures) ∙ c .before .enum-told .given .1))
-
-returns-2 : tie.Need-returns-2
-unfolding onPair
-returns-2 c f =
-    let field = c .before .before in
-    named-over _ (field .before .before .before .before .args .first) _ _ _ _ (sym (field .before .before .read .ensures) ∙ field .i .given .1) (c .if1 .taken)
-
-returns-3 : tie.Need-returns-3
-unfolding onPair
-returns-3 c f =
-    let second = c .before .before .before in
+names-at-spec =
+    tie.close
+    (tie.spec (λ c κs. search needs) (λ c. search needs) (λ c. search needs) (λ c κs. search needs)
+    (λ c f. rw (c .bit-length .ensures)
+    (named-missing _ _ _ _ (sym (c .before .before .before .read .ensures) ∙ c .before .enum-told .given .1)))
+    (λ c f. let field = c .before .before in
+    named-over _ (field .before .before .before .before .args .first) _ _ _ _ (sym (field .before .before .read .ensures) ∙ field .i .given .1)
+    (c .if1 .taken))
+    (λ c κs. search needs) (λ c. search needs) (λ c. search needs) (λ c κs. search needs)
+    (λ c f. let second = c .before .before .before in
     let first = second .before .before .before in
     rw (c .bit-length2 .ensures)
     (second-name _ _ _ _ _ _ (sym (first .before .before .read .ensures) ∙ first .i .given .1) (second .before .if1 .left) f
-    ∙ named-missing _ _ _ _ (sym (second .read2 .ensures) ∙ c .before .enum-told2 .given .1))
-
-returns-4 : tie.Need-returns-4
-unfolding onPair
-returns-4 c f =
-    let second = c .before .before in
+    ∙ named-missing _ _ _ _ (sym (second .read2 .ensures) ∙ c .before .enum-told2 .given .1)))
+    (λ c f. let second = c .before .before in
     let judged = second .before .before .before in
     let first = judged .before .before in
     second-name _ _ _ _ _ _ (sym (first .before .before .read .ensures) ∙ first .i .given .1) (judged .if1 .left) f
-    ∙ named-over _ _ _ _ _ _ (sym (second .before .before .read2 .ensures) ∙ second .j .given .1) (c .if2 .taken)
-
-returns-5 : tie.Need-returns-5
-unfolding onPair
-returns-5 c f =
-    let second = c .before .before in
+    ∙ named-over _ _ _ _ _ _ (sym (second .before .before .read2 .ensures) ∙ second .j .given .1) (c .if2 .taken))
+    (λ c. search needs) (λ c. search needs)
+    (λ c f. let second = c .before .before in
     let judged = second .before .before .before in
     let first = judged .before .before in
     let field = sym (second .before .before .read2 .ensures) ∙ second .j .given .1 in
     rw (there _ _ _ _ _ field .moved)
     (second-name _ _ _ _ _ _ (sym (first .before .before .read .ensures) ∙ first .i .given .1) (judged .if1 .left) f
-    ∙ named-there _ _ _ _ _ _ field (c .if2 .left))
-
-pub names-at-spec : {M : Type 1} → statement M
-names-at-spec =
-    tie.close
-    (tie.spec
-    (λ c κs. search needs) (λ c. search needs) (λ c. search needs) (λ c κs. search needs)
-    returns
-    returns-2
-    (λ c κs. search needs) (λ c. search needs) (λ c. search needs) (λ c κs. search needs)
-    returns-3
-    returns-4
-    (λ c. search needs) (λ c. search needs)
-    returns-5)
+    ∙ named-there _ _ _ _ _ _ field (c .if2 .left))))

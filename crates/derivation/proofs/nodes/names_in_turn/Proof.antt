@@ -39,24 +39,12 @@ second : (c : tie.After-names-at2) →
 unfolding onPair
 second c = rw (c .before .before .front .given .1) at (first (c .before .before .before .before)) ∙ c .names-at2 .ensures _
 
-returns : tie.Need-returns
-unfolding onPair
-returns c = sym (rw (c .before .fault .given .1) at (first (c .before .before .before)))
-
-returns-2 : tie.Need-returns-2
-unfolding onPair
-returns-2 c = sym (rw (c .before .fault2 .given .1) at (second (c .before .before .before)))
-
-returns-3 : tie.Need-returns-3
-unfolding onPair
-returns-3 c = c .loop-head .ensures ∙ sym (rw (c .before .before .back .given .1) at (second (c .before .before .before .before)))
-
 pub names-in-turn-spec : {M : Type 1} → statement M
+unfolding onPair
 names-in-turn-spec =
     tie.close
-    (tie.spec
-    (λ c κs. search needs) (λ c. search needs) (λ c. search needs) (λ c κs. search needs) (λ c. search needs)
+    (tie.spec (λ c κs. search needs) (λ c. search needs) (λ c. search needs) (λ c κs. search needs) (λ c. search needs)
     (λ c. search needs) (λ c κs. search needs)
-    returns
-    returns-2
-    returns-3)
+    (λ c. sym (rw (c .before .fault .given .1) at (first (c .before .before .before))))
+    (λ c. sym (rw (c .before .fault2 .given .1) at (second (c .before .before .before))))
+    (λ c. c .loop-head .ensures ∙ sym (rw (c .before .before .back .given .1) at (second (c .before .before .before .before)))))

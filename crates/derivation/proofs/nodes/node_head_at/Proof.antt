@@ -11,49 +11,26 @@ use Rattle.derivation.specs.Nodes.{ruleHead, nodeHead}
 use Rattle.derivation.proofs.nodes.node_head_at.Statement.{statement}
 use Rattle.derivation.proofs.nodes.node_head_at.Tie as tie
 
-returns : tie.Need-returns
+pub node-head-at-spec : {M : Type 1} → statement M
 unfolding nodeHead ruleHead
-returns c = rw (← c .before .before .before .read .ensures, c .before .enum-told .given .1, c .bit-length .ensures)
-
-returns-2 : tie.Need-returns-2
-unfolding nodeHead ruleHead
-returns-2 c =
-    let field = c .before .before in
+node-head-at-spec =
+    tie.close
+    (tie.spec (λ c κs. search needs) (λ c. search needs) (λ c. search needs) (λ c κs. search needs)
+    (λ c. rw (← c .before .before .before .read .ensures, c .before .enum-told .given .1, c .bit-length .ensures))
+    (λ c. search needs)
+    (λ c. let field = c .before .before in
     rw (← field .before .before .read .ensures, field .rule .given .1)
     (⊎-elim
     (λ h. rw (eq-eqb _ 0 (h .taken)))
     (λ h. let many : leb 127 (field .before .before .before .before .args .before) ≡ true = h .1 .taken in simp (many, or-true))
-    (c .if1 .came))
-
-returns-3 : tie.Need-returns-3
-unfolding nodeHead ruleHead
-returns-3 c =
-    let few = c .before .before in
+    (c .if1 .came)))
+    (λ c. let few = c .before .before in
     let field = few .before .before in
-    rw (← field .before .before .read .ensures, field .rule .given .1, ne-eqb _ 0 (few .if1 .left), c .before .if2 .left, eq-eqb _ 7 (c .if3 .taken))
-
-returns-4 : tie.Need-returns-4
-unfolding nodeHead ruleHead
-returns-4 c =
-    let few = c .before .before .before in
+    rw (← field .before .before .read .ensures, field .rule .given .1, ne-eqb _ 0 (few .if1 .left), c .before .if2 .left, eq-eqb _ 7 (c .if3 .taken)))
+    (λ c. let field = c .before .before .before .before in
+    omega (arith, there _ _ _ _ _ (sym (field .before .before .read .ensures) ∙ field .rule .given .1)))
+    (λ c κs. search needs)
+    (λ c. let few = c .before .before .before in
     let field = few .before .before in
     rw (← field .before .before .read .ensures, field .rule .given .1, ne-eqb _ 0 (few .if1 .left), c .before .before .if2 .left, ne-eqb _ 7 (c .before .if3 .left))
-    (c .names-head .ensures)
-
-cast-names-head : tie.Need-cast-names-head
-cast-names-head c =
-    let field = c .before .before .before .before in
-    omega (arith, there _ _ _ _ _ (sym (field .before .before .read .ensures) ∙ field .rule .given .1))
-
-pub node-head-at-spec : {M : Type 1} → statement M
-node-head-at-spec =
-    tie.close
-    (tie.spec
-    (λ c κs. search needs) (λ c. search needs) (λ c. search needs) (λ c κs. search needs)
-    returns
-    (λ c. search needs)
-    returns-2
-    returns-3
-    cast-names-head
-    (λ c κs. search needs)
-    returns-4)
+    (c .names-head .ensures)))

@@ -4,9 +4,6 @@ use Rattle.derivation.specs.Nodes.{wholeNode}
 use Rattle.derivation.proofs.nodes.read_nodes.Statement.{statement}
 use Rattle.derivation.proofs.nodes.read_nodes.Tie as tie
 
-returns : tie.Need-returns
-unfolding wholeNode
-returns c = c .node-walk .ensures
-
 pub read-nodes-spec : {M : Type 1} → statement M
-read-nodes-spec = tie.close (tie.spec (λ c. search needs) (λ c κs. search needs) returns)
+unfolding wholeNode
+read-nodes-spec = tie.close (tie.spec (λ c. search needs) (λ c κs. search needs) (λ c. c .node-walk .ensures))

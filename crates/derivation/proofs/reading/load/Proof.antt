@@ -16,35 +16,22 @@ read : (c : tie.After-found) →
     (d : Derivation) × (readProof (a .src .now) (a .n) ≡ proof (x .sets) (x .relations) (x .root) d) × (x .nodes ≡ nodes d) × (x .levels ≡ levels d)
 read c = answered _ _ (sym (ap (λ f. f .found) (c .before .before .read-proof .ensures)) ∙ c .found .given .1)
 
-fill-requires : tie.Need-fill-requires
-fill-requires c κs =
-    let file = read (c .before .before .before .before) in
-    omega (arith, counted _ _ _ (stages _ _ _ _ _ (file .0) (file .1) .tables))
-
-returns : tie.Need-returns
-returns c =
-    let told = c .before .before .before .before in
+pub load-spec : {M : Type 1} → statement M
+load-spec =
+    tie.close
+    (tie.spec (λ c κs. search needs) (λ c. search needs) (λ c κs. search needs) (λ c. search needs) (λ c. search needs)
+    (λ c. search needs)
+    (λ c κs. let file = read (c .before .before .before .before) in
+    omega (arith, counted _ _ _ (stages _ _ _ _ _ (file .0) (file .1) .tables)))
+    (λ c. search needs)
+    (λ c. let told = c .before .before .before .before in
     let file = told .before .before in
     let a = file .before .before .before .args in (
       file .read-proof .ensures,
       c .before .before .clear .ensures
           ∙ written-same _ _ _ (λ j. sym (no-words (a .src .now) (a .n) (readProof (a .src .now) (a .n)) _ _
           (sym (ap (λ f. f .found) (file .read-proof .ensures)) ∙ told .enum-told .given .1) j)),
-    )
-
-returns-2 : tie.Need-returns-2
-returns-2 c =
-    let file = c .before .before .before .before .before .before .before in
-    (file .before .before .read-proof .ensures, rw (read file .1) (c .before .before .fill .ensures))
-
-pub load-spec : {M : Type 1} → statement M
-load-spec =
-    tie.close
-    (tie.spec
-    (λ c κs. search needs) (λ c. search needs) (λ c κs. search needs) (λ c. search needs) (λ c. search needs)
+    ))
     (λ c. search needs)
-    fill-requires
-    (λ c. search needs)
-    returns
-    (λ c. search needs)
-    returns-2)
+    (λ c. let file = c .before .before .before .before .before .before .before in
+    (file .before .before .read-proof .ensures, rw (read file .1) (c .before .before .fill .ensures))))

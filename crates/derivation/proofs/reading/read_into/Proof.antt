@@ -15,41 +15,21 @@ tables : (c : tie.After-head) →
     tablesAt (a .src .now) (a .n) ≡ Counts (c .head .given .0 .0)
 tables c = sym (c .before .before .read-tables .ensures) ∙ c .head .given .1
 
-read-nodes-requires : tie.Need-read-nodes-requires
-read-nodes-requires c κs =
-    let r = counted _ _ _ (tables (c .before .before)) in
-    omega (arith, r .sets-most, r .relations-most, r .at-root, row-small _ _ _ 0 (r .states-most) (r .sets-most) (r .relations-most) (omega arith))
-
-returns : tie.Need-returns
-returns c = no-tables _ _ _ _ _ _ (sym (c .before .before .before .read-tables .ensures) ∙ c .before .fault .given .1)
-
-returns-2 : tie.Need-returns-2
-returns-2 c =
-    let read = c .before .before .before in
-    no-nodes _ _ _ _ _ (tables (read .before .before .before)) _ _ (sym (read .read-nodes .ensures .0) ∙ c .before .fault2 .given .1)
-
-returns-3 : tie.Need-returns-3
-returns-3 c =
-    let ends = c .before .before .before .before .before in
-    let read = ends .before .before in
-    wrong-fill _ _ _ _ _ (tables (read .before .before .before)) _ _ _ (sym (read .read-nodes .ensures .0) ∙ ends .nodes .given .1) _
-    (sym (c .before .before .before .read-fill .ensures) ∙ c .before .place .given .1)
-
-returns-4 : tie.Need-returns-4
-returns-4 c =
-    let ends = c .before .before .before .before in
-    let read = ends .before .before in
-    whole-file _ _ _ _ _ (tables (read .before .before .before)) _ _ _ (sym (read .read-nodes .ensures .0) ∙ ends .nodes .given .1)
-    (sym (c .before .before .read-fill .ensures) ∙ c .enum-told .given .1) (read .read-nodes .ensures .1)
-
 pub read-into-spec : {M : Type 1} → statement M
 read-into-spec =
     tie.close
-    (tie.spec
-    (λ c κs. search needs) (λ c. search needs) (λ c. search needs)
-    read-nodes-requires
+    (tie.spec (λ c κs. search needs) (λ c. search needs) (λ c. search needs)
+    (λ c κs. let r = counted _ _ _ (tables (c .before .before)) in
+    omega (arith, r .sets-most, r .relations-most, r .at-root, row-small _ _ _ 0 (r .states-most) (r .sets-most) (r .relations-most) (omega arith)))
     (λ c. search needs) (λ c. search needs) (λ c κs. search needs) (λ c. search needs) (λ c. search needs)
-    returns
-    returns-2
-    returns-3
-    returns-4)
+    (λ c. no-tables _ _ _ _ _ _ (sym (c .before .before .before .read-tables .ensures) ∙ c .before .fault .given .1))
+    (λ c. let read = c .before .before .before in
+    no-nodes _ _ _ _ _ (tables (read .before .before .before)) _ _ (sym (read .read-nodes .ensures .0) ∙ c .before .fault2 .given .1))
+    (λ c. let ends = c .before .before .before .before .before in
+    let read = ends .before .before in
+    wrong-fill _ _ _ _ _ (tables (read .before .before .before)) _ _ _ (sym (read .read-nodes .ensures .0) ∙ ends .nodes .given .1) _
+    (sym (c .before .before .before .read-fill .ensures) ∙ c .before .place .given .1))
+    (λ c. let ends = c .before .before .before .before in
+    let read = ends .before .before in
+    whole-file _ _ _ _ _ (tables (read .before .before .before)) _ _ _ (sym (read .read-nodes .ensures .0) ∙ ends .nodes .given .1)
+    (sym (c .before .before .read-fill .ensures) ∙ c .enum-told .given .1) (read .read-nodes .ensures .1)))

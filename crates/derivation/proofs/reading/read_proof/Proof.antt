@@ -4,12 +4,9 @@ use Rattle.derivation.proofs.Files.{file-refused, file-read}
 use Rattle.derivation.proofs.reading.read_proof.Statement.{statement}
 use Rattle.derivation.proofs.reading.read_proof.Tie as tie
 
-returns : tie.Need-returns
-returns c = file-refused _ _ _ _ (c .before .before .before .read-into .ensures) _ _ (c .before .fault .given .1)
-
-returns-2 : tie.Need-returns-2
-returns-2 c = file-read _ _ _ _ (c .before .before .before .read-into .ensures) _ (c .before .head .given .1)
-
 pub read-proof-spec : {M : Type 1} → statement M
 read-proof-spec =
-    tie.close (tie.spec (λ c κs. search needs) (λ c. search needs) (λ c. search needs) returns returns-2)
+    tie.close
+    (tie.spec (λ c κs. search needs) (λ c. search needs) (λ c. search needs)
+    (λ c. file-refused _ _ _ _ (c .before .before .before .read-into .ensures) _ _ (c .before .fault .given .1))
+    (λ c. file-read _ _ _ _ (c .before .before .before .read-into .ensures) _ (c .before .head .given .1)))

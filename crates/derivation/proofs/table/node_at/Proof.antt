@@ -6,19 +6,11 @@ use Rattle.derivation.specs.NodeTable.{nodeIn}
 use Rattle.derivation.proofs.table.node_at.Statement.{statement}
 use Rattle.derivation.proofs.table.node_at.Tie as tie
 
-returns : tie.Need-returns
-unfolding nodeIn
-returns c = c .node-of .ensures
-
-returns-2 : tie.Need-returns-2
-unfolding nodeIn
-returns-2 c = rw (List·getD-eq-default {A = ℕ} _ 0 (c .before .if1 .left)) (c .node-of2 .ensures)
-
 pub node-at-spec : {M : Type 1} → statement M
+unfolding nodeIn
 node-at-spec =
     tie.close
-    (tie.spec
-    (λ c. search needs) (λ c. search needs) (λ c κs. search needs)
-    returns
+    (tie.spec (λ c. search needs) (λ c. search needs) (λ c κs. search needs)
+    (λ c. c .node-of .ensures)
     (λ c κs. search needs)
-    returns-2)
+    (λ c. rw (List·getD-eq-default {A = ℕ} _ 0 (c .before .if1 .left)) (c .node-of2 .ensures)))

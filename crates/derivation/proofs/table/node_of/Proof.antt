@@ -5,14 +5,10 @@ use Rattle.derivation.specs.NodeTable.{nodeOf}
 use Rattle.derivation.proofs.table.node_of.Statement.{statement}
 use Rattle.derivation.proofs.table.node_of.Tie as tie
 
-returns : tie.Need-returns
-unfolding nodeOf
-returns c = refl
-
 pub node-of-spec : {M : Type 1} → statement M
+unfolding nodeOf
 node-of-spec =
     tie.close
-    (tie.spec
-    (λ c. search needs) (λ c. search needs) (λ c. search needs) (λ c. search needs) (λ c. search needs)
+    (tie.spec (λ c. search needs) (λ c. search needs) (λ c. search needs) (λ c. search needs) (λ c. search needs)
     (λ c. search needs) (λ c. search needs) (λ c. search needs)
-    returns)
+    (λ c. refl))

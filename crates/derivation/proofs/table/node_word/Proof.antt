@@ -5,16 +5,12 @@ use Rattle.derivation.specs.NodeTable.{nodeWord}
 use Rattle.derivation.proofs.table.node_word.Statement.{statement}
 use Rattle.derivation.proofs.table.node_word.Tie as tie
 
-returns : tie.Need-returns
-unfolding nodeWord
-returns c = omega arith
-
 pub node-word-spec : {M : Type 1} → statement M
+unfolding nodeWord
 node-word-spec =
     tie.close
-    (tie.spec
+    (tie.spec (λ c. search needs) (λ c. search needs) (λ c. search needs) (λ c. search needs) (λ c. search needs) (λ c. search needs)
     (λ c. search needs) (λ c. search needs) (λ c. search needs) (λ c. search needs) (λ c. search needs) (λ c. search needs)
     (λ c. search needs) (λ c. search needs) (λ c. search needs) (λ c. search needs) (λ c. search needs) (λ c. search needs)
     (λ c. search needs) (λ c. search needs) (λ c. search needs) (λ c. search needs) (λ c. search needs) (λ c. search needs)
-    (λ c. search needs) (λ c. search needs) (λ c. search needs) (λ c. search needs) (λ c. search needs) (λ c. search needs)
-    returns)
+    (λ c. omega arith))

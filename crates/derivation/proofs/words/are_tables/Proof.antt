@@ -4,9 +4,6 @@ use Rattle.derivation.specs.Tables.{areTables}
 use Rattle.derivation.proofs.words.are_tables.Statement.{statement}
 use Rattle.derivation.proofs.words.are_tables.Tie as tie
 
-returns : tie.Need-returns
-unfolding areTables
-returns c = refl
-
 pub are-tables-spec : {M : Type 1} → statement M
-are-tables-spec = tie.close (tie.spec returns)
+unfolding areTables
+are-tables-spec = tie.close (tie.spec (λ c. refl))

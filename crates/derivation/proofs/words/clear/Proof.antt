@@ -16,39 +16,25 @@ Inv-loop work₀ count j₀ work j = (j ≤ count) × (work ≡ tabulate j (λ i
 abbrev μ-loop : tie.MeasureT-loop
 μ-loop work₀ count j₀ work j = count - j
 
-loop-holds : tie.Need-loop-holds Inv-loop μ-loop
-unfolding tabulate
-loop-holds c = (search needs, refl)
-
 -- The buffer keeps its length.
 kept : (c : tie.At-loop Inv-loop μ-loop) → length (c .loop .work) ≡ length (c .before .before .before .args .work .now)
 kept c =
     let a = c .before .before .before .args in
     ap length (c .loop .inv .1) ∙ length-filled (λ i. 0) (a .work .now) (c .loop .j) (omega arith)
 
-loop-again : tie.Need-loop-again Inv-loop μ-loop
-loop-again c =
-    let l = c .before .loop in
-    (search needs, rw (l .inv .1) (fill-more (λ i. 0) _ (l .j) (omega arith)))
-
-returns : tie.Need-returns Inv-loop μ-loop
-unfolding written
-returns c =
-    let l = c .before .loop in
-    let all : l .j ≡ min workWords (length (c .before .before .before .before .args .work .now)) = omega arith in
-    rw (l .inv .1, all)
-
 pub clear-spec : {M : Type 1} → statement M
+unfolding tabulate written
 clear-spec =
     tie.close
-    (tie.spec
-    Inv-loop
-    μ-loop
+    (tie.spec Inv-loop μ-loop
     (λ c κs. search needs)
-    loop-holds
+    (λ c. (search needs, refl))
     (λ c. omega (arith, kept (c .before)))
     (λ c. omega (arith, kept (c .before)))
     (λ c. search needs) (λ c. search needs)
-    loop-again
+    (λ c. let l = c .before .loop in
+    (search needs, rw (l .inv .1) (fill-more (λ i. 0) _ (l .j) (omega arith))))
     (λ c. kept (c .before))
-    returns)
+    (λ c. let l = c .before .loop in
+    let all : l .j ≡ min workWords (length (c .before .before .before .before .args .work .now)) = omega arith in
+    rw (l .inv .1, all)))

@@ -18,13 +18,6 @@ Inv-loop src n sets relations work₀ used j₀ work j = work ≡ written (upto 
 abbrev μ-loop : tie.MeasureT-loop
 μ-loop src n sets relations work₀ used j₀ work j = used - j
 
-loop-holds : tie.Need-loop-holds Inv-loop μ-loop
-loop-holds c =
-    let a = c .before .before .before .before .before .before .before .args in
-    let none = c .before .before .before .clear .ensures in
-    let f = tableWord (a .src .now) (a .n) (a .sets) (a .relations) in
-    none ∙ sym (upto-none f (a .work .now)) ∙ sym (written-again (upto f 0) (λ j. 0) (a .work .now)) ∙ ap (written (upto f 0)) (sym none)
-
 -- The buffer as it was is what the words past the tables show.
 held : (c : tie.At-loop Inv-loop μ-loop) →
     let a = c .before .before .before .before .before .before .before .before .args in
@@ -39,35 +32,28 @@ cleared : (c : tie.At-loop Inv-loop μ-loop)
     → length (c .before .before .before .before .clear .last .0) ≡ length (c .before .before .before .before .before .before .before .before .args .work .now)
 cleared c = ap length (c .before .before .before .before .clear .ensures) ∙ length-written _ _
 
-loop-again : tie.Need-loop-again Inv-loop μ-loop
-loop-again c =
-    let l = c .before .before .before .loop in
-    rw (l .inv, c .before .table-word .ensures)
-    (upto-more _ _ (l .j) (c .next-word .result) (c .next-word .ensures .0) (omega arith) (omega arith) (c .next-word .ensures .1 _ _ _))
-
 past : (s : List ℕ) (n sets relations i : ℕ) → setWords * (mostTables + capacity * relations) ≤ i → tableWord s n sets relations i ≡ 0
 unfolding tableWord entryWord
 past s n sets relations i over =
     simp (le-ltb (i / setWords) mostTables (omega arith), le-ltb ((i / setWords - mostTables) / capacity) relations (omega arith))
 
-returns : tie.Need-returns Inv-loop μ-loop
-returns c =
-    let a = c .before .before .before .before .before .before .before .before .before .args in
-    held (c .before)
-    ∙ upto-all _ (a .work .now) (c .before .loop .j) (λ i after within.
-    past (a .src .now) (a .n) (a .sets) (a .relations) i (omega (arith, cleared (c .before))))
-
 pub fill-spec : {M : Type 1} → statement M
 fill-spec =
     tie.close
-    (tie.spec
-    Inv-loop
-    μ-loop
+    (tie.spec Inv-loop μ-loop
     (λ c κs. search needs) (λ c κs. search needs)
-    loop-holds
+    (λ c. let a = c .before .before .before .before .before .before .before .args in
+    let none = c .before .before .before .clear .ensures in
+    let f = tableWord (a .src .now) (a .n) (a .sets) (a .relations) in
+    none ∙ sym (upto-none f (a .work .now)) ∙ sym (written-again (upto f 0) (λ j. 0) (a .work .now)) ∙ ap (written (upto f 0)) (sym none))
     (λ c κs. search needs) (λ c. search needs)
     (λ c. omega (arith, kept (c .before .before), cleared (c .before .before)))
     (λ c κs. search needs) (λ c. search needs)
-    loop-again
+    (λ c. let l = c .before .before .before .loop in
+    rw (l .inv, c .before .table-word .ensures)
+    (upto-more _ _ (l .j) (c .next-word .result) (c .next-word .ensures .0) (omega arith) (omega arith) (c .next-word .ensures .1 _ _ _)))
     (λ c. kept (c .before))
-    returns)
+    (λ c. let a = c .before .before .before .before .before .before .before .before .before .args in
+    held (c .before)
+    ∙ upto-all _ (a .work .now) (c .before .loop .j) (λ i after within.
+    past (a .src .now) (a .n) (a .sets) (a .relations) i (omega (arith, cleared (c .before))))))

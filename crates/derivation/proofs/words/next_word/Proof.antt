@@ -9,18 +9,14 @@ use Rattle.derivation.specs.Tables.{mostTables, entryWord, tableWord}
 use Rattle.derivation.proofs.words.next_word.Statement.{statement}
 use Rattle.derivation.proofs.words.next_word.Tie as tie
 
-returns-3 : tie.Need-returns-3
-unfolding tableWord entryWord
-returns-3 c = (
-  search needs,
-  λ s sets relations i after before.
-      let n = c .before .before .args .n in
-      simp (le-ltb (i / setWords) mostTables (omega arith), le-ltb ((i / setWords - mostTables) % capacity) n (omega arith), and-false),
-)
-
 pub next-word-spec : {M : Type 1} → statement M
+unfolding tableWord entryWord
 next-word-spec =
     tie.close
-    (tie.spec
-    (λ c. search needs) (λ c. search needs) (λ c. search needs) (λ c. search needs) (λ c. search needs) (λ c. search needs)
-    returns-3)
+    (tie.spec (λ c. search needs) (λ c. search needs) (λ c. search needs) (λ c. search needs) (λ c. search needs) (λ c. search needs)
+    (λ c. (
+      search needs,
+      λ s sets relations i after before.
+          let n = c .before .before .args .n in
+          simp (le-ltb (i / setWords) mostTables (omega arith), le-ltb ((i / setWords - mostTables) % capacity) n (omega arith), and-false),
+    )))

@@ -18,52 +18,35 @@ set-small c =
     let a = c .before .before .before .args in
     row-offsets (a .n) 0 (a .j / setWords) 0 (search needs) (omega arith) (omega arith) (omega arith) .0
 
-returns : tie.Need-returns
+pub table-word-spec : {M : Type 1} → statement M
 unfolding tableWord entryWord setAt
-returns c = rw (lt-ltb _ mostTables (c .before .before .if1 .taken), lt-ltb _ _ (c .before .if2 .taken)) (c .set-word-at .ensures)
-
-returns-2 : tie.Need-returns-2
-unfolding tableWord entryWord
-returns-2 c = rw (lt-ltb _ mostTables (c .before .if1 .taken), le-ltb _ _ (c .if2 .left))
-
-returns-3 : tie.Need-returns-3
-unfolding tableWord entryWord
-returns-3 c =
-    let a = c .before .before .before .args in
+table-word-spec =
+    tie.close
+    (tie.spec (λ c. omega (arith, set-small c))
+    (λ c. omega (arith, set-small c))
+    (λ c κs. omega (arith, set-small c))
+    (λ c. rw (lt-ltb _ mostTables (c .before .before .if1 .taken), lt-ltb _ _ (c .before .if2 .taken)) (c .set-word-at .ensures))
+    (λ c. rw (lt-ltb _ mostTables (c .before .if1 .taken), le-ltb _ _ (c .if2 .left)))
+    (λ c. let a = c .before .before .before .args in
     rw (le-ltb _ mostTables (c .before .if1 .left))
     (⊎-elim
     (λ h. rw (le-ltb _ _ (h .taken)))
     (λ h. simp (le-ltb ((a .j / setWords - mostTables) % capacity) (a .n) (omega (arith, leb-true)), and-false))
-    (c .if3 .came))
-
-set-word-at2-requires : tie.Need-set-word-at-requires-2
-set-word-at2-requires c κs =
-    let a = c .before .before .before .before .before .args in
+    (c .if3 .came)))
+    (λ c κs. search needs)
+    (λ c κs. let a = c .before .before .before .before .before .args in
     let row = a .j / setWords - mostTables in
-    omega (arith, c .row-cursor .ensures, row-small (a .n) (a .sets) (row / capacity) (row % capacity) (omega arith) (omega arith) (omega arith) (omega arith))
-
-returns-4 : tie.Need-returns-4
-unfolding tableWord entryWord
-returns-4 c =
-    let row = c .before .before in
+    omega (
+      arith,
+      c .row-cursor .ensures,
+      row-small (a .n) (a .sets) (row / capacity) (row % capacity) (omega arith) (omega arith) (omega arith)
+          (omega arith),
+    ))
+    (λ c. let row = c .before .before in
     rw (
       le-ltb _ mostTables (row .before .before .if1 .left),
       lt-ltb _ _ (row .before .if3 .left),
       lt-ltb _ _ (leb-false _ _ (row .if4 .left)),
       ← c .before .row-cursor .ensures,
     )
-    (c .set-word-at2 .ensures)
-
-pub table-word-spec : {M : Type 1} → statement M
-table-word-spec =
-    tie.close
-    (tie.spec
-    (λ c. omega (arith, set-small c))
-    (λ c. omega (arith, set-small c))
-    (λ c κs. omega (arith, set-small c))
-    returns
-    returns-2
-    returns-3
-    (λ c κs. search needs)
-    set-word-at2-requires
-    returns-4)
+    (c .set-word-at2 .ensures)))

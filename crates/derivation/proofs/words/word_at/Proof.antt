@@ -15,22 +15,13 @@ whole : (c : tie.After-reversed) →
     c .reversed .result ≡ wordAt (a .src .now) (a .at) 64
 whole c = c .reversed .ensures ∙ rw (c .before .number-at .ensures ∙ number-bits _ _ 64 (omega arith)) (word-reversed _ _)
 
-rem-result : tie.Need-rem-result
-rem-result c =
-    let n = c .before .before .before .before .args .n in
-    rw (shifted n (c .if1 .taken)) (pow-pos n)
-
-returns : tie.Need-returns
-returns c =
-    let a = c .before .before .before .before .args in
-    rw (shifted (a .n) (c .if1 .taken), whole (c .before)) (word-first (a .src .now) (a .at) (a .n) 64 (omega arith))
-
-returns-2 : tie.Need-returns-2
-returns-2 c =
-    let all : c .before .before .before .before .args .n ≡ 64 = omega arith in
-    rw (whole (c .before), all)
-
 pub word-at-spec : {M : Type 1} → statement M
 word-at-spec =
     tie.close
-    (tie.spec (λ c κs. search needs) (λ c κs. search needs) (λ c. search needs) rem-result returns returns-2)
+    (tie.spec (λ c κs. search needs) (λ c κs. search needs) (λ c. search needs)
+    (λ c. let n = c .before .before .before .before .args .n in
+    rw (shifted n (c .if1 .taken)) (pow-pos n))
+    (λ c. let a = c .before .before .before .before .args in
+    rw (shifted (a .n) (c .if1 .taken), whole (c .before)) (word-first (a .src .now) (a .at) (a .n) 64 (omega arith)))
+    (λ c. let all : c .before .before .before .before .args .n ≡ 64 = omega arith in
+    rw (whole (c .before), all)))

@@ -11,18 +11,13 @@ use Rattle.derivation.proofs.words.write_tables.Tie as tie
 within : (c : tie.Then1) → let a = c .before .before .before .before .args in areTables (a .n) (a .sets) (a .relations) ≡ true
 within c = sym (c .before .are-tables .ensures) ∙ c .if1 .taken
 
-fill-requires : tie.Need-fill-requires
-fill-requires c κs = within-limits _ _ _ (within (c .before))
-
-returns : tie.Need-returns
-returns c = c .before .before .fill .ensures ∙ written-same _ _ _ (λ j. sym (limited-word _ _ _ _ j (within (c .before .before .before .before))))
-
-returns-2 : tie.Need-returns-2
-returns-2 c =
-    let e = c .before .before .before .before in
-    c .before .before .clear .ensures ∙ written-same _ _ _ (λ j. sym (no-word _ _ _ _ j (sym (e .before .are-tables .ensures) ∙ e .if1 .left)))
-
 pub write-tables-spec : {M : Type 1} → statement M
 write-tables-spec =
     tie.close
-    (tie.spec (λ c κs. search needs) fill-requires (λ c κs. search needs) (λ c. search needs) returns (λ c. search needs) returns-2)
+    (tie.spec (λ c κs. search needs)
+    (λ c κs. within-limits _ _ _ (within (c .before)))
+    (λ c κs. search needs) (λ c. search needs)
+    (λ c. c .before .before .fill .ensures ∙ written-same _ _ _ (λ j. sym (limited-word _ _ _ _ j (within (c .before .before .before .before)))))
+    (λ c. search needs)
+    (λ c. let e = c .before .before .before .before in
+    c .before .before .clear .ensures ∙ written-same _ _ _ (λ j. sym (no-word _ _ _ _ j (sym (e .before .are-tables .ensures) ∙ e .if1 .left)))))

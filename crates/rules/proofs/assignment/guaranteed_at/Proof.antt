@@ -11,16 +11,13 @@ use Rattle.rules.proofs.Rows.{or-itself}
 use Rattle.rules.proofs.assignment.guaranteed_at.Statement.{statement}
 use Rattle.rules.proofs.assignment.guaranteed_at.Tie as tie
 
-returns : tie.Need-returns
-returns c =
-    let allowed = c .before .before in
+pub guaranteed-at-spec : {M : Type 1} → statement M
+guaranteed-at-spec =
+    tie.close
+    (tie.spec (λ c κs. search needs) (λ c κs. search needs) (λ c κs. search needs) (λ c κs. search needs) (λ c κs. search needs)
+    (λ c. let allowed = c .before .before in
     let a = allowed .before .before .before .before .before .args in
     c .included .ensures
     ∙ all-cong capacity _ _ (λ t l. ap₂ implies (c .before .row .ensures t)
     (allowed .join .ensures t ∙ ap₂ _||_ (allowed .before .before .single .ensures t) (allowed .before .row-at .ensures t) ∙ or-itself (a .s) t _ l))
-    ∙ small-within (a .n) _ _ (rel-small (a .n) (a .after .now) (a .s))
-
-pub guaranteed-at-spec : {M : Type 1} → statement M
-guaranteed-at-spec =
-    tie.close
-    (tie.spec (λ c κs. search needs) (λ c κs. search needs) (λ c κs. search needs) (λ c κs. search needs) (λ c κs. search needs) returns)
+    ∙ small-within (a .n) _ _ (rel-small (a .n) (a .after .now) (a .s))))

@@ -26,29 +26,24 @@ Inv-loop n work own after rest₀ held₀ rest held = Passed n (λ s. holds (gua
 abbrev μ-loop : tie.MeasureT-loop
 μ-loop n work own after rest₀ held₀ rest held = count capacity (has rest)
 
-loop-holds : tie.Need-loop-holds Inv-loop μ-loop
-loop-holds c =
-    let a = c .before .before .before .args in passed-none _ _ _ (λ s e. set-small (a .n) (a .work .now) (a .own .p) s (sym (c .set-at .ensures s) ∙ e) .1)
-
 one : (c : tie.After-without-least Inv-loop μ-loop)
     → let d = c .before .before in LeastTaken (d .before .before .before .loop .rest) (c .without-least .result) (d .least .result)
 one c =
     let d = c .before .before in
     take-least _ _ (d .before .before .is-empty .ensures) (d .before .if1 .taken) _ (d .least .ensures) _ (c .without-least .ensures)
 
-loop-again : tie.Need-loop-again Inv-loop μ-loop
-loop-again c =
-    let l = c .before .before .before .before .before in
-    let a = l .before .before .before .before .args in
-    passed-more (a .n) (λ s. holds (guaranteed (a .n) (a .work .now) (a .own .g) (a .after .now) s)) _ _ _ _ _ _ (one c .taken)
-    (c .before .guaranteed-at .ensures) (l .loop .inv)
-
-returns : tie.Need-returns Inv-loop μ-loop
-returns c = let l = c .before .before in passed-search _ _ _ _ _ _ (none-left _ _ (c .before .is-empty .ensures) (c .if1 .left)) (λ s k. l .before .set-at .ensures s) (l .loop .inv)
-
 pub store-in-guarantee-spec : {M : Type 1} → statement M
 store-in-guarantee-spec =
     tie.close
-    (tie.spec Inv-loop μ-loop (λ c κs. search needs) loop-holds (λ c κs. search needs) (λ c κs. search needs) (λ c κs. search needs)
+    (tie.spec Inv-loop μ-loop (λ c κs. search needs)
+    (λ c. let a = c .before .before .before .args in passed-none _ _ _
+    (λ s e. set-small (a .n) (a .work .now) (a .own .p) s (sym (c .set-at .ensures s) ∙ e) .1))
+    (λ c κs. search needs) (λ c κs. search needs) (λ c κs. search needs)
     (λ c κs. search needs)
-    (λ c. one c .less) loop-again returns)
+    (λ c. one c .less)
+    (λ c. let l = c .before .before .before .before .before in
+    let a = l .before .before .before .before .args in
+    passed-more (a .n) (λ s. holds (guaranteed (a .n) (a .work .now) (a .own .g) (a .after .now) s)) _ _ _ _ _ _ (one c .taken)
+    (c .before .guaranteed-at .ensures) (l .loop .inv))
+    (λ c. let l = c .before .before in passed-search _ _ _ _ _ _ (none-left _ _ (c .before .is-empty .ensures) (c .if1 .left))
+    (λ s k. l .before .set-at .ensures s) (l .loop .inv)))

@@ -6,11 +6,10 @@ use Rattle.rules.proofs.Rows.{pairs-within}
 use Rattle.rules.proofs.assignment.store_in_post.Statement.{statement}
 use Rattle.rules.proofs.assignment.store_in_post.Tie as tie
 
-returns : tie.Need-returns
-unfolding wordRelation
-returns c =
-    simp (c .before .before .set-at .ensures, c .before .rows-of .ensures) at (c .included-from .ensures)
-    ∙ pairs-within _ _ _ _
-
 pub store-in-post-spec : {M : Type 1} → statement M
-store-in-post-spec = tie.close (tie.spec (λ c κs. search needs) (λ c κs. search needs) (λ c κs. search needs) returns)
+unfolding wordRelation
+store-in-post-spec =
+    tie.close
+    (tie.spec (λ c κs. search needs) (λ c κs. search needs) (λ c κs. search needs)
+    (λ c. simp (c .before .before .set-at .ensures, c .before .rows-of .ensures) at (c .included-from .ensures)
+    ∙ pairs-within _ _ _ _))

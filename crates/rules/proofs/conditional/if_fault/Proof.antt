@@ -8,21 +8,17 @@ use Rattle.rules.proofs.Asking.{asked-then}
 use Rattle.rules.proofs.conditional.if_fault.Statement.{statement}
 use Rattle.rules.proofs.conditional.if_fault.Tie as tie
 
--- The points of the code have names, the last first, each by its distance from the one after it.
-returns : tie.Need-returns
+pub if-fault-spec : {M : Type 1} → statement M
 unfolding c45
-returns c =
-    let reading = c .before .before .before in
+if-fault-spec =
+    tie.close
+    (tie.spec (λ c κs. search needs) (λ c κs. search needs) (λ c κs. search needs) (λ c κs. search needs) (λ c κs. search needs)
+    (λ c κs. search needs)
+    -- The points of the code have names, the last first, each by its distance from the one after it.
+    (λ c. let reading = c .before .before .before in
     let test = reading .before .before .before in
     let a = test .before .before .before .before .args in
     let n = test .before .states-in .result in
     let skips = c .before .skip-satisfies-post .ensures ∙ ap (λ F. holds (c46 n (wordSpec n (a .work .now) (a .own)) F)) (fun-ext (test .truths-at .ensures .1)) in
     rw (test .before .states-in .ensures, fun-ext (test .truths-at .ensures .0)) at
-    (asked-then 46 _ (rw (reading .common-reading .ensures) at (c .before .before .if-tables .ensures)) (c .ask .ensures) skips)
-
-pub if-fault-spec : {M : Type 1} → statement M
-if-fault-spec =
-    tie.close
-    (tie.spec
-    (λ c κs. search needs) (λ c κs. search needs) (λ c κs. search needs) (λ c κs. search needs) (λ c κs. search needs) (λ c κs. search needs)
-    returns)
+    (asked-then 46 _ (rw (reading .common-reading .ensures) at (c .before .before .if-tables .ensures)) (c .ask .ensures) skips)))

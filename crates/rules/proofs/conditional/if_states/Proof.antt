@@ -14,16 +14,6 @@ use Rattle.rules.proofs.Naming.{other, plain, done, reading-silent, fou
 use Rattle.rules.proofs.conditional.if_states.Statement.{statement}
 use Rattle.rules.proofs.conditional.if_states.Tie as tie
 
-returns : tie.Need-returns
-unfolding statesFor given c46 wordRelation
-returns c fits child =
-    let test = c .before .before .before .before .before in
-    let n = test .before .before .states-in .ensures in
-    let from : (s : ℕ) → _ ≡ (wordSet _ _ _ s && isFalse _ _ s) = λ s. c .before .before .before .meet .ensures s ∙ ap₂ _&&_ (rw n at (c .before .before .before .before .set-at .ensures s)) (test .truths-at .ensures .1 s) in
-    rw (test .before .if1 .taken)
-    (found-as _ _ (rw n at (c .least-state .ensures))
-    (stay-same _ _ _ _ from (rw n at (c .before .diagonal .ensures)) (c .before .before .rows-of .ensures) ∙ inSet-and _ _ _ _))
-
 returns-2 : tie.Need-returns-2
 unfolding c34 c36 c37 c38 c45
 returns-2 c fits child =
@@ -32,10 +22,16 @@ returns-2 c fits child =
     (plain _ refl (plain _ refl (plain _ refl (plain _ refl (other (ne-eqb _ 46 (c .before .if1 .left)) done)))))))
 
 pub if-states-spec : {M : Type 1} → statement M
+unfolding statesFor given c46 wordRelation
 if-states-spec =
     tie.close
-    (tie.spec
-    (λ c κs. search needs) (λ c κs. search needs) (λ c κs. search needs) (λ c κs. search needs) (λ c κs. search needs) (λ c κs. search needs)
+    (tie.spec (λ c κs. search needs) (λ c κs. search needs) (λ c κs. search needs) (λ c κs. search needs) (λ c κs. search needs)
+    (λ c κs. search needs)
     (λ c κs. search needs) (λ c κs. search needs)
-    returns
+    (λ c fits child. let test = c .before .before .before .before .before in
+    let n = test .before .before .states-in .ensures in
+    let from : (s : ℕ) → _ ≡ (wordSet _ _ _ s && isFalse _ _ s) = λ s. c .before .before .before .meet .ensures s ∙ ap₂ _&&_ (rw n at (c .before .before .before .before .set-at .ensures s)) (test .truths-at .ensures .1 s) in
+    rw (test .before .if1 .taken)
+    (found-as _ _ (rw n at (c .least-state .ensures))
+    (stay-same _ _ _ _ from (rw n at (c .before .diagonal .ensures)) (c .before .before .rows-of .ensures) ∙ inSet-and _ _ _ _)))
     returns-2)

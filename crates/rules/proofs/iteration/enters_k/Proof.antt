@@ -11,16 +11,13 @@ use Rattle.rules.proofs.Words.{set-small}
 use Rattle.rules.proofs.iteration.enters_k.Statement.{statement}
 use Rattle.rules.proofs.iteration.enters_k.Tie as tie
 
-returns : tie.Need-returns
+pub enters-k-spec : {M : Type 1} → statement M
 unfolding c52
-returns c =
-    let a = c .before .before .before .before .before .args in
+enters-k-spec =
+    tie.close
+    (tie.spec (λ c κs. search needs) (λ c κs. search needs) (λ c κs. search needs) (λ c κs. search needs)
+    (λ c. let a = c .before .before .before .before .before .args in
     let p = wordSet (a .n) (a .work .now) (a .own .p) in
     simp (c .before .before .meet .ensures, c .before .before .before .set-at .ensures, c .before .set-at2 .ensures) at (c .included .ensures)
     ∙ small-within (a .n) _ _ (λ s h. set-small (a .n) (a .work .now) (a .own .p) s (and-left (p s) _ h))
-    ∙ ap holds (inSet-and (a .n) p (has (a .truth)) _)
-
-pub enters-k-spec : {M : Type 1} → statement M
-enters-k-spec =
-    tie.close
-    (tie.spec (λ c κs. search needs) (λ c κs. search needs) (λ c κs. search needs) (λ c κs. search needs) returns)
+    ∙ ap holds (inSet-and (a .n) p (has (a .truth)) _)))

@@ -31,38 +31,31 @@ abbrev μ-loop : tie.MeasureT-loop
 small : (c : tie.After-set-at Inv-loop μ-loop) → StatesOnly (c .before .before .args .n) (has (c .set-at .result))
 small c s e = let a = c .before .before .args in set-small (a .n) (a .work .now) (a .own .p) s (sym (c .set-at .ensures s) ∙ e)
 
-loop-holds : tie.Need-loop-holds Inv-loop μ-loop
-loop-holds c = passed-none _ _ _ (λ s e. small c s e .1)
-
 one : (c : tie.After-without-least Inv-loop μ-loop)
     → let d = c .before .before in LeastTaken (d .before .before .before .loop .rest) (c .without-least .result) (d .least .result)
 one c =
     let d = c .before .before in
     take-least _ _ (d .before .before .is-empty .ensures) (d .before .if1 .taken) _ (d .least .ensures) _ (c .without-least .ensures)
 
-loop-again : tie.Need-loop-again Inv-loop μ-loop
-loop-again c =
-    let l = c .before .before .before .before .before in
+pub exit-satisfies-post-spec : {M : Type 1} → statement M
+unfolding c56
+exit-satisfies-post-spec =
+    tie.close
+    (tie.spec Inv-loop μ-loop (λ c κs. search needs)
+    (λ c. passed-none _ _ _ (λ s e. small c s e .1))
+    (λ c κs. search needs) (λ c κs. search needs) (λ c κs. search needs)
+    (λ c κs. search needs)
+    (λ c. one c .less)
+    (λ c. let l = c .before .before .before .before .before in
     let a = l .before .before .before .args in
     let p = has (l .before .set-at .result) in
     let s = c .before .before .least .result in
     passed-more (a .n) (λ s. holds (exits (a .n) (a .work .now) (a .w) (a .own .q) p (has (a .falsity)) s)) _ _ _ _ _ _ (one c .taken)
     (c .before .exit-satisfies-post-at .ensures
     ∙ small-within (a .n) _ _ (λ t h. small (l .before) t (and-right (eqb t s || wordRelation (a .n) (a .work .now) (a .w) s t) (p t) (and-left _ (has (a .falsity) t) h))))
-    (l .loop .inv)
-
-returns : tie.Need-returns Inv-loop μ-loop
-unfolding c56
-returns c =
-    let l = c .before .before in
+    (l .loop .inv))
+    (λ c. let l = c .before .before in
     let a = l .before .before .before .args in
     passed-search _ _ _ _ _ _ (none-left _ _ (c .before .is-empty .ensures) (c .if1 .left)) (λ s k. l .before .set-at .ensures s) (l .loop .inv)
     ∙ ap (λ p. holds (inSet (a .n) (wordSet (a .n) (a .work .now) (a .own .p)) (exits (a .n) (a .work .now) (a .w) (a .own .q) p (has (a .falsity)))))
-    (fun-ext (l .before .set-at .ensures))
-
-pub exit-satisfies-post-spec : {M : Type 1} → statement M
-exit-satisfies-post-spec =
-    tie.close
-    (tie.spec Inv-loop μ-loop (λ c κs. search needs) loop-holds (λ c κs. search needs) (λ c κs. search needs) (λ c κs. search needs)
-    (λ c κs. search needs)
-    (λ c. one c .less) loop-again returns)
+    (fun-ext (l .before .set-at .ensures))))

@@ -7,11 +7,10 @@ use Rattle.states.specs.Sets.{capacity, has}
 use Rattle.rules.proofs.iteration.exits.Statement.{statement}
 use Rattle.rules.proofs.iteration.exits.Tie as tie
 
-returns : tie.Need-returns
-returns c s t low l =
-    let a = c .before .before .before .before .args in
-    let joined = rw (lt-ltb s capacity low, lt-ltb s (a .n) l) at (c .before .before .with-same .ensures s t) in
-    rw (lt-ltb s capacity low) at (c .ending-in .ensures s t) ∙ ap (λ b. b && has (a .into) t) joined
-
 pub exits-spec : {M : Type 1} → statement M
-exits-spec = tie.close (tie.spec (λ c κs. search needs) (λ c. search needs) (λ c κs. search needs) returns)
+exits-spec =
+    tie.close
+    (tie.spec (λ c κs. search needs) (λ c. search needs) (λ c κs. search needs)
+    (λ c s t low l. let a = c .before .before .before .before .args in
+    let joined = rw (lt-ltb s capacity low, lt-ltb s (a .n) l) at (c .before .before .with-same .ensures s t) in
+    rw (lt-ltb s capacity low) at (c .ending-in .ensures s t) ∙ ap (λ b. b && has (a .into) t) joined))

@@ -9,15 +9,12 @@ use Rattle.rules.proofs.Words.{leads-cong}
 use Rattle.rules.proofs.iteration.keeps_k.Statement.{statement}
 use Rattle.rules.proofs.iteration.keeps_k.Tie as tie
 
-returns : tie.Need-returns
-unfolding c53
-returns c =
-    let k = c .before .before .before .set-at .ensures in
-    c .leads-into .ensures
-    ∙ leads-cong _ _ _ _ _ _ (λ s. c .before .meet .ensures s ∙ ap₂ _&&_ (c .before .before .set-at2 .ensures s) (k s)) k
-    ∙ ap holds (inSet-and _ _ _ _)
-
 pub keeps-k-spec : {M : Type 1} → statement M
+unfolding c53
 keeps-k-spec =
     tie.close
-    (tie.spec (λ c κs. search needs) (λ c κs. search needs) (λ c κs. search needs) (λ c κs. search needs) returns)
+    (tie.spec (λ c κs. search needs) (λ c κs. search needs) (λ c κs. search needs) (λ c κs. search needs)
+    (λ c. let k = c .before .before .before .set-at .ensures in
+    c .leads-into .ensures
+    ∙ leads-cong _ _ _ _ _ _ (λ s. c .before .meet .ensures s ∙ ap₂ _&&_ (c .before .before .set-at2 .ensures s) (k s)) k
+    ∙ ap holds (inSet-and _ _ _ _)))

@@ -12,9 +12,12 @@ use Rattle.rules.proofs.Words.{relation-small}
 use Rattle.rules.proofs.iteration.rely_descends_at.Statement.{statement}
 use Rattle.rules.proofs.iteration.rely_descends_at.Tie as tie
 
-returns : tie.Need-returns
-returns c =
-    let d = c .before .before .before .before in
+pub rely-descends-at-spec : {M : Type 1} → statement M
+rely-descends-at-spec =
+    tie.close
+    (tie.spec (λ c κs. search needs) (λ c κs. search needs) (λ c κs. search needs) (λ c κs. search needs) (λ c κs. search needs)
+    (λ c κs. search needs) (λ c κs. search needs)
+    (λ c. let d = c .before .before .before .before in
     let e = d .before .before in
     let a = e .before .before .before .args in
     c .included .ensures
@@ -22,13 +25,5 @@ returns c =
     (c .before .join .ensures t
     ∙ ap₂ _||_ (c .before .before .before .single .ensures t ∙ ap (λ b. b && eqb (a .s) t) (lt-ltb t capacity l)) (c .before .before .row-at2 .ensures t)))
     ∙ small-within (a .n) _ _ (relation-small (a .n) (a .work .now) (a .r) (a .s))
-    ∙ at-member _ _ (sym (e .holds-state .ensures ∙ e .before .set-at .ensures _) ∙ d .before .if1 .taken)
-
-returns-2 : tie.Need-returns-2
-returns-2 c = at-other _ _ (sym (c .before .holds-state .ensures ∙ c .before .before .set-at .ensures _) ∙ c .if1 .left)
-
-pub rely-descends-at-spec : {M : Type 1} → statement M
-rely-descends-at-spec =
-    tie.close
-    (tie.spec (λ c κs. search needs) (λ c κs. search needs) (λ c κs. search needs) (λ c κs. search needs) (λ c κs. search needs)
-    (λ c κs. search needs) (λ c κs. search needs) returns returns-2)
+    ∙ at-member _ _ (sym (e .holds-state .ensures ∙ e .before .set-at .ensures _) ∙ d .before .if1 .taken))
+    (λ c. at-other _ _ (sym (c .before .holds-state .ensures ∙ c .before .before .set-at .ensures _) ∙ c .if1 .left)))

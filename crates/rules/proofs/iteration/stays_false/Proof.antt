@@ -10,13 +10,12 @@ use Rattle.rules.proofs.Words.{leads-cong}
 use Rattle.rules.proofs.iteration.stays_false.Statement.{statement}
 use Rattle.rules.proofs.iteration.stays_false.Tie as tie
 
-returns : tie.Need-returns
+pub stays-false-spec : {M : Type 1} → statement M
 unfolding c54
-returns c =
-    let falsity = c .before .before .before .before .args .falsity in
+stays-false-spec =
+    tie.close
+    (tie.spec (λ c κs. search needs) (λ c κs. search needs) (λ c κs. search needs)
+    (λ c. let falsity = c .before .before .before .before .args .falsity in
     c .leads-into .ensures
     ∙ leads-cong _ _ _ falsity _ _ (λ s. c .before .meet .ensures s ∙ ap (λ b. b && has falsity s) (c .before .before .set-at .ensures s)) (λ s. refl)
-    ∙ ap holds (inSet-and _ _ _ _)
-
-pub stays-false-spec : {M : Type 1} → statement M
-stays-false-spec = tie.close (tie.spec (λ c κs. search needs) (λ c κs. search needs) (λ c κs. search needs) returns)
+    ∙ ap holds (inSet-and _ _ _ _)))

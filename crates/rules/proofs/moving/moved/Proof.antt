@@ -25,9 +25,6 @@ Inv-loop head work own n from mask₀ count v₀ mask v =
 abbrev μ-loop : tie.MeasureT-loop
 μ-loop head work own n from mask₀ count v₀ mask v = count - v
 
-returns : tie.Need-returns Inv-loop μ-loop
-returns c v = mask-none v ∙ sym (moves-none _ (sym (c .before .states-in .ensures) ∙ c .if1 .taken) _ v)
-
 -- It is enough to look at the states of P that start a pair.
 enough : (c : tie.After-meet Inv-loop μ-loop) (v : ℕ) → let k = c .before .before .before .before .before in
     let a = k .before .before .args in let n = k .states-in .result in
@@ -42,44 +39,36 @@ enough c v =
     (starts-moved (machineIn (a .head)) (a .work .now) (a .own) v _ _ (rw (starts .before .rows-of .ensures, k .states-in .ensures) at (starts .starting .ensures))
     (λ s. c .meet .ensures s ∙ ap (λ b. b && has (starts .starting .result) s) (rw (k .states-in .ensures) at (c .before .set-at .ensures s))))
 
-returns-2 : tie.Need-returns-2 Inv-loop μ-loop
-returns-2 c v =
-    let d = c .before .before in
-    let a = d .before .before .before .before .before .before .before .args in
-    mask-none v ∙ sym (any-none (a .head .count) _ (λ u l. ap (λ b. b && eqb u v) (sym (enough d u) ∙ none-start _ _ _ (none-in _ _ (c .before .is-empty .ensures) (c .if2 .taken)))))
-    ∙ mask-moves (a .head) (a .work .now) (a .own) v
-
 loop-holds : tie.Need-loop-holds Inv-loop μ-loop
 unfolding any
 loop-holds c = (omega arith, mask-none)
 
--- If there is a state, there are at most 4 variables.
-with-variable-requires : tie.Need-with-variable-requires Inv-loop μ-loop
-with-variable-requires c κs =
-    let k = c .before .before .before .before .before .before .before .before .before .before in
+pub moved-spec : {M : Type 1} → statement M
+moved-spec =
+    tie.close
+    (tie.spec Inv-loop μ-loop (λ c κs. search needs)
+    (λ c v. mask-none v ∙ sym (moves-none _ (sym (c .before .states-in .ensures) ∙ c .if1 .taken) _ v))
+    (λ c κs. search needs) (λ c κs. search needs) (λ c κs. search needs)
+    (λ c κs. search needs) (λ c κs. search needs)
+    (λ c v. let d = c .before .before in
+    let a = d .before .before .before .before .before .before .before .args in
+    mask-none v ∙ sym (any-none (a .head .count) _ (λ u l. ap (λ b. b && eqb u v) (sym (enough d u) ∙ none-start _ _ _ (none-in _ _ (c .before .is-empty .ensures) (c .if2 .taken)))))
+    ∙ mask-moves (a .head) (a .work .now) (a .own) v)
+    loop-holds (λ c κs. search needs)
+    -- If there is a state, there are at most 4 variables.
+    (λ c κs. let k = c .before .before .before .before .before .before .before .before .before .before in
     let a = k .before .before .args in
     let some : k .states-in .result ≡ 0 → ⊥ = c .before .before .before .before .before .before .before .before .before .if1 .left in
     let state : 0 < machineIn (a .head) .states = rw (← k .states-in .ensures) (omega arith) in
-    omega (arith, known-head (a .head) (state-head (a .head) 0 state) .few)
-
-loop-again : tie.Need-loop-again Inv-loop μ-loop
-loop-again c =
-    let l = c .before .before .before .loop in (
+    omega (arith, known-head (a .head) (state-head (a .head) 0 state) .few))
+    (λ c. search needs) (λ c. search needs)
+    (λ c. let l = c .before .before .before .loop in (
       omega arith,
       λ u. c .with-variable .ensures u
           ∙ ap₂ _||_ (l .inv .1 u) (ap (λ b. b && eqb (l .v) u) (c .before .moves-variable .ensures ∙ enough (c .before .before .before .before .before .before) (l .v)))
           ∙ sym (any-more _ _),
-    )
-
-returns-3 : tie.Need-returns-3 Inv-loop μ-loop
-returns-3 c v =
-    let d = c .before .before .before .before in
+    ))
+    (λ c v. let d = c .before .before .before .before in
     let a = d .before .before .before .before .before .before .before .args in
     c .before .loop .inv .1 v ∙ any-done _ _ _ (c .before .loop .inv .0) (c .loop-test .left)
-    ∙ mask-moves (a .head) (a .work .now) (a .own) v
-
-pub moved-spec : {M : Type 1} → statement M
-moved-spec =
-    tie.close
-    (tie.spec Inv-loop μ-loop (λ c κs. search needs) returns (λ c κs. search needs) (λ c κs. search needs) (λ c κs. search needs)
-    (λ c κs. search needs) (λ c κs. search needs) returns-2 loop-holds (λ c κs. search needs) with-variable-requires (λ c. search needs) (λ c. search needs) loop-again returns-3)
+    ∙ mask-moves (a .head) (a .work .now) (a .own) v))

@@ -58,27 +58,6 @@ start : (c : tie.After-meet Inv-loop μ-loop) → let a = c .before .before .bef
     (s : ℕ) → has (c .meet .result) s ≡ (has (a .from) s && (ltb s capacity && ltb s (a .n)))
 start c s = c .meet .ensures s ∙ ap (λ b. has (c .before .before .before .before .args .from) s && b) (c .before .below .ensures s)
 
-loop-holds : tie.Need-loop-holds Inv-loop μ-loop
-loop-holds c =
-    passed-none _ _ _ (start-below _ (c .before .before .before .before .args .from) _ (start c))
-
-loop-less : tie.Need-loop-less Inv-loop μ-loop
-loop-less c =
-    let d = c .before .before .before .before in
-    let e = d .before .before .before in
-    let set = e .before .before .before .loop .rest in
-    let first = e .least .result in
-    let least = least-of set _ (e .before .before .is-empty .ensures) (e .before .if1 .taken) first (e .least .ensures) in
-    let own = group d first ∙ or-right (agreeIn _ first first) (ltb first capacity && eqb first first) (and-both _ _ (lt-ltb first capacity (least .below)) (eq-eqb first first refl)) in
-    count-more capacity _ _ (λ s h. and-left (has set s) _ (sym (c .narrow .ensures s) ∙ h)) first (least .below)
-    (c .narrow .ensures first ∙ ap (λ b. has set first && not b) own ∙ and-false (has set first)) (least .there)
-
-loop-again : tie.Need-loop-again Inv-loop μ-loop
-loop-again c =
-    let d = c .before .before in
-    passed-part _ _ _ _ _ true true (has (d .before .before .join .result)) (c .narrow .ensures) (sym (c .before .if2 .taken) ∙ asked d)
-    (d .before .before .before .before .before .before .before .before .loop .inv)
-
 -- What the loop finds is what the contract says: the loop starts with the states of the set below n, and its variable is v of the head.
 moved : (c : tie.After-meet Inv-loop μ-loop) (b : Bool) → let a = c .before .before .before .before .args in
     b ≡ all (a .n) (λ s. implies (has (c .meet .result) s) (keeps (a .n) (a .work .now) (a .r) (c .before .before .variable-of .result) s))
@@ -89,19 +68,27 @@ moved c b e =
     ∙ any-cong (a .n) _ _ (λ s l. ap₂ _&&_ (start-same (a .n) (a .from) _ (start c) s l) (any-cong (a .n) _ _ (λ t k.
     ap (λ x. wordRelation (a .n) (a .work .now) (a .r) s t && not x) (ap (λ x. agreeIn x s t) (c .before .before .variable-of .ensures) ∙ agree-variable (a .head) (a .v) s t))))
 
-returns : tie.Need-returns Inv-loop μ-loop
-returns c =
-    let d = c .before in
-    let e = d .before .before .before .before .before .before .before .before in
-    moved (e .before) false (sym (passed-not _ _ _ _ _ (e .loop .inv) (sym (asked d) ∙ c .if2 .left)))
-
-returns-2 : tie.Need-returns-2 Inv-loop μ-loop
-returns-2 c = let d = c .before .before in moved (d .before) true (passed-all _ _ _ _ _ (none-left _ _ (c .before .is-empty .ensures) (c .if1 .left)) (d .loop .inv))
-
 pub moves-variable-spec : {M : Type 1} → statement M
 moves-variable-spec =
     tie.close
-    (tie.spec Inv-loop μ-loop (λ c κs. search needs) (λ c κs. search needs) (λ c κs. search needs) loop-holds (λ c κs. search needs) (λ c κs. search needs)
+    (tie.spec Inv-loop μ-loop (λ c κs. search needs) (λ c κs. search needs) (λ c κs. search needs)
+    (λ c. passed-none _ _ _ (start-below _ (c .before .before .before .before .args .from) _ (start c)))
     (λ c κs. search needs) (λ c κs. search needs)
-    (λ c κs. search needs) (λ c κs. search needs) (λ c κs. search needs) (λ c κs. search needs) loop-less loop-again returns
-    returns-2)
+    (λ c κs. search needs) (λ c κs. search needs)
+    (λ c κs. search needs) (λ c κs. search needs) (λ c κs. search needs) (λ c κs. search needs)
+    (λ c. let d = c .before .before .before .before in
+    let e = d .before .before .before in
+    let set = e .before .before .before .loop .rest in
+    let first = e .least .result in
+    let least = least-of set _ (e .before .before .is-empty .ensures) (e .before .if1 .taken) first (e .least .ensures) in
+    let own = group d first ∙ or-right (agreeIn _ first first) (ltb first capacity && eqb first first) (and-both _ _ (lt-ltb first capacity (least .below)) (eq-eqb first first refl)) in
+    count-more capacity _ _ (λ s h. and-left (has set s) _ (sym (c .narrow .ensures s) ∙ h)) first (least .below)
+    (c .narrow .ensures first ∙ ap (λ b. has set first && not b) own ∙ and-false (has set first)) (least .there))
+    (λ c. let d = c .before .before in
+    passed-part _ _ _ _ _ true true (has (d .before .before .join .result)) (c .narrow .ensures) (sym (c .before .if2 .taken) ∙ asked d)
+    (d .before .before .before .before .before .before .before .before .loop .inv))
+    (λ c. let d = c .before in
+    let e = d .before .before .before .before .before .before .before .before in
+    moved (e .before) false (sym (passed-not _ _ _ _ _ (e .loop .inv) (sym (asked d) ∙ c .if2 .left))))
+    (λ c. let d = c .before .before in moved (d .before) true
+    (passed-all _ _ _ _ _ (none-left _ _ (c .before .is-empty .ensures) (c .if1 .left)) (d .loop .inv))))

@@ -5,8 +5,5 @@ use borrow.Author.Needs.{needs}
 use Rattle.rules.proofs.moving.read_once.Statement.{statement}
 use Rattle.rules.proofs.moving.read_once.Tie as tie
 
-returns : tie.Need-returns
-returns c = ap (λ k. leb k 1) (c .occurrences-at .ensures)
-
 pub read-once-spec : {M : Type 1} → statement M
-read-once-spec = tie.close (tie.spec (λ c κs. search needs) returns)
+read-once-spec = tie.close (tie.spec (λ c κs. search needs) (λ c. ap (λ k. leb k 1) (c .occurrences-at .ensures)))

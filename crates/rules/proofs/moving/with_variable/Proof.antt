@@ -15,15 +15,12 @@ use Rattle.rules.proofs.moving.with_variable.Tie as tie
 shifted : (v : ℕ) → v < 32 → 1 * 2 ^ v % 2 ^ 32 ≡ 2 ^ v
 shifted v h = shl-exact 1 v 32 (omega arith) (omega arith) ∙ one-mul (2 ^ v)
 
-returns : tie.Need-returns
-returns c u =
-    let a = c .before .args in
+pub with-variable-spec : {M : Type 1} → statement M
+with-variable-spec =
+    tie.close
+    (tie.spec (λ c. search needs)
+    (λ c u. let a = c .before .args in
     or-bits (a .mask) _ u
     ∙ ap (λ b. inMask (a .mask) u || b)
-    (ap (λ x. inMask x u) (shifted (a .v) (c .before .pre)) ∙ bit-power (a .v) u ∙ sym (ap (λ b. b && eqb (a .v) u) (c .if1 .taken)))
-
-returns-2 : tie.Need-returns-2
-returns-2 c u = rw (c .if1 .left) (sym (or-false _))
-
-pub with-variable-spec : {M : Type 1} → statement M
-with-variable-spec = tie.close (tie.spec (λ c. search needs) returns returns-2)
+    (ap (λ x. inMask x u) (shifted (a .v) (c .before .pre)) ∙ bit-power (a .v) u ∙ sym (ap (λ b. b && eqb (a .v) u) (c .if1 .taken))))
+    (λ c u. rw (c .if1 .left) (sym (or-false _))))

@@ -15,10 +15,13 @@ once : (b x y : Bool) → (b && (b && x || y)) ≡ (b && (x || y))
 once true x y = refl
 once false x y = refl
 
-returns : tie.Need-returns
+pub changes-spec : {M : Type 1} → statement M
 unfolding wordRelation
-returns c s t =
-    let a = c .before .before .before .before .before .before .before .args in
+changes-spec =
+    tie.close
+    (tie.spec (λ c κs. search needs) (λ c κs. search needs) (λ c κs. search needs) (λ c. search needs) (λ c κs. search needs)
+    (λ c κs. search needs)
+    (λ c s t. let a = c .before .before .before .before .before .before .before .args in
     let r : ℕ → Bool = λ i. wordRelation (a .n) (a .work .now) i s t in
     simp (
       c .before .rows-of3 .ensures,
@@ -26,10 +29,4 @@ returns c s t =
       c .before .before .before .before .rows-of2 .ensures,
       c .before .before .before .before .before .rows-of .ensures,
     ) at (union-rel _ _ _ (c .union-of2 .result) (c .union-of2 .ensures) s t)
-    ∙ once (ltb s capacity) (r (a .r) || r (a .left)) (r (a .right))
-
-pub changes-spec : {M : Type 1} → statement M
-changes-spec =
-    tie.close
-    (tie.spec (λ c κs. search needs) (λ c κs. search needs) (λ c κs. search needs) (λ c. search needs) (λ c κs. search needs)
-    (λ c κs. search needs) returns)
+    ∙ once (ltb s capacity) (r (a .r) || r (a .left)) (r (a .right))))

@@ -20,20 +20,14 @@ Inv-loop n work left right moves ends₀ s₀ ends s =
 abbrev μ-loop : tie.MeasureT-loop
 μ-loop n work left right moves ends₀ s₀ ends s = capacity - s
 
-loop-again : tie.Need-loop-again Inv-loop μ-loop
-loop-again c =
-    let d = c .before .before in
-    let l = d .before .before .before in
-    rw (c .before .put-entry .ensures) (rows-more _ _ _ _ (omega arith) (d .joint-ends-at .ensures (omega arith)) (l .loop .inv))
-
-returns : tie.Need-returns Inv-loop μ-loop
-unfolding wordRelation
-returns c s t =
-    let a = c .before .before .before .before .args in
-    rel-pairs (a .n) _ _ _ (c .loop-test .left) (c .before .loop .inv) (λ u v e. rel-between (a .n) _ u v (and-left _ _ (and-left _ _ e))) s t
-
 pub joint-ends-spec : {M : Type 1} → statement M
+unfolding wordRelation
 joint-ends-spec =
     tie.close
     (tie.spec Inv-loop μ-loop (λ c. rows-none _) (λ c. search needs) (λ c. search needs) (λ c κs. search needs) (λ c κs. search needs)
-    (λ c. search needs) (λ c. search needs) loop-again returns)
+    (λ c. search needs) (λ c. search needs)
+    (λ c. let d = c .before .before in
+    let l = d .before .before .before in
+    rw (c .before .put-entry .ensures) (rows-more _ _ _ _ (omega arith) (d .joint-ends-at .ensures (omega arith)) (l .loop .inv)))
+    (λ c s t. let a = c .before .before .before .before .args in
+    rel-pairs (a .n) _ _ _ (c .loop-test .left) (c .before .loop .inv) (λ u v e. rel-between (a .n) _ u v (and-left _ _ (and-left _ _ e))) s t))

@@ -6,15 +6,12 @@ use Rattle.rules.proofs.Words.{reached-set}
 use Rattle.rules.proofs.parallel.joint_ends_at.Statement.{statement}
 use Rattle.rules.proofs.parallel.joint_ends_at.Tie as tie
 
-returns : tie.Need-returns
-returns c low t =
-    let both = c .before .before .before in
-    c .meet2 .ensures t
-    ∙ ap₂ _&&_ (both .meet .ensures t ∙ ap₂ _&&_ (both .before .before .row-at .ensures t) (both .before .row-at2 .ensures t))
-    (reached-set _ _ _ _ _ low (c .before .before .single .ensures) (c .before .reach .ensures) t)
-
 pub joint-ends-at-spec : {M : Type 1} → statement M
 joint-ends-at-spec =
     tie.close
     (tie.spec (λ c κs. search needs) (λ c κs. search needs) (λ c κs. search needs) (λ c κs. search needs) (λ c κs. search needs)
-    (λ c κs. search needs) returns)
+    (λ c κs. search needs)
+    (λ c low t. let both = c .before .before .before in
+    c .meet2 .ensures t
+    ∙ ap₂ _&&_ (both .meet .ensures t ∙ ap₂ _&&_ (both .before .before .row-at .ensures t) (both .before .row-at2 .ensures t))
+    (reached-set _ _ _ _ _ low (c .before .before .single .ensures) (c .before .reach .ensures) t)))

@@ -33,26 +33,19 @@ by-words c x =
     ∙ small-within (a .n) _ _ (λ t h. relation-small (a .n) (a .work .now) (a .left) (a .s) t (and-left _ _ (and-left _ (x t) h)))
     ∙ at-member _ _ (member (c .before .before .before .before))
 
-returns : tie.Need-returns
-returns c = sym (part-within capacity _ _ _ (sym (c .before .included .ensures) ∙ c .if2 .taken)) ∙ by-words (c .before .before) _
-
-returns-2 : tie.Need-returns-2
-returns-2 c =
-    let d = c .before .before .before .before .before .before in
+pub joint-post-at-spec : {M : Type 1} → statement M
+joint-post-at-spec =
+    tie.close
+    (tie.spec (λ c κs. search needs) (λ c κs. search needs) (λ c κs. search needs) (λ c κs. search needs) (λ c κs. search needs)
+    (λ c κs. search needs) (λ c κs. search needs) (λ c κs. search needs) (λ c κs. search needs) (λ c κs. search needs)
+    (λ c κs. search needs)
+    (λ c. sym (part-within capacity _ _ _ (sym (c .before .included .ensures) ∙ c .if2 .taken)) ∙ by-words (c .before .before) _)
+    (λ c. let d = c .before .before .before .before .before .before in
     let e = d .before .before .before .before in
     let a = e .before .before .before .before .before .args in
     let low = set-small (a .n) (a .work .now) (a .p) (a .s) (member e) .0 in
     let reached = reached-set (a .n) (a .moves .now) (a .s) _ _ low (c .before .before .before .single .ensures) (c .before .before .reach .ensures) in
     c .included2 .ensures
     ∙ all-cong capacity _ _ (λ t l. ap (λ b. implies b (has (d .row-at3 .result) t)) (c .before .meet2 .ensures t ∙ ap (λ b. has (d .before .meet .result) t && b) (reached t)))
-    ∙ by-words d _
-
-returns-3 : tie.Need-returns-3
-returns-3 c = at-other _ _ (sym (c .before .holds-state .ensures ∙ c .before .before .set-at .ensures _) ∙ c .if1 .left)
-
-pub joint-post-at-spec : {M : Type 1} → statement M
-joint-post-at-spec =
-    tie.close
-    (tie.spec (λ c κs. search needs) (λ c κs. search needs) (λ c κs. search needs) (λ c κs. search needs) (λ c κs. search needs)
-    (λ c κs. search needs) (λ c κs. search needs) (λ c κs. search needs) (λ c κs. search needs) (λ c κs. search needs)
-    (λ c κs. search needs) returns returns-2 returns-3)
+    ∙ by-words d _)
+    (λ c. at-other _ _ (sym (c .before .holds-state .ensures ∙ c .before .before .set-at .ensures _) ∙ c .if1 .left)))

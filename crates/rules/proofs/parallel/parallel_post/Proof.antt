@@ -1,7 +1,7 @@
 -- The loop keeps whether 66 holds at the states below s. `holds-next` adds the next, whose reach by the rows is the whole reach.
 use Prim.Native.Nat.{ℕ, _≤_, _-_}
 use native.Mathlib.Omega.{arith}
-use mathlib.Core.Path.{_≡_, _∙_, ap, ap₂, fun-ext, refl}
+use mathlib.Core.Path.{_≡_, _∙_, ap, ap₂, fun-ext}
 use mathlib.Core.Bool.{Bool, _&&_}
 use mathlib.Core.List.{List}
 use lib.Dec.{ltb}
@@ -12,7 +12,7 @@ use Rattle.states.specs.Relations.{rel, reach}
 use Rattle.semantics.specs.Conditions.{inSet, c66}
 use Rattle.semantics.specs.declared.Names.{Names}
 use Rattle.rules.specs.Words.{wordSet, wordRelation}
-use Rattle.rules.proofs.Searches.{holds-next, each-done}
+use Rattle.rules.proofs.Searches.{none-held, holds-next, each-done}
 use Rattle.search.proofs.Breaches.{given-cong}
 use Rattle.rules.proofs.Words.{set-small, anyone, anyone-reach}
 use Rattle.rules.proofs.parallel.parallel_post.Statement.{statement}
@@ -41,22 +41,15 @@ Inv-loop n work own left right moves held₀ s₀ held s = (s ≤ n) × (held �
 abbrev μ-loop : tie.MeasureT-loop
 μ-loop n work own left right moves held₀ s₀ held s = n - s
 
-loop-holds : tie.Need-loop-holds Inv-loop μ-loop
-unfolding each holds
-loop-holds c = (omega arith, refl)
-
-loop-again : tie.Need-loop-again Inv-loop μ-loop
-loop-again c =
-    let a = c .before .before .before .before .before .before .args in
-    let next = same-reach (a .n) (a .work .now) (a .own) (a .left) (a .right) _ (c .before .before .before .before .changes .ensures) (c .before .before .before .loop .s) in
-    (omega arith, ap₂ _&&_ (c .before .before .before .loop .inv .1) (c .joint-post-at .ensures ∙ ap holds next) ∙ holds-next _ _)
-
-returns : tie.Need-returns Inv-loop μ-loop
-unfolding c66 inSet
-returns c = c .before .loop .inv .1 ∙ each-done _ _ _ (c .before .loop .inv .0) (c .loop-test .left)
-
 pub parallel-post-spec : {M : Type 1} → statement M
+unfolding c66 inSet
 parallel-post-spec =
     tie.close
-    (tie.spec Inv-loop μ-loop (λ c κs. search needs) loop-holds (λ c. search needs) (λ c κs. search needs) (λ c. search needs)
-    (λ c. search needs) loop-again returns)
+    (tie.spec Inv-loop μ-loop (λ c κs. search needs)
+    (λ c. (omega arith, none-held _))
+    (λ c. search needs) (λ c κs. search needs) (λ c. search needs)
+    (λ c. search needs)
+    (λ c. let a = c .before .before .before .before .before .before .args in
+    let next = same-reach (a .n) (a .work .now) (a .own) (a .left) (a .right) _ (c .before .before .before .before .changes .ensures) (c .before .before .before .loop .s) in
+    (omega arith, ap₂ _&&_ (c .before .before .before .loop .inv .1) (c .joint-post-at .ensures ∙ ap holds next) ∙ holds-next _ _))
+    (λ c. c .before .loop .inv .1 ∙ each-done _ _ _ (c .before .loop .inv .0) (c .loop-test .left)))

@@ -7,10 +7,13 @@ use Rattle.rules.proofs.Asking.{asked-then}
 use Rattle.rules.proofs.sequence.sequence_tables.Statement.{statement}
 use Rattle.rules.proofs.sequence.sequence_tables.Tie as tie
 
-returns : tie.Need-returns
+pub sequence-tables-spec : {M : Type 1} → statement M
 unfolding c36 c37
-returns c =
-    asked-then 37 _
+sequence-tables-spec =
+    tie.close
+    (tie.spec (λ c κs. search needs) (λ c κs. search needs) (λ c κs. search needs) (λ c κs. search needs) (λ c κs. search needs)
+    (λ c κs. search needs) (λ c κs. search needs) (λ c κs. search needs) (λ c κs. search needs) (λ c κs. search needs)
+    (λ c. asked-then 37 _
     (asked-then 36 _
     (asked-then 37 _
     (asked-then 36 _
@@ -18,12 +21,4 @@ returns c =
     (c .before .before .before .before .before .before .ask2 .ensures) (c .before .before .before .before .before .before .before .same-relation .ensures ∙ sym (holds-must _)))
     (c .before .before .before .before .ask3 .ensures) (c .before .before .before .before .before .same-relation2 .ensures ∙ sym (holds-must _)))
     (c .before .before .ask4 .ensures) (c .before .before .before .same-relation3 .ensures ∙ sym (holds-must _)))
-    (c .ask5 .ensures) (c .before .same-relation4 .ensures ∙ sym (holds-must _))
-
-pub sequence-tables-spec : {M : Type 1} → statement M
-sequence-tables-spec =
-    tie.close
-    (tie.spec
-    (λ c κs. search needs) (λ c κs. search needs) (λ c κs. search needs) (λ c κs. search needs) (λ c κs. search needs)
-    (λ c κs. search needs) (λ c κs. search needs) (λ c κs. search needs) (λ c κs. search needs) (λ c κs. search needs)
-    returns)
+    (c .ask5 .ensures) (c .before .same-relation4 .ensures ∙ sym (holds-must _))))

@@ -4,15 +4,10 @@ use Rattle.rules.proofs.Asking.{asked-then}
 use Rattle.rules.proofs.skip.skip_fault.Statement.{statement}
 use Rattle.rules.proofs.skip.skip_fault.Tie as tie
 
-returns : tie.Need-returns
-returns c =
-    asked-then 35 _
-    (c .before .before .common .ensures)
-    (c .ask .ensures) (c .before .reflexive .ensures)
-
 pub skip-fault-spec : {M : Type 1} → statement M
 skip-fault-spec =
     tie.close
-    (tie.spec
-    (λ c κs. search needs) (λ c κs. search needs) (λ c κs. search needs)
-    returns)
+    (tie.spec (λ c κs. search needs) (λ c κs. search needs) (λ c κs. search needs)
+    (λ c. asked-then 35 _
+    (c .before .before .common .ensures)
+    (c .ask .ensures) (c .before .reflexive .ensures)))

@@ -34,26 +34,15 @@ one c =
     let d = c .before .before in
     take-least _ _ (d .before .before .is-empty .ensures) (d .before .if1 .taken) _ (d .least .ensures) _ (c .without-least .ensures)
 
-loop-holds : tie.Need-loop-holds Inv-loop μ-loop
-loop-holds c = passed-none _ _ _ (start-below _ (c .before .before .before .args .from) _ (start c))
-
-loop-again : tie.Need-loop-again Inv-loop μ-loop
-loop-again c = passed-more _ _ _ _ _ _ _ _ (one c .taken) (c .before .row-chains-into .ensures) (c .before .before .before .before .before .loop .inv)
-
-returns : tie.Need-returns Inv-loop μ-loop
-returns c =
-    let l = c .before .before in
-    passed-search _ _ _ _ _ _ (none-left _ _ (c .before .is-empty .ensures) (c .if1 .left)) (start-same _ (l .before .before .before .before .args .from) _ (start (l .before))) (l .loop .inv)
-
 pub chains-into-spec : {M : Type 1} → statement M
 chains-into-spec =
     tie.close
-    (tie.spec
-    Inv-loop
-    μ-loop
+    (tie.spec Inv-loop μ-loop
     (λ c κs. search needs) (λ c κs. search needs)
-    loop-holds
+    (λ c. passed-none _ _ _ (start-below _ (c .before .before .before .args .from) _ (start c)))
     (λ c κs. search needs) (λ c κs. search needs) (λ c κs. search needs) (λ c κs. search needs)
     (λ c. one c .less)
-    loop-again
-    returns)
+    (λ c. passed-more _ _ _ _ _ _ _ _ (one c .taken) (c .before .row-chains-into .ensures) (c .before .before .before .before .before .loop .inv))
+    (λ c. let l = c .before .before in
+    passed-search _ _ _ _ _ _ (none-left _ _ (c .before .is-empty .ensures) (c .if1 .left))
+    (start-same _ (l .before .before .before .before .args .from) _ (start (l .before))) (l .loop .inv)))

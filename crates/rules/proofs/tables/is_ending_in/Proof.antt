@@ -1,11 +1,11 @@
 -- The loop keeps whether the rows of `part` below s are those of `a` met with the set. `all-next` adds the next.
 use Prim.Native.Nat.{_≤_, _-_}
 use native.Mathlib.Omega.{arith}
-use mathlib.Core.Path.{_≡_, _∙_, sym, ap₂, refl}
+use mathlib.Core.Path.{_≡_, _∙_, sym, ap₂}
 use mathlib.Core.Bool.{_&&_}
 use borrow.Author.Needs.{needs}
 use Rattle.states.specs.Search.{all}
-use Rattle.states.proofs.Search.{all-next, all-done}
+use Rattle.states.proofs.Search.{all-intro, all-next, all-done}
 use Rattle.semantics.specs.Conditions.{sameSet, sameRelation}
 use Rattle.rules.specs.Words.{wordSet, wordRelation}
 use Rattle.rules.proofs.tables.is_ending_in.Statement.{statement}
@@ -17,18 +17,12 @@ Inv-loop n work part a p held₀ s₀ held s = (s ≤ n) × (held ≡ all s (λ 
 abbrev μ-loop : tie.MeasureT-loop
 μ-loop n work part a p held₀ s₀ held s = n - s
 
-loop-holds : tie.Need-loop-holds Inv-loop μ-loop
-unfolding all
-loop-holds c = (omega arith, refl)
-
-loop-again : tie.Need-loop-again Inv-loop μ-loop
-loop-again c = (omega arith, ap₂ _&&_ (c .before .before .loop .inv .1) (c .row-ends-in .ensures) ∙ sym (all-next _ _))
-
-returns : tie.Need-returns Inv-loop μ-loop
-unfolding sameRelation
-returns c = c .before .loop .inv .1 ∙ all-done _ _ _ (c .before .loop .inv .0) (c .loop-test .left)
-
 pub is-ending-in-spec : {M : Type 1} → statement M
+unfolding sameRelation
 is-ending-in-spec =
     tie.close
-    (tie.spec Inv-loop μ-loop loop-holds (λ c κs. search needs) (λ c. search needs) (λ c. search needs) loop-again returns)
+    (tie.spec Inv-loop μ-loop
+    (λ c. (omega arith, sym (all-intro 0 _ (λ s l. absurd (omega arith)))))
+    (λ c κs. search needs) (λ c. search needs) (λ c. search needs)
+    (λ c. (omega arith, ap₂ _&&_ (c .before .before .loop .inv .1) (c .row-ends-in .ensures) ∙ sym (all-next _ _)))
+    (λ c. c .before .loop .inv .1 ∙ all-done _ _ _ (c .before .loop .inv .0) (c .loop-test .left)))

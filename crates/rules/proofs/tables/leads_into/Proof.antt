@@ -8,12 +8,11 @@ use Rattle.rules.proofs.Words.{ends-small}
 use Rattle.rules.proofs.tables.leads_into.Statement.{statement}
 use Rattle.rules.proofs.tables.leads_into.Tie as tie
 
-returns : tie.Need-returns
-unfolding wordRelation
-returns c =
-    let a = c .before .before .before .before .args in
-    simp (c .before .image .ensures, c .before .before .rows-of .ensures) at (c .included .ensures)
-    ∙ small-all (a .n) _ (has (a .into)) (ends-small (a .n) (has (a .from)) _) ∙ ends-within (a .n) _ _ _
-
 pub leads-into-spec : {M : Type 1} → statement M
-leads-into-spec = tie.close (tie.spec (λ c κs. search needs) (λ c κs. search needs) (λ c κs. search needs) returns)
+unfolding wordRelation
+leads-into-spec =
+    tie.close
+    (tie.spec (λ c κs. search needs) (λ c κs. search needs) (λ c κs. search needs)
+    (λ c. let a = c .before .before .before .before .args in
+    simp (c .before .image .ensures, c .before .before .rows-of .ensures) at (c .included .ensures)
+    ∙ small-all (a .n) _ (has (a .into)) (ends-small (a .n) (has (a .from)) _) ∙ ends-within (a .n) _ _ _))

@@ -4,9 +4,6 @@ use Rattle.rules.specs.Words.{wordRelation}
 use Rattle.rules.proofs.tables.row_at.Statement.{statement}
 use Rattle.rules.proofs.tables.row_at.Tie as tie
 
-returns : tie.Need-returns
-unfolding wordRelation
-returns c t = rw (c .before .rows-of .ensures) at (c .row .ensures t)
-
 pub row-at-spec : {M : Type 1} → statement M
-row-at-spec = tie.close (tie.spec (λ c κs. search needs) (λ c κs. search needs) returns)
+unfolding wordRelation
+row-at-spec = tie.close (tie.spec (λ c κs. search needs) (λ c κs. search needs) (λ c t. rw (c .before .rows-of .ensures) at (c .row .ensures t)))

@@ -6,15 +6,11 @@ use Rattle.rules.proofs.Words.{same-cong}
 use Rattle.rules.proofs.tables.row_ends_in.Statement.{statement}
 use Rattle.rules.proofs.tables.row_ends_in.Tie as tie
 
-returns : tie.Need-returns
-returns c =
-    let a = c .before .before .before .before .before .before .args in
-    c .same-set .ensures
-    ∙ same-cong (a .n) _ _ _ _ (c .before .before .before .before .row-at .ensures)
-    (λ t. c .before .meet .ensures t ∙ ap₂ _&&_ (c .before .before .before .row-at2 .ensures t) (c .before .before .set-at .ensures t))
-
 pub row-ends-in-spec : {M : Type 1} → statement M
 row-ends-in-spec =
     tie.close
     (tie.spec (λ c κs. search needs) (λ c κs. search needs) (λ c κs. search needs) (λ c κs. search needs) (λ c κs. search needs)
-    returns)
+    (λ c. let a = c .before .before .before .before .before .before .args in
+    c .same-set .ensures
+    ∙ same-cong (a .n) _ _ _ _ (c .before .before .before .before .row-at .ensures)
+    (λ t. c .before .meet .ensures t ∙ ap₂ _&&_ (c .before .before .before .row-at2 .ensures t) (c .before .before .set-at .ensures t))))

@@ -7,12 +7,11 @@ use Rattle.rules.proofs.Words.{relation-small}
 use Rattle.rules.proofs.tables.row_lies_in.Statement.{statement}
 use Rattle.rules.proofs.tables.row_lies_in.Tie as tie
 
-returns : tie.Need-returns
-unfolding setLiesIn
-returns c =
-    let a = c .before .before .before .before .args in
-    simp (c .before .before .row-at .ensures, c .before .row-at2 .ensures) at (c .included .ensures)
-    ∙ small-all (a .n) _ _ (relation-small (a .n) (a .work .now) (a .a) (a .s))
-
 pub row-lies-in-spec : {M : Type 1} → statement M
-row-lies-in-spec = tie.close (tie.spec (λ c κs. search needs) (λ c κs. search needs) (λ c κs. search needs) returns)
+unfolding setLiesIn
+row-lies-in-spec =
+    tie.close
+    (tie.spec (λ c κs. search needs) (λ c κs. search needs) (λ c κs. search needs)
+    (λ c. let a = c .before .before .before .before .args in
+    simp (c .before .before .row-at .ensures, c .before .row-at2 .ensures) at (c .included .ensures)
+    ∙ small-all (a .n) _ _ (relation-small (a .n) (a .work .now) (a .a) (a .s))))

@@ -3,8 +3,5 @@ use borrow.Author.Needs.{needs}
 use Rattle.rules.proofs.tables.rows_of.Statement.{statement}
 use Rattle.rules.proofs.tables.rows_of.Tie as tie
 
-returns : tie.Need-returns
-returns c = c .entries-from .ensures
-
 pub rows-of-spec : {M : Type 1} → statement M
-rows-of-spec = tie.close (tie.spec (λ c. search needs) (λ c. search needs) (λ c. search needs) (λ c κs. search needs) returns)
+rows-of-spec = tie.close (tie.spec (λ c. search needs) (λ c. search needs) (λ c. search needs) (λ c κs. search needs) (λ c. c .entries-from .ensures))

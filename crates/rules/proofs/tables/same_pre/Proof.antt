@@ -7,10 +7,9 @@ use Rattle.rules.proofs.Words.{same-cong}
 use Rattle.rules.proofs.tables.same_pre.Statement.{statement}
 use Rattle.rules.proofs.tables.same_pre.Tie as tie
 
-returns : tie.Need-returns
-unfolding c34
-returns c =
-    c .same-set .ensures ∙ same-cong _ _ _ _ _ (c .before .before .set-at .ensures) (c .before .set-at2 .ensures) ∙ sym (holds-must _)
-
 pub same-pre-spec : {M : Type 1} → statement M
-same-pre-spec = tie.close (tie.spec (λ c κs. search needs) (λ c κs. search needs) (λ c κs. search needs) returns)
+unfolding c34
+same-pre-spec =
+    tie.close
+    (tie.spec (λ c κs. search needs) (λ c κs. search needs) (λ c κs. search needs)
+    (λ c. c .same-set .ensures ∙ same-cong _ _ _ _ _ (c .before .before .set-at .ensures) (c .before .set-at2 .ensures) ∙ sym (holds-must _)))

@@ -9,12 +9,11 @@ use Rattle.rules.proofs.Words.{masked}
 use Rattle.rules.proofs.tables.set_at.Statement.{statement}
 use Rattle.rules.proofs.tables.set_at.Tie as tie
 
-returns : tie.Need-returns
-unfolding wordSet
-returns c s =
-    let a = c .before .before .before .before .args in
-    c .meet .ensures s ∙ ap₂ _&&_ (c .before .before .entry-at .ensures s) (c .before .below .ensures s)
-    ∙ masked (mem (entryAt (a .work .now) (a .i))) (a .n) s (entry-below (a .work .now) (a .i) s)
-
 pub set-at-spec : {M : Type 1} → statement M
-set-at-spec = tie.close (tie.spec (λ c κs. search needs) (λ c κs. search needs) (λ c κs. search needs) returns)
+unfolding wordSet
+set-at-spec =
+    tie.close
+    (tie.spec (λ c κs. search needs) (λ c κs. search needs) (λ c κs. search needs)
+    (λ c s. let a = c .before .before .before .before .args in
+    c .meet .ensures s ∙ ap₂ _&&_ (c .before .before .entry-at .ensures s) (c .before .below .ensures s)
+    ∙ masked (mem (entryAt (a .work .now) (a .i))) (a .n) s (entry-below (a .work .now) (a .i) s)))

@@ -6,15 +6,10 @@ use Rattle.rules.proofs.Searches.{at-member, at-other}
 use Rattle.rules.proofs.tables.stays_at.Statement.{statement}
 use Rattle.rules.proofs.tables.stays_at.Tie as tie
 
-returns : tie.Need-returns
-returns c =
-    c .holds-state2 .ensures ∙ c .before .row-at .ensures _ ∙ sym (holds-must _)
-    ∙ at-member _ _ (sym (c .before .before .before .holds-state .ensures) ∙ c .before .before .if1 .taken)
-
-returns-2 : tie.Need-returns-2
-returns-2 c = at-other _ _ (sym (c .before .holds-state .ensures) ∙ c .if1 .left)
-
 pub stays-at-spec : {M : Type 1} → statement M
 stays-at-spec =
     tie.close
-    (tie.spec (λ c κs. search needs) (λ c κs. search needs) (λ c κs. search needs) returns returns-2)
+    (tie.spec (λ c κs. search needs) (λ c κs. search needs) (λ c κs. search needs)
+    (λ c. c .holds-state2 .ensures ∙ c .before .row-at .ensures _ ∙ sym (holds-must _)
+    ∙ at-member _ _ (sym (c .before .before .before .holds-state .ensures) ∙ c .before .before .if1 .taken))
+    (λ c. at-other _ _ (sym (c .before .holds-state .ensures) ∙ c .if1 .left)))

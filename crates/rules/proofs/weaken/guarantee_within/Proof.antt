@@ -6,9 +6,6 @@ use Rattle.semantics.specs.Conditions.{c72}
 use Rattle.rules.proofs.weaken.guarantee_within.Statement.{statement}
 use Rattle.rules.proofs.weaken.guarantee_within.Tie as tie
 
-returns : tie.Need-returns
-unfolding c72
-returns c = c .lies-in .ensures ∙ sym (holds-must _)
-
 pub guarantee-within-spec : {M : Type 1} → statement M
-guarantee-within-spec = tie.close (tie.spec (λ c κs. search needs) returns)
+unfolding c72
+guarantee-within-spec = tie.close (tie.spec (λ c κs. search needs) (λ c. c .lies-in .ensures ∙ sym (holds-must _)))

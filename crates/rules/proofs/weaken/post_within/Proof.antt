@@ -6,9 +6,6 @@ use Rattle.semantics.specs.Conditions.{c73}
 use Rattle.rules.proofs.weaken.post_within.Statement.{statement}
 use Rattle.rules.proofs.weaken.post_within.Tie as tie
 
-returns : tie.Need-returns
-unfolding c73
-returns c = c .lies-in .ensures ∙ sym (holds-must _)
-
 pub post-within-spec : {M : Type 1} → statement M
-post-within-spec = tie.close (tie.spec (λ c κs. search needs) returns)
+unfolding c73
+post-within-spec = tie.close (tie.spec (λ c κs. search needs) (λ c. c .lies-in .ensures ∙ sym (holds-must _)))

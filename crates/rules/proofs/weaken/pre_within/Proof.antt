@@ -8,12 +8,11 @@ use Rattle.rules.proofs.Words.{set-small}
 use Rattle.rules.proofs.weaken.pre_within.Statement.{statement}
 use Rattle.rules.proofs.weaken.pre_within.Tie as tie
 
-returns : tie.Need-returns
-unfolding c70 setLiesIn
-returns c =
-    let a = c .before .before .before .before .args in
-    simp (c .before .before .set-at .ensures, c .before .set-at2 .ensures) at (c .included .ensures)
-    ∙ small-all (a .n) _ _ (set-small (a .n) (a .work .now) (a .own .p)) ∙ sym (holds-must _)
-
 pub pre-within-spec : {M : Type 1} → statement M
-pre-within-spec = tie.close (tie.spec (λ c κs. search needs) (λ c κs. search needs) (λ c κs. search needs) returns)
+unfolding c70 setLiesIn
+pre-within-spec =
+    tie.close
+    (tie.spec (λ c κs. search needs) (λ c κs. search needs) (λ c κs. search needs)
+    (λ c. let a = c .before .before .before .before .args in
+    simp (c .before .before .set-at .ensures, c .before .set-at2 .ensures) at (c .included .ensures)
+    ∙ small-all (a .n) _ _ (set-small (a .n) (a .work .now) (a .own .p)) ∙ sym (holds-must _)))

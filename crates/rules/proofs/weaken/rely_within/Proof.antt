@@ -6,9 +6,6 @@ use Rattle.semantics.specs.Conditions.{c71}
 use Rattle.rules.proofs.weaken.rely_within.Statement.{statement}
 use Rattle.rules.proofs.weaken.rely_within.Tie as tie
 
-returns : tie.Need-returns
-unfolding c71
-returns c = c .lies-in .ensures ∙ sym (holds-must _)
-
 pub rely-within-spec : {M : Type 1} → statement M
-rely-within-spec = tie.close (tie.spec (λ c κs. search needs) returns)
+unfolding c71
+rely-within-spec = tie.close (tie.spec (λ c κs. search needs) (λ c. c .lies-in .ensures ∙ sym (holds-must _)))

@@ -14,15 +14,6 @@ use Rattle.states.proofs.Words.{mem-bit}
 use Rattle.states.proofs.StateSet.below.Statement.{statement}
 use Rattle.states.proofs.StateSet.below.Tie as tie
 
-sub-t6 : tie.Need-sub-t6
-sub-t6 c = rw (shifted (c .before .args .n) (omega arith)) (pow-pos (c .before .args .n))
-
-returns : tie.Need-returns
-unfolding has
-returns c t =
-    mem-bit _ t ∙ ap (λ x. ltb t 64 && bit (x - 1) t) (shifted (c .before .args .n) (omega arith))
-    ∙ ap (λ b. ltb t 64 && b) (bit-ones (c .before .args .n) t)
-
 full : (t n : ℕ) → 64 ≤ n → (ltb t 64 && ltb t 64) ≡ (ltb t 64 && ltb t n)
 full t n h = at (decLt t 64)
   where
@@ -30,9 +21,12 @@ full t n h = at (decLt t 64)
     at (yes l) = rw (lt-ltb t 64 l, lt-ltb t n (omega arith))
     at (no l) = rw (le-ltb t 64 (omega arith))
 
-returns-2 : tie.Need-returns-2
-unfolding has
-returns-2 c t = mem-bit _ t ∙ ap (λ b. ltb t 64 && b) (bit-ones 64 t) ∙ full t (c .before .args .n) (omega arith)
-
 pub below-spec : {M : Type 1} → statement M
-below-spec = tie.close (tie.spec (λ c. search needs) sub-t6 returns returns-2)
+unfolding has
+below-spec =
+    tie.close
+    (tie.spec (λ c. search needs)
+    (λ c. rw (shifted (c .before .args .n) (omega arith)) (pow-pos (c .before .args .n)))
+    (λ c t. mem-bit _ t ∙ ap (λ x. ltb t 64 && bit (x - 1) t) (shifted (c .before .args .n) (omega arith))
+    ∙ ap (λ b. ltb t 64 && b) (bit-ones (c .before .args .n) t))
+    (λ c t. mem-bit _ t ∙ ap (λ b. ltb t 64 && b) (bit-ones 64 t) ∙ full t (c .before .args .n) (omega arith)))

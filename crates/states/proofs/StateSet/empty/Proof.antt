@@ -4,9 +4,6 @@ use Rattle.states.proofs.Words.{mem-nought}
 use Rattle.states.proofs.StateSet.empty.Statement.{statement}
 use Rattle.states.proofs.StateSet.empty.Tie as tie
 
-returns : tie.Need-returns
-unfolding has
-returns c = mem-nought
-
 pub empty-spec : {M : Type 1} → statement M
-empty-spec = tie.close (tie.spec returns)
+unfolding has
+empty-spec = tie.close (tie.spec (λ c. mem-nought))

@@ -7,13 +7,10 @@ use Rattle.states.proofs.Words.{mem-bit}
 use Rattle.states.proofs.StateSet.holds_state.Statement.{statement}
 use Rattle.states.proofs.StateSet.holds_state.Tie as tie
 
-returns : tie.Need-returns
-unfolding has
-returns c = sym (mem-bit _ _ ∙ rw (lt-ltb _ 64 (c .before .if1 .taken)))
-
-returns-2 : tie.Need-returns-2
-unfolding has
-returns-2 c = sym (mem-bit _ _ ∙ rw (le-ltb _ 64 (c .if1 .left)))
-
 pub holds-state-spec : {M : Type 1} → statement M
-holds-state-spec = tie.close (tie.spec (λ c. search needs) returns returns-2)
+unfolding has
+holds-state-spec =
+    tie.close
+    (tie.spec (λ c. search needs)
+    (λ c. sym (mem-bit _ _ ∙ rw (lt-ltb _ 64 (c .before .if1 .taken))))
+    (λ c. sym (mem-bit _ _ ∙ rw (le-ltb _ 64 (c .if1 .left)))))

@@ -9,11 +9,10 @@ use Rattle.states.proofs.Search.{all-not}
 use Rattle.states.proofs.StateSet.is_empty.Statement.{statement}
 use Rattle.states.proofs.StateSet.is_empty.Tie as tie
 
-returns : tie.Need-returns
-unfolding has
-returns c =
-    let fits = c .struct-known .given .0 .fits in
-    word-all (λ x y. eqb x 0) (λ p q. not p) (λ x y l k. word-empty x l) _ _ fits fits ∙ all-not capacity _
-
 pub is-empty-spec : {M : Type 1} → statement M
-is-empty-spec = tie.close (tie.spec returns)
+unfolding has
+is-empty-spec =
+    tie.close
+    (tie.spec
+    (λ c. let fits = c .struct-known .given .0 .fits in
+    word-all (λ x y. eqb x 0) (λ p q. not p) (λ x y l k. word-empty x l) _ _ fits fits ∙ all-not capacity _))

@@ -8,9 +8,6 @@ use Rattle.states.proofs.Words.{mem-word}
 use Rattle.states.proofs.StateSet.join.Statement.{statement}
 use Rattle.states.proofs.StateSet.join.Tie as tie
 
-returns : tie.Need-returns
-unfolding has
-returns c = mem-word bitOr _||_ or-bits refl _ _
-
 pub join-spec : {M : Type 1} → statement M
-join-spec = tie.close (tie.spec returns)
+unfolding has
+join-spec = tie.close (tie.spec (λ c. mem-word bitOr _||_ or-bits refl _ _))

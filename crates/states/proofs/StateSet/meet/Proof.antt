@@ -8,9 +8,6 @@ use Rattle.states.proofs.Words.{mem-word}
 use Rattle.states.proofs.StateSet.meet.Statement.{statement}
 use Rattle.states.proofs.StateSet.meet.Tie as tie
 
-returns : tie.Need-returns
-unfolding has
-returns c = mem-word bitAnd _&&_ and-bits refl _ _
-
 pub meet-spec : {M : Type 1} → statement M
-meet-spec = tie.close (tie.spec returns)
+unfolding has
+meet-spec = tie.close (tie.spec (λ c. mem-word bitAnd _&&_ and-bits refl _ _))

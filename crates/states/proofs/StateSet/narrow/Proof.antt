@@ -8,11 +8,10 @@ use Rattle.states.proofs.Words.{mem-word}
 use Rattle.states.proofs.StateSet.narrow.Statement.{statement}
 use Rattle.states.proofs.StateSet.narrow.Tie as tie
 
-returns : tie.Need-returns
-unfolding has
-returns c =
-    let a = c .before .before .before .args in
-    mem-word (λ x y. bitXor x (bitAnd x y)) (λ p q. p && not q) without-bits refl (a .self .bits) (a .other .bits)
-
 pub narrow-spec : {M : Type 1} → statement M
-narrow-spec = tie.close (tie.spec returns)
+unfolding has
+narrow-spec =
+    tie.close
+    (tie.spec
+    (λ c. let a = c .before .before .before .args in
+    mem-word (λ x y. bitXor x (bitAnd x y)) (λ p q. p && not q) without-bits refl (a .self .bits) (a .other .bits)))

@@ -12,18 +12,13 @@ use Rattle.states.proofs.Words.{mem-bit, mem-nought}
 use Rattle.states.proofs.StateSet.single.Statement.{statement}
 use Rattle.states.proofs.StateSet.single.Tie as tie
 
-returns : tie.Need-returns
-unfolding has
-returns c t =
-    mem-bit _ t ∙ ap (λ x. ltb t 64 && bit x t) (shifted (c .before .args .s) (omega arith))
-    ∙ ap (λ b. ltb t 64 && b) (bit-power (c .before .args .s) t)
-
-returns-2 : tie.Need-returns-2
-unfolding has
-returns-2 c t =
-    let s = c .before .args .s in
-    mem-nought t
-    ∙ sym (not-true-false _ (λ e. omega (arith, ltb-true t 64 (and-left (ltb t 64) (eqb s t) e), eqb-true s t (and-right (ltb t 64) (eqb s t) e))))
-
 pub single-spec : {M : Type 1} → statement M
-single-spec = tie.close (tie.spec (λ c. search needs) returns returns-2)
+unfolding has
+single-spec =
+    tie.close
+    (tie.spec (λ c. search needs)
+    (λ c t. mem-bit _ t ∙ ap (λ x. ltb t 64 && bit x t) (shifted (c .before .args .s) (omega arith))
+    ∙ ap (λ b. ltb t 64 && b) (bit-power (c .before .args .s) t))
+    (λ c t. let s = c .before .args .s in
+    mem-nought t
+    ∙ sym (not-true-false _ (λ e. omega (arith, ltb-true t 64 (and-left (ltb t 64) (eqb s t) e), eqb-true s t (and-right (ltb t 64) (eqb s t) e))))))

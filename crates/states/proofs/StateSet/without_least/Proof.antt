@@ -11,18 +11,15 @@ use Rattle.states.proofs.Words.{one-word, mem-lowered}
 use Rattle.states.proofs.StateSet.without_least.Statement.{statement}
 use Rattle.states.proofs.StateSet.without_least.Tie as tie
 
-returns : tie.Need-returns
-unfolding has
-returns c s =
-    let x = c .before .before .args .self .bits in
-    sym (ap (λ b. mem (cond b (x ∷ []) (bitAnd x (x - 1) ∷ [])) s) (eq-eqb x 0 (c .if1 .taken))) ∙ mem-lowered (x ∷ []) (one-word (c .before .struct-known .given .0 .fits)) s
-
-returns-2 : tie.Need-returns-2
-unfolding has
-returns-2 c s =
-    let d = c .before .before in
-    let x = d .before .before .args .self .bits in
-    sym (ap (λ b. mem (cond b (x ∷ []) (bitAnd x (x - 1) ∷ [])) s) (ne-eqb x 0 (d .if1 .left))) ∙ mem-lowered (x ∷ []) (one-word (d .before .struct-known .given .0 .fits)) s
-
 pub without-least-spec : {M : Type 1} → statement M
-without-least-spec = tie.close (tie.spec (λ c. search needs) returns returns-2)
+unfolding has
+without-least-spec =
+    tie.close
+    (tie.spec (λ c. search needs)
+    (λ c s. let x = c .before .before .args .self .bits in
+    sym (ap (λ b. mem (cond b (x ∷ []) (bitAnd x (x - 1) ∷ [])) s) (eq-eqb x 0 (c .if1 .taken))) ∙ mem-lowered (x ∷ [])
+    (one-word (c .before .struct-known .given .0 .fits)) s)
+    (λ c s. let d = c .before .before in
+    let x = d .before .before .args .self .bits in
+    sym (ap (λ b. mem (cond b (x ∷ []) (bitAnd x (x - 1) ∷ [])) s) (ne-eqb x 0 (d .if1 .left))) ∙ mem-lowered (x ∷ [])
+    (one-word (d .before .struct-known .given .0 .fits)) s))

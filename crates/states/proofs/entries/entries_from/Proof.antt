@@ -14,17 +14,12 @@ use Rattle.states.proofs.entries.entries_from.Tie as tie
 to-end : (k : ℕ) (l : List ℕ) → take (length l - k) (drop k l) ≡ drop k l
 to-end k l = take-all _ _ (le-of-eq (length-drop k l))
 
-returns : tie.Need-returns
-returns c = let a = c .before .before .args in to-end (a .i) (a .words .now) ∙ ap (λ k. drop k (a .words .now)) (sym (one-mul (a .i)))
-
-returns-2 : tie.Need-returns-2
-returns-2 c =
-    let a = c .before .before .args in
-    let l = a .words .now in
-    to-end (length l) l ∙ drop-length l ∙ sym (drop-of-length-le l {i = setWords * a .i} (omega arith))
-
 pub entries-from-spec : {M : Type 1} → statement M
 entries-from-spec =
     tie.close
     (tie.spec (λ c. search needs) (λ c. search needs) (λ c. search needs) (λ c. search needs) (λ c. search needs)
-    (λ c. search needs) (λ c. search needs) (λ c. search needs) returns returns-2)
+    (λ c. search needs) (λ c. search needs) (λ c. search needs)
+    (λ c. let a = c .before .before .args in to-end (a .i) (a .words .now) ∙ ap (λ k. drop k (a .words .now)) (sym (one-mul (a .i))))
+    (λ c. let a = c .before .before .args in
+    let l = a .words .now in
+    to-end (length l) l ∙ drop-length l ∙ sym (drop-of-length-le l {i = setWords * a .i} (omega arith))))

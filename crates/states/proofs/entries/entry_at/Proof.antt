@@ -7,12 +7,10 @@ use Rattle.states.proofs.EntryLaws.{entry-word, entry-past}
 use Rattle.states.proofs.entries.entry_at.Statement.{statement}
 use Rattle.states.proofs.entries.entry_at.Tie as tie
 
-returns : tie.Need-returns
-unfolding has
-returns c s = let a = c .before .before .before .args in sym (entry-word (a .words .now) (a .i) s)
-
-returns-2 : tie.Need-returns-2
-returns-2 c s = let a = c .before .before .before .args in c .empty .ensures s ∙ sym (entry-past (a .words .now) (a .i) s (omega arith))
-
 pub entry-at-spec : {M : Type 1} → statement M
-entry-at-spec = tie.close (tie.spec (λ c. search needs) (λ c. search needs) (λ c κs. search needs) returns returns-2)
+unfolding has
+entry-at-spec =
+    tie.close
+    (tie.spec (λ c. search needs) (λ c. search needs) (λ c κs. search needs)
+    (λ c s. let a = c .before .before .before .args in sym (entry-word (a .words .now) (a .i) s))
+    (λ c s. let a = c .before .before .before .args in c .empty .ensures s ∙ sym (entry-past (a .words .now) (a .i) s (omega arith))))

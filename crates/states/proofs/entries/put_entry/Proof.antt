@@ -9,13 +9,10 @@ use Rattle.states.specs.Sets.{withEntry}
 use Rattle.states.proofs.entries.put_entry.Statement.{statement}
 use Rattle.states.proofs.entries.put_entry.Tie as tie
 
-returns : tie.Need-returns
-unfolding withEntry
-returns c = let a = c .before .args in ap (λ k. set (a .words .now) k (a .set .bits)) (sym (one-mul (a .i)))
-
-returns-2 : tie.Need-returns-2
-unfolding withEntry
-returns-2 c = let a = c .before .args in sym (set-out (a .words .now) _ (a .set .bits) (omega arith))
-
 pub put-entry-spec : {M : Type 1} → statement M
-put-entry-spec = tie.close (tie.spec (λ c. search needs) (λ c. search needs) (λ c. search needs) returns returns-2)
+unfolding withEntry
+put-entry-spec =
+    tie.close
+    (tie.spec (λ c. search needs) (λ c. search needs) (λ c. search needs)
+    (λ c. let a = c .before .args in ap (λ k. set (a .words .now) k (a .set .bits)) (sym (one-mul (a .i))))
+    (λ c. let a = c .before .args in sym (set-out (a .words .now) _ (a .set .bits) (omega arith))))

@@ -23,52 +23,35 @@ start : (c : tie.After-meet Inv-loop μ-loop) → let a = c .before .before .bef
     (s : ℕ) → has (c .meet .result) s ≡ (has (a .set) s && (ltb s capacity && ltb s (c .before .before .rows-there .result)))
 start c s = c .meet .ensures s ∙ ap (λ b. has (c .before .before .before .before .args .set) s && b) (c .before .below .ensures s)
 
-loop-holds : tie.Need-loop-holds Inv-loop μ-loop
-loop-holds c = gathered-none _ _ _ _ (start-below _ (c .before .before .before .before .before .args .set) _ (start (c .before))) (c .empty .ensures)
-
 one : (c : tie.After-without-least Inv-loop μ-loop)
     → let d = c .before .before .before in LeastTaken (d .before .before .before .loop .rest) (c .without-least .result) (d .least .result)
 one c =
     let d = c .before .before .before in
     take-least _ _ (d .before .before .is-empty .ensures) (d .before .if1 .taken) _ (d .least .ensures) _ (c .without-least .ensures)
 
--- A state that is left has a row.
-read : tie.Need-shared-slice-read-bits Inv-loop μ-loop
-read c =
-    let d = c .before in
+pub image-spec : {M : Type 1} → statement M
+unfolding has
+image-spec =
+    tie.close
+    (tie.spec Inv-loop μ-loop
+    (λ c κs. search needs) (λ c κs. search needs) (λ c κs. search needs) (λ c κs. search needs)
+    (λ c. gathered-none _ _ _ _ (start-below _ (c .before .before .before .before .before .args .set) _ (start (c .before))) (c .empty .ensures))
+    (λ c κs. search needs) (λ c κs. search needs) (λ c. search needs) (λ c. search needs)
+    -- A state that is left has a row.
+    (λ c. let d = c .before in
     let l = d .before .before .before in
     let least = least-of _ _ (d .before .before .is-empty .ensures) (d .before .if1 .taken) _ (d .least .ensures) in
-    omega (arith, l .loop .inv .low _ (least .there), l .before .before .before .before .rows-there .ensures)
-
-loop-again : tie.Need-loop-again Inv-loop μ-loop
-unfolding has
-loop-again c =
-    let l = c .before .before .before .before .before .before in
+    omega (arith, l .loop .inv .low _ (least .there), l .before .before .before .before .rows-there .ensures))
+    (λ c κs. search needs) (λ c κs. search needs)
+    (λ c. one c .less)
+    (λ c. let l = c .before .before .before .before .before .before in
     let rows = l .before .before .before .before .before .before .args .rows .now in
     gathered-more _ _ _ _ _ _ _ _ (one c .taken)
     (λ t. c .before .join .ensures t ∙ ap (λ b. has (l .loop .ends) t || b) (sym (entry-word rows _ t)))
-    (l .loop .inv)
-
-returns : tie.Need-returns Inv-loop μ-loop
-returns c t =
-    let l = c .before .before .before .before in
+    (l .loop .inv))
+    (λ c κs. search needs) (λ c κs. search needs)
+    (λ c t. let l = c .before .before .before .before in
     let there = l .before .before .before .before .rows-there .ensures in
     gathered-all _ _ _ _ _ (there .0) (there .2) (start (l .before .before)) _ _ _
     (none-left _ _ (c .before .before .before .is-empty .ensures) (c .before .before .if1 .left)) (l .loop .inv)
-    (λ t. c .meet2 .ensures t ∙ ap (λ b. has (l .loop .ends) t && b) (c .before .below2 .ensures t)) t
-
-pub image-spec : {M : Type 1} → statement M
-image-spec =
-    tie.close
-    (tie.spec
-    Inv-loop
-    μ-loop
-    (λ c κs. search needs) (λ c κs. search needs) (λ c κs. search needs) (λ c κs. search needs)
-    loop-holds
-    (λ c κs. search needs) (λ c κs. search needs) (λ c. search needs) (λ c. search needs)
-    read
-    (λ c κs. search needs) (λ c κs. search needs)
-    (λ c. one c .less)
-    loop-again
-    (λ c κs. search needs) (λ c κs. search needs)
-    returns)
+    (λ t. c .meet2 .ensures t ∙ ap (λ b. has (l .loop .ends) t && b) (c .before .below2 .ensures t)) t))

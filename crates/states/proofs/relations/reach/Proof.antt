@@ -19,28 +19,17 @@ Inv-loop n rows earlier₀ reached₀ earlier reached = Spread (has reached₀) 
 abbrev μ-loop : tie.MeasureT-loop
 μ-loop n rows earlier₀ reached₀ earlier reached = count capacity (λ s. not (has earlier s))
 
-loop-holds : tie.Need-loop-holds Inv-loop μ-loop
-loop-holds c = spread-none _ _ _ (c .empty .ensures)
-
-loop-again : tie.Need-loop-again Inv-loop μ-loop
-loop-again c =
-    let l = c .before .before .before .before .before .loop in
-    spread-more _ (rel _ _) (rel-between _ _) _ _ _ (l .inv) _ _ _ (c .before .before .narrow .ensures) (c .before .image .ensures) (c .join .ensures)
-
-loop-less : tie.Need-loop-less Inv-loop μ-loop
-loop-less c =
-    let test = c .before .before .before .before in
-    spread-less _ _ (rel-between _ _) _ _ _ (test .before .loop .inv) capacity
-    (sym (test .included .ensures) ∙ not-true _ (c .before .before .before .if1 .taken))
-
-returns : tie.Need-returns Inv-loop μ-loop
-returns c =
-    let l = c .before .before .loop in
-    let none = sym (c .before .included .ensures) ∙ not-false _ (c .if1 .left) in
-    spread-all _ _ (rel-between _ _) _ _ _ (l .inv) (λ s e. implies-at _ _ (all-at capacity _ none s (has-below (l .reached) s e)) e)
-
 pub reach-spec : {M : Type 1} → statement M
 reach-spec =
     tie.close
-    (tie.spec Inv-loop μ-loop (λ c κs. search needs) loop-holds (λ c κs. search needs) (λ c κs. search needs) (λ c κs. search needs) (λ c κs. search needs) loop-less
-    loop-again returns)
+    (tie.spec Inv-loop μ-loop (λ c κs. search needs)
+    (λ c. spread-none _ _ _ (c .empty .ensures))
+    (λ c κs. search needs) (λ c κs. search needs) (λ c κs. search needs) (λ c κs. search needs)
+    (λ c. let test = c .before .before .before .before in
+    spread-less _ _ (rel-between _ _) _ _ _ (test .before .loop .inv) capacity
+    (sym (test .included .ensures) ∙ not-true _ (c .before .before .before .if1 .taken)))
+    (λ c. let l = c .before .before .before .before .before .loop in
+    spread-more _ (rel _ _) (rel-between _ _) _ _ _ (l .inv) _ _ _ (c .before .before .narrow .ensures) (c .before .image .ensures) (c .join .ensures))
+    (λ c. let l = c .before .before .loop in
+    let none = sym (c .before .included .ensures) ∙ not-false _ (c .if1 .left) in
+    spread-all _ _ (rel-between _ _) _ _ _ (l .inv) (λ s e. implies-at _ _ (all-at capacity _ none s (has-below (l .reached) s e)) e)))

@@ -8,18 +8,12 @@ use Rattle.states.proofs.Rows.{rel-between, rel-row}
 use Rattle.states.proofs.relations.row.Statement.{statement}
 use Rattle.states.proofs.relations.row.Tie as tie
 
-returns : tie.Need-returns
-returns c t =
-    let a = c .before .before .before .before .before .args in
-    c .meet .ensures t ∙ ap₂ _&&_ (c .before .before .entry-at .ensures t) (c .before .below .ensures t)
-    ∙ rel-row (a .n) (a .rows .now) (a .s) t (c .before .before .before .if1 .taken)
-
-returns-2 : tie.Need-returns-2
-returns-2 c t =
-    let a = c .before .before .before .args in
-    c .empty .ensures t ∙ sym (not-true-false _ (λ e. omega (arith, rel-between (a .n) (a .rows .now) (a .s) t e .0)))
-
 pub row-spec : {M : Type 1} → statement M
 row-spec =
     tie.close
-    (tie.spec (λ c κs. search needs) (λ c κs. search needs) (λ c κs. search needs) (λ c κs. search needs) returns returns-2)
+    (tie.spec (λ c κs. search needs) (λ c κs. search needs) (λ c κs. search needs) (λ c κs. search needs)
+    (λ c t. let a = c .before .before .before .before .before .args in
+    c .meet .ensures t ∙ ap₂ _&&_ (c .before .before .entry-at .ensures t) (c .before .below .ensures t)
+    ∙ rel-row (a .n) (a .rows .now) (a .s) t (c .before .before .before .if1 .taken))
+    (λ c t. let a = c .before .before .before .args in
+    c .empty .ensures t ∙ sym (not-true-false _ (λ e. omega (arith, rel-between (a .n) (a .rows .now) (a .s) t e .0)))))

@@ -8,18 +8,12 @@ use Rattle.states.proofs.Rows.{row-all}
 use Rattle.states.proofs.relations.row_included.Statement.{statement}
 use Rattle.states.proofs.relations.row_included.Tie as tie
 
-returns : tie.Need-returns
-unfolding implies
-returns c =
-    rw (sym (c .before .before .before .before .holds-state .ensures) ∙ c .before .before .before .if1 .taken)
-    (c .included .ensures ∙ all-cong capacity _ _ (λ t l. ap₂ implies (c .before .before .row .ensures t) (c .before .row2 .ensures t))
-    ∙ row-all implies refl _ _ _ _)
-
-returns-2 : tie.Need-returns-2
-unfolding implies
-returns-2 c = rw (sym (c .before .holds-state .ensures) ∙ c .if1 .left)
-
 pub row-included-spec : {M : Type 1} → statement M
+unfolding implies
 row-included-spec =
     tie.close
-    (tie.spec (λ c κs. search needs) (λ c κs. search needs) (λ c κs. search needs) (λ c κs. search needs) returns returns-2)
+    (tie.spec (λ c κs. search needs) (λ c κs. search needs) (λ c κs. search needs) (λ c κs. search needs)
+    (λ c. rw (sym (c .before .before .before .before .holds-state .ensures) ∙ c .before .before .before .if1 .taken)
+    (c .included .ensures ∙ all-cong capacity _ _ (λ t l. ap₂ implies (c .before .before .row .ensures t) (c .before .row2 .ensures t))
+    ∙ row-all implies refl _ _ _ _))
+    (λ c. rw (sym (c .before .holds-state .ensures) ∙ c .if1 .left)))

@@ -1,12 +1,12 @@
 -- The loop keeps whether the rows below s have the same members. `all-next` adds the next.
 use Prim.Native.Nat.{_≤_, _-_}
 use native.Mathlib.Omega.{arith}
-use mathlib.Core.Path.{_≡_, _∙_, sym, ap₂, refl}
+use mathlib.Core.Path.{_≡_, _∙_, sym, ap₂}
 use mathlib.Core.Bool.{_&&_, Bool·beq}
 use borrow.Author.Needs.{needs}
 use Rattle.states.specs.Search.{all}
 use Rattle.states.specs.Relations.{rel}
-use Rattle.states.proofs.Search.{all-next, all-done}
+use Rattle.states.proofs.Search.{all-intro, all-next, all-done}
 use Rattle.states.proofs.relations.same_members.Statement.{statement}
 use Rattle.states.proofs.relations.same_members.Tie as tie
 
@@ -16,17 +16,11 @@ Inv-loop n a b held₀ s₀ held s = (s ≤ n) × (held ≡ all s (λ u. all n (
 abbrev μ-loop : tie.MeasureT-loop
 μ-loop n a b held₀ s₀ held s = n - s
 
-loop-holds : tie.Need-loop-holds Inv-loop μ-loop
-unfolding all
-loop-holds c = (omega arith, refl)
-
-loop-again : tie.Need-loop-again Inv-loop μ-loop
-loop-again c = (omega arith, ap₂ _&&_ (c .before .before .loop .inv .1) (c .same-row .ensures) ∙ sym (all-next _ _))
-
-returns : tie.Need-returns Inv-loop μ-loop
-returns c = c .before .loop .inv .1 ∙ all-done _ _ _ (c .before .loop .inv .0) (c .loop-test .left)
-
 pub same-members-spec : {M : Type 1} → statement M
 same-members-spec =
     tie.close
-    (tie.spec Inv-loop μ-loop loop-holds (λ c κs. search needs) (λ c. search needs) (λ c. search needs) loop-again returns)
+    (tie.spec Inv-loop μ-loop
+    (λ c. (omega arith, sym (all-intro 0 _ (λ s l. absurd (omega arith)))))
+    (λ c κs. search needs) (λ c. search needs) (λ c. search needs)
+    (λ c. (omega arith, ap₂ _&&_ (c .before .before .loop .inv .1) (c .same-row .ensures) ∙ sym (all-next _ _)))
+    (λ c. c .before .loop .inv .1 ∙ all-done _ _ _ (c .before .loop .inv .0) (c .loop-test .left)))

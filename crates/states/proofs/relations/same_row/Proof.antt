@@ -8,10 +8,9 @@ use Rattle.states.proofs.Rows.{row-all}
 use Rattle.states.proofs.relations.same_row.Statement.{statement}
 use Rattle.states.proofs.relations.same_row.Tie as tie
 
-returns : tie.Need-returns
-returns c =
-    c .same .ensures ∙ all-cong capacity _ _ (λ t l. ap₂ Bool·beq (c .before .before .row .ensures t) (c .before .row2 .ensures t))
-    ∙ row-all Bool·beq refl _ _ _ _
-
 pub same-row-spec : {M : Type 1} → statement M
-same-row-spec = tie.close (tie.spec (λ c κs. search needs) (λ c κs. search needs) (λ c κs. search needs) returns)
+same-row-spec =
+    tie.close
+    (tie.spec (λ c κs. search needs) (λ c κs. search needs) (λ c κs. search needs)
+    (λ c. c .same .ensures ∙ all-cong capacity _ _ (λ t l. ap₂ Bool·beq (c .before .before .row .ensures t) (c .before .row2 .ensures t))
+    ∙ row-all Bool·beq refl _ _ _ _))

@@ -34,24 +34,17 @@ row-ends c =
     any-cong capacity _ _ (λ u k. c .meet .ensures u ∙ ap₂ _&&_ (sym (entry-word (a .rows .now) (l .loop .s) u)) (l .before .before .before .below .ensures u)
     ∙ rel-row (a .n) (a .rows .now) (l .loop .s) u (omega arith)) ∙ row-any (a .n) (a .rows .now) (l .loop .s)
 
-loop-again : tie.Need-loop-again Inv-loop μ-loop
-loop-again c =
-    let l = c .before .before .before .before .loop in
-    (omega arith, λ t. c .with-start .ensures t ∙ ap₂ _||_ (l .inv .1 t) (ap (λ b. ltb t capacity && b && eqb (l .s) t) (row-ends (c .before))) ∙ sym (any-more _ _))
-
-returns : tie.Need-returns Inv-loop μ-loop
-returns c t =
-    let l = c .before in
-    l .loop .inv .1 t ∙ any-done _ _ _ (l .loop .inv .0) (c .loop-test .left) ∙ row-starts _ _ _ (l .before .rows-there .ensures .2) t
-
 pub starting-spec : {M : Type 1} → statement M
 starting-spec =
     tie.close
-    (tie.spec
-    Inv-loop
-    μ-loop
+    (tie.spec Inv-loop μ-loop
     (λ c κs. search needs) (λ c κs. search needs) (λ c κs. search needs)
     loop-holds
     (λ c. search needs) (λ c. search needs) (λ c. search needs) (λ c κs. search needs) (λ c κs. search needs) (λ c. search needs) (λ c. search needs)
-    loop-again
-    returns)
+    (λ c. let l = c .before .before .before .before .loop in (
+      omega arith,
+      λ t. c .with-start .ensures t ∙ ap₂ _||_ (l .inv .1 t) (ap (λ b. ltb t capacity && b && eqb (l .s) t) (row-ends (c .before))) ∙ sym
+          (any-more _ _),
+    ))
+    (λ c t. let l = c .before in
+    l .loop .inv .1 t ∙ any-done _ _ _ (l .loop .inv .0) (c .loop-test .left) ∙ row-starts _ _ _ (l .before .rows-there .ensures .2) t))

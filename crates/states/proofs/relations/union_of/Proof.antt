@@ -15,19 +15,13 @@ Inv-loop n a b rows₀ s₀ s-end rows s = RowsFilled (joinOf n a b) s rows
 abbrev μ-loop : tie.MeasureT-loop
 μ-loop n a b rows₀ s₀ s-end rows s = s-end - s
 
-loop-again : tie.Need-loop-again Inv-loop μ-loop
-loop-again c =
-    let d = c .before .before in
-    rw (c .before .put-entry .ensures)
-    (rows-more _ _ _ _ (omega arith) (λ t. d .join .ensures t ∙ ap₂ _||_ (d .before .before .row .ensures t) (d .before .row2 .ensures t))
-    (d .before .before .before .before .before .loop .inv))
-
-returns : tie.Need-returns Inv-loop μ-loop
-returns c = rows-filled _ _ _ _ (join-between _ _ _) (λ s l m. omega (arith, c .before .before .rows-held .ensures .1 s l m)) (c .before .loop .inv)
-
 pub union-of-spec : {M : Type 1} → statement M
 union-of-spec =
     tie.close
     (tie.spec Inv-loop μ-loop (λ c κs. search needs) (λ c. rows-none _) (λ c. search needs) (λ c. search needs) (λ c κs. search needs)
     (λ c κs. search needs) (λ c κs. search needs) (λ c κs. search needs) (λ c. search needs) (λ c. search needs)
-    loop-again returns)
+    (λ c. let d = c .before .before in
+    rw (c .before .put-entry .ensures)
+    (rows-more _ _ _ _ (omega arith) (λ t. d .join .ensures t ∙ ap₂ _||_ (d .before .before .row .ensures t) (d .before .row2 .ensures t))
+    (d .before .before .before .before .before .loop .inv)))
+    (λ c. rows-filled _ _ _ _ (join-between _ _ _) (λ s l m. omega (arith, c .before .before .rows-held .ensures .1 s l m)) (c .before .loop .inv)))

@@ -12,14 +12,11 @@ use Rattle.states.proofs.relations.with_start.Tie as tie
 starts : (c : tie.After-is-empty) → any capacity (λ u. has (c .before .args .row) u) ≡ not (c .is-empty .result)
 starts c = turned _ _ (c .is-empty .ensures)
 
-returns : tie.Need-returns
-returns c t = rw (starts (c .before), c .if1 .taken, and-false (ltb t capacity)) (sym (or-false _))
-
-returns-2 : tie.Need-returns-2
-returns-2 c t =
-    let d = c .before .before in
-    rw (starts (d .before), d .if1 .left, and-true (ltb t capacity))
-    (c .join .ensures t ∙ ap (λ b. has (d .before .before .args .found) t || b) (c .before .single .ensures t))
-
 pub with-start-spec : {M : Type 1} → statement M
-with-start-spec = tie.close (tie.spec (λ c κs. search needs) (λ c κs. search needs) (λ c κs. search needs) returns returns-2)
+with-start-spec =
+    tie.close
+    (tie.spec (λ c κs. search needs) (λ c κs. search needs) (λ c κs. search needs)
+    (λ c t. rw (starts (c .before), c .if1 .taken, and-false (ltb t capacity)) (sym (or-false _)))
+    (λ c t. let d = c .before .before in
+    rw (starts (d .before), d .if1 .left, and-true (ltb t capacity))
+    (c .join .ensures t ∙ ap (λ b. has (d .before .before .args .found) t || b) (c .before .single .ensures t))))

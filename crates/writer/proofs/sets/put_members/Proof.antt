@@ -17,45 +17,31 @@ Inv-loop out₀ at n set width part₀ part-end out part = (part ≤ part-end) �
 abbrev μ-loop : tie.MeasureT-loop
 μ-loop out₀ at n set width part₀ part-end out part = part-end - part
 
-loop-holds : tie.Need-loop-holds Inv-loop μ-loop
-unfolding putBits
-loop-holds c =
-    let a = c .before .args in
-    let none : min (64 * 0) (a .n) ≡ 0 = omega arith in
-    (search needs, rw none)
-
 -- The buffer keeps its length.
 kept : (c : tie.At-loop Inv-loop μ-loop) → length (c .loop .out) ≡ length (c .before .before .args .out .now)
 kept c =
     let a = c .before .before .args in
     ap length (c .loop .inv .1) ∙ length-put (a .out .now) (a .at) _ _
 
-loop-again : tie.Need-loop-again Inv-loop μ-loop
-loop-again c =
-    let put = c .before .before in
+pub put-members-spec : {M : Type 1} → statement M
+unfolding putBits
+put-members-spec =
+    tie.close
+    (tie.spec Inv-loop μ-loop
+    (λ c. search needs)
+    (λ c. let a = c .before .args in
+    let none : min (64 * 0) (a .n) ≡ 0 = omega arith in
+    (search needs, rw none))
+    (λ c. omega arith) (λ c. omega arith) (λ c κs. search needs) (λ c κs. search needs) (λ c κs. search needs)
+    (λ c. search needs) (λ c. search needs)
+    (λ c. let put = c .before .before in
     let l = put .before .before .before .before .before in
     let a = l .before .before .args in (
       omega arith,
       put .put .ensures
           ∙ rw (put .before .bits-of .ensures, put .before .before .bits-in-word .ensures, l .loop .inv .1)
           (word-more (a .out .now) (a .at) (a .n) (has (a .set)) (l .loop .part) (omega arith) (omega arith) (omega arith)),
-    )
-
-returns : tie.Need-returns Inv-loop μ-loop
-returns c =
-    let all : min (64 * c .before .loop .part) (c .before .before .before .args .n) ≡ c .before .before .before .args .n = omega arith in
-    rw all at (c .before .loop .inv .1)
-
-pub put-members-spec : {M : Type 1} → statement M
-put-members-spec =
-    tie.close
-    (tie.spec
-    Inv-loop
-    μ-loop
-    (λ c. search needs)
-    loop-holds
-    (λ c. omega arith) (λ c. omega arith) (λ c κs. search needs) (λ c κs. search needs) (λ c κs. search needs)
-    (λ c. search needs) (λ c. search needs)
-    loop-again
+    ))
     (λ c. kept (c .before))
-    returns)
+    (λ c. let all : min (64 * c .before .loop .part) (c .before .before .before .args .n) ≡ c .before .before .before .args .n = omega arith in
+    rw all at (c .before .loop .inv .1)))

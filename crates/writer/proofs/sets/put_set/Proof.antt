@@ -12,18 +12,13 @@ use Rattle.writer.proofs.sets.put_set.Tie as tie
 fits : (c : tie.Then1) → let a = c .before .before .before .before .args in hasRoom (a .out .now) (a .at) (a .n) ≡ true
 fits c = sym (c .before .has-room .ensures) ∙ c .if1 .taken
 
-put-members-requires : tie.Need-put-members-requires
-put-members-requires c κs = in-room _ _ _ (fits (c .before))
-
-returns : tie.Need-returns
-unfolding putSet
-returns c = rw (fits (c .before .before .before .before)) (c .before .before .put-members .ensures)
-
-returns-2 : tie.Need-returns-2
-unfolding putSet
-returns-2 c = rw (← c .before .has-room .ensures, c .if1 .left)
-
 pub put-set-spec : {M : Type 1} → statement M
+unfolding putSet
 put-set-spec =
     tie.close
-    (tie.spec (λ c κs. search needs) put-members-requires (λ c. search needs) returns (λ c. search needs) returns-2)
+    (tie.spec (λ c κs. search needs)
+    (λ c κs. in-room _ _ _ (fits (c .before)))
+    (λ c. search needs)
+    (λ c. rw (fits (c .before .before .before .before)) (c .before .before .put-members .ensures))
+    (λ c. search needs)
+    (λ c. rw (← c .before .has-room .ensures, c .if1 .left)))
