@@ -70,9 +70,6 @@ lent c =
       table = ap (λ y. y .nodes) (r .read-pair .ensures) ∙ ap (λ y. pairFile y .nodes) (f .read) ∙ ap (λ w. nodeTable (w .proof .root) d) (sym (f .summary));
     }
 
-write-read-requires : tie.Need-write-read-requires
-write-read-requires c κs = lent (pairAt (c .before))
-
 returns-3 : tie.Need-returns-3
 unfolding canonical lent
 returns-3 c =
@@ -92,7 +89,7 @@ write-form-spec =
     (tie.spec
     (λ c κs. search needs) (λ c. search needs) (λ c κs. search needs) (λ c. search needs) (λ c κs. search needs) (λ c. search needs)
     (λ c. search needs) (λ c. search needs)
-    write-read-requires
+    (λ c κs. lent (pairAt (c .before)))
     returns
     returns-2
     (λ c. search needs)
