@@ -19,18 +19,6 @@ use Rattle.admission.proofs.Looking.{found-malformed, found-end}
 use Rattle.admission.proofs.admit.Statement.{statement}
 use Rattle.admission.proofs.admit.Tie as tie
 
-returns : tie.Need-returns
-returns c =
-    let a = c .before .before .before .before .before .args in
-    turned _ _ _ _ _ _ _ _ refl (no-such-place (a .frame) (a .place) (a .ticks) (lt-ltb _ _ (c .before .if1 .taken))) (c .turned-away .ensures)
-
-returns-2 : tie.Need-returns-2
-returns-2 c =
-    let a = c .before .before .before .before .before .before .before .args in
-    let there = le-ltb _ _ (c .before .before .before .if1 .left) in
-    turned _ _ _ _ _ _ _ _ refl (taken (a .frame) (a .place) (a .ticks) there (sym (c .before .before .holds-from .ensures) ∙ c .before .if2 .taken))
-    (c .turned-away2 .ensures)
-
 -- What is known when the record is looked at: there is the place, and it is free.
 start : (c : tie.After-laid) → tie.Start
 start c = c .before .before .before .before .before .before .before
@@ -43,14 +31,6 @@ free : (c : tie.After-laid) → holds (start c .args .place) (held (start c .arg
 unfolding start
 free c = sym (c .before .before .holds-from .ensures) ∙ c .before .if2 .left
 
-returns-3 : tie.Need-returns-3
-unfolding start
-returns-3 c =
-    let l = c .before .before .before in
-    let a = l .before .before .before .before .before .before .before .args in
-    let ill = found-malformed (wellFormed (a .frame)) _ _ (l .laid .ensures) (c .before .enum-told .given .1) in
-    turned _ _ _ _ _ _ _ _ refl (malformed (a .frame) (a .place) (a .ticks) (there l) (free l) ill) (c .turned-away3 .ensures)
-
 -- What the look found: the record is well-formed, and where the last slot ends.
 found : (c : tie.After-known-told) →
     let a = start (c .before .before .before) .args in (wellFormed (a .frame) ≡ true) × (c .before .end .given .0 .0 ≡ total (held (a .frame)))
@@ -58,14 +38,6 @@ unfolding start
 found c =
     let l = c .before .before .before in
     found-end (wellFormed (start l .args .frame)) _ _ _ (l .laid .ensures) (c .before .end .given .1)
-
-returns-4 : tie.Need-returns-4
-unfolding start
-returns-4 c =
-    let k = c .before .before in
-    let l = k .before .before .before in
-    let a = start l .args in
-    turned _ _ _ _ _ _ _ _ refl (wrong-ticks (a .frame) (a .place) (a .ticks) (there l) (free l) (found k .0) (c .before .if3 .taken)) (c .turned-away4 .ensures)
 
 -- When the check is reached, its verdict alone decides.
 looked : (c : tie.After-check) → tie.After-known-told
@@ -88,20 +60,6 @@ product-fits {m} {n} few less =
     let most : m * n ≤ 4294967295 * 4294967295 = mul-le-mul {n₂ = 4294967295} {m₂ = 4294967295} (omega arith) (omega arith) in
     omega arith
 
-mul-grant : tie.Need-mul-grant
-unfolding start looked begun
-mul-grant c =
-    let few : c .before .steps .given .0 .0 < 2 ^ 32 = search needs in
-    let ticks : begun (c .before .before .before .before .before) .args .ticks < 2 ^ 32 = search needs in
-    omega (arith, product-fits few ticks)
-
-grant-requires : tie.Need-grant-requires
-unfolding start
-grant-requires c κs =
-    let k = c .before .before .before .before .before .before .before .before .before in
-    let l = k .before .before .before in
-    (found k .0, free l, omega (arith, l .before .before .before .if1 .left), found k .1)
-
 -- What follows from the verdict is the whole promise.
 decided : (q : tie.After-check) (v : Verdict) (o : Outcome) → let a = begun q .args in q .check .result ≡ v → o ≡ onVerdict (a .frame) (a .place) (a .ticks) v
     → Promised (a .frame) (a .place) (a .handler .now) (a .proof .now) (a .ticks) (a .work .now) o (q .check .last .1 .1 .1 .0)
@@ -115,30 +73,37 @@ decided q v o is follows =
     (subst (λ m. Check.AcceptedIsSound (a .handler .now) (a .proof .now) m (q .check .result)) told (q .check .ensures .1 .1))
     (follows ∙ ap (onVerdict (a .frame) (a .place) (a .ticks)) (sym is))
 
-returns-5 : tie.Need-returns-5
-unfolding start looked begun
-returns-5 c = decided (c .before .before .before .before .before .before) _ _ (c .before .before .fault .given .1) (c .turned-away5 .ensures)
-
-returns-6 : tie.Need-returns-6
-unfolding start looked begun
-returns-6 c = decided (c .before .before .before .before .before .before) _ _ (c .before .before .steps .given .1) (c .grant .ensures)
-
 pub admit-spec : {M : Type 1} → statement M
+unfolding begun looked start
 admit-spec =
     tie.close
     (tie.spec
     (λ c κs. search needs)
-    returns
+    (λ c. let a = c .before .before .before .before .before .args in
+      turned _ _ _ _ _ _ _ _ refl (no-such-place (a .frame) (a .place) (a .ticks) (lt-ltb _ _ (c .before .if1 .taken))) (c .turned-away .ensures))
     (λ c κs. search needs) (λ c κs. search needs)
-    returns-2
+    (λ c. let a = c .before .before .before .before .before .before .before .args in
+      let there = le-ltb _ _ (c .before .before .before .if1 .left) in
+      turned _ _ _ _ _ _ _ _ refl (taken (a .frame) (a .place) (a .ticks) there (sym (c .before .before .holds-from .ensures) ∙ c .before .if2 .taken))
+      (c .turned-away2 .ensures))
     (λ c κs. search needs) (λ c. search needs) (λ c. search needs) (λ c κs. search needs)
-    returns-3
+    (λ c. let l = c .before .before .before in
+      let a = l .before .before .before .before .before .before .before .args in
+      let ill = found-malformed (wellFormed (a .frame)) _ _ (l .laid .ensures) (c .before .enum-told .given .1) in
+      turned _ _ _ _ _ _ _ _ refl (malformed (a .frame) (a .place) (a .ticks) (there l) (free l) ill) (c .turned-away3 .ensures))
     (λ c κs. search needs)
-    returns-4
+    (λ c. let k = c .before .before in
+      let l = k .before .before .before in
+      let a = start l .args in
+      turned _ _ _ _ _ _ _ _ refl (wrong-ticks (a .frame) (a .place) (a .ticks) (there l) (free l) (found k .0) (c .before .if3 .taken)) (c .turned-away4 .ensures))
     (λ c κs. search needs) (λ c κs. search needs) (λ c. search needs) (λ c κs. search needs) (λ c. search needs) (λ c. search needs)
-    mul-grant
-    grant-requires
+    (λ c. let few : c .before .steps .given .0 .0 < 2 ^ 32 = search needs in
+      let ticks : begun (c .before .before .before .before .before) .args .ticks < 2 ^ 32 = search needs in
+      omega (arith, product-fits few ticks))
+    (λ c κs. let k = c .before .before .before .before .before .before .before .before .before in
+      let l = k .before .before .before in
+      (found k .0, free l, omega (arith, l .before .before .before .if1 .left), found k .1))
     (λ c. search needs)
-    returns-5
+    (λ c. decided (c .before .before .before .before .before .before) _ _ (c .before .before .fault .given .1) (c .turned-away5 .ensures))
     (λ c. search needs)
-    returns-6)
+    (λ c. decided (c .before .before .before .before .before .before) _ _ (c .before .before .steps .given .1) (c .grant .ensures)))

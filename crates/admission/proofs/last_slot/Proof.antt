@@ -12,19 +12,13 @@ use Rattle.admission.proofs.last_slot.Tie as tie
 full : (c : tie.Start) → length (c .args .frame .slots) ≡ places
 full c = search (needs, length-of-mapped)
 
-returns : tie.Need-returns
-returns c =
-    let f = c .before .before .before .before .args .frame in
-    let none : 0 ≡ f .count - 1 = omega arith in
-    ap (λ i. getD (f .slots) i noSlot) none
-
-returns-2 : tie.Need-returns-2
-returns-2 c =
-    let s = c .before .before .before .before in
-    sym (List·getD-eq-default (s .args .frame .slots) noSlot {n = s .args .frame .count - 1} (omega (arith, full s)))
-
 pub last-slot-spec : {M : Type 1} → statement M
 last-slot-spec =
     tie.close
-    (tie.spec (λ c. search needs) (λ c. search needs) returns returns-2
+    (tie.spec (λ c. search needs) (λ c. search needs)
+    (λ c. let f = c .before .before .before .before .args .frame in
+      let none : 0 ≡ f .count - 1 = omega arith in
+      ap (λ i. getD (f .slots) i noSlot) none)
+    (λ c. let s = c .before .before .before .before in
+      sym (List·getD-eq-default (s .args .frame .slots) noSlot {n = s .args .frame .count - 1} (omega (arith, full s))))
     (λ c. search needs) (λ c. search needs) (λ c. search needs) (λ c. search needs))

@@ -30,22 +30,6 @@ pairAt c = c .before .before .before .before .before
 found : (r : tie.After-read-pair) → let a = start r .args in pairFile (readPair (a .handler .now) (a .proof .now)) .found ≡ r .read-pair .result .found
 found r = sym (ap (λ f. f .found) (r .read-pair .ensures))
 
-returns : tie.Need-returns
-unfolding canonical
-returns c =
-    let r = c .before .before .before in
-    let a = start r .args in
-    let answer = turned-away _ _ _ (a .out .now) (ap (formIn (a .proof .now)) (found-long _ (found r ∙ c .before .enum-told .given .1))) in
-    (c .refused .ensures ∙ answer .0, answer .1)
-
-returns-2 : tie.Need-returns-2
-unfolding canonical
-returns-2 c =
-    let r = c .before .before .before .before in
-    let a = start r .args in
-    let answer = turned-away _ _ _ (a .out .now) (ap (formIn (a .proof .now)) (found-fault _ _ _ (found r ∙ c .before .before .found .given .1))) in
-    (c .refused2 .ensures ∙ answer .0, answer .1)
-
 -- The pair that was found, and its proof file as it is lent.
 read : (c : tie.After-found2) → let a = start (both c) .args in FoundPair (readPair (a .handler .now) (a .proof .now)) (c .found2 .given .0 .0)
 read c = found-pair _ _ (found (both c) ∙ c .found2 .given .1)
@@ -70,9 +54,6 @@ lent c =
       table = ap (λ y. y .nodes) (r .read-pair .ensures) ∙ ap (λ y. pairFile y .nodes) (f .read) ∙ ap (λ w. nodeTable (w .proof .root) d) (sym (f .summary));
     }
 
-write-read-requires : tie.Need-write-read-requires
-write-read-requires c κs = lent (pairAt (c .before))
-
 returns-3 : tie.Need-returns-3
 unfolding canonical lent
 returns-3 c =
@@ -87,13 +68,20 @@ returns-3 c =
     (w .0 (lent g) ∙ ap (λ o. outcome o (length (a .out .now))) is, w .1 (lent g) ∙ ap (λ o. outAfter o (a .out .now)) is)
 
 pub write-form-spec : {M : Type 1} → statement M
+unfolding canonical
 write-form-spec =
     tie.close
     (tie.spec
     (λ c κs. search needs) (λ c. search needs) (λ c κs. search needs) (λ c. search needs) (λ c κs. search needs) (λ c. search needs)
     (λ c. search needs) (λ c. search needs)
-    write-read-requires
-    returns
-    returns-2
+    (λ c κs. lent (pairAt (c .before)))
+    (λ c. let r = c .before .before .before in
+      let a = start r .args in
+      let answer = turned-away _ _ _ (a .out .now) (ap (formIn (a .proof .now)) (found-long _ (found r ∙ c .before .enum-told .given .1))) in
+      (c .refused .ensures ∙ answer .0, answer .1))
+    (λ c. let r = c .before .before .before .before in
+      let a = start r .args in
+      let answer = turned-away _ _ _ (a .out .now) (ap (formIn (a .proof .now)) (found-fault _ _ _ (found r ∙ c .before .before .found .given .1))) in
+      (c .refused2 .ensures ∙ answer .0, answer .1))
     (λ c. search needs)
     returns-3)

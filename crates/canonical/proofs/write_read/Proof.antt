@@ -44,11 +44,6 @@ words s x =
 numbers : (c : tie.After-number) (x : Lent (start c)) → let a = start c .args in Numbers (a .proof .now) (a .n) (a .head .sets) (x .d) (c .number .result)
 numbers c x = c .number .ensures (x .d) (x .read)
 
-form-bits-requires : tie.Need-form-bits-requires
-form-bits-requires c κs =
-    let x = start c .pre in
-    (states-most _ _ _ _ _ _ (x .read), numbers c x .of-sets .most, numbers c x .of-relations .most)
-
 -- The fields that are written, and how many bits they have.
 parts : (c : tie.After-number) (x : Lent (start c)) → let a = start c .args in let m = meaning (start c) x in
     partsIn (a .proof .now) (a .n) (a .head .sets) (c .number .result) (take (min (a .head .nodes) 127) (a .nodes .now))
@@ -68,49 +63,38 @@ long : (f : tie.After-form-bits) (x : Lent (start (counted f))) → let s = star
     (f .form-bits .result + 7) / 8 ≡ length (formOf (s .args .n) (meaning s x))
 long f x = length-is _ _ _ _ _ (x .d) (x .read) _ (numbers (counted f) x) _ (bits f x)
 
-returns : tie.Need-returns
-returns c =
-    let f = c .before .before in
-    let out = start (counted f) .args .out .now in
-    (λ x. c .refused .ensures ∙ no-room _ out _ (long f x) (c .before .if1 .taken) .0, λ x. no-room _ out _ (long f x) (c .before .if1 .taken) .1)
-
-write-fields-requires : tie.Need-write-fields-requires
-write-fields-requires c κs =
-    let f = c .before .before .before .before .before .before .before in
-    let s = start (counted f) in
-    let x = s .pre in
-    let shown = read-known _ _ _ _ _ _ (x .read) in
-    let same : length (c .before .before .before .before .clear .last .0) ≡ length (s .args .out .now) = search needs in
-    let width = ap widthOf (parts (counted f) x) ∙ sym (bits f x) in
-    let enough = c .before .before .before .before .before .before .if1 .left in (
-      (states-least _ _ _ _ _ _ (x .read), states-most _ _ _ _ _ _ (x .read), shown .sets-most, numbers (counted f) x .of-sets .most, numbers (counted f) x .of-relations .most),
-      (rw width (omega arith), rw width (omega (arith, f .form-bits .ensures .1))),
-    )
-
-returns-2 : tie.Need-returns-2
-returns-2 c =
-    let f = c .before .before .before .before .before .before .before .before .before .before in
-    let s = start (counted f) in
-    let a = s .args in
-    let enough = c .before .before .before .before .before .before .before .before .before .if1 .left in
-    let cleared = c .before .before .before .before .before .before .before .clear .ensures ∙ cleared-within (a .out .now) _ enough in
-    (
-      λ x. with-room _ (a .out .now) _ (long f x) enough .0,
-      λ x. c .before .before .write-fields .ensures
-          ∙ ap₂ (λ o ws. putParts o 0 (partsIn (a .proof .now) (a .n) (a .head .sets) (counted f .number .result) ws)) cleared (words s x)
-          ∙ form-put _ _ _ _ _ (x .d) (x .read) _ (numbers (counted f) x) _ (drop ((f .form-bits .result + 7) / 8) (a .out .now)) (long f x)
-          ∙ with-room _ (a .out .now) _ (long f x) enough .1,
-    )
-
 pub write-read-spec : {M : Type 1} → statement M
 write-read-spec =
     tie.close
     (tie.spec
     (λ c. search needs) (λ c κs. search needs)
-    form-bits-requires
+    (λ c κs. let x = start c .pre in
+      (states-most _ _ _ _ _ _ (x .read), numbers c x .of-sets .most, numbers c x .of-relations .most))
     (λ c. search needs) (λ c κs. search needs)
-    returns
+    (λ c. let f = c .before .before in
+      let out = start (counted f) .args .out .now in
+      (λ x. c .refused .ensures ∙ no-room _ out _ (long f x) (c .before .if1 .taken) .0, λ x. no-room _ out _ (long f x) (c .before .if1 .taken) .1))
     (λ c κs. search needs) (λ c. search needs)
-    write-fields-requires
+    (λ c κs. let f = c .before .before .before .before .before .before .before in
+      let s = start (counted f) in
+      let x = s .pre in
+      let shown = read-known _ _ _ _ _ _ (x .read) in
+      let same : length (c .before .before .before .before .clear .last .0) ≡ length (s .args .out .now) = search needs in
+      let width = ap widthOf (parts (counted f) x) ∙ sym (bits f x) in
+      let enough = c .before .before .before .before .before .before .if1 .left in (
+        (states-least _ _ _ _ _ _ (x .read), states-most _ _ _ _ _ _ (x .read), shown .sets-most, numbers (counted f) x .of-sets .most, numbers (counted f) x .of-relations .most),
+        (rw width (omega arith), rw width (omega (arith, f .form-bits .ensures .1))),
+      ))
     (λ c. search needs) (λ c. search needs)
-    returns-2)
+    (λ c. let f = c .before .before .before .before .before .before .before .before .before .before in
+      let s = start (counted f) in
+      let a = s .args in
+      let enough = c .before .before .before .before .before .before .before .before .before .if1 .left in
+      let cleared = c .before .before .before .before .before .before .before .clear .ensures ∙ cleared-within (a .out .now) _ enough in
+      (
+        λ x. with-room _ (a .out .now) _ (long f x) enough .0,
+        λ x. c .before .before .write-fields .ensures
+            ∙ ap₂ (λ o ws. putParts o 0 (partsIn (a .proof .now) (a .n) (a .head .sets) (counted f .number .result) ws)) cleared (words s x)
+            ∙ form-put _ _ _ _ _ (x .d) (x .read) _ (numbers (counted f) x) _ (drop ((f .form-bits .result + 7) / 8) (a .out .now)) (long f x)
+            ∙ with-room _ (a .out .now) _ (long f x) enough .1,
+      )))

@@ -16,41 +16,18 @@ made-small c = subst Small (c .before .before .before .before .answer .given .1)
 refused-small : (c : tie.After-known-told2) → Small (Composed.Refused (c .before .answer2 .given .0 .0) (c .before .answer2 .given .0 .1 .0))
 refused-small c = subst Small (c .before .answer2 .given .1) (c .before .before .before .pre)
 
-mul-result-2 : tie.Need-mul-result-2
-mul-result-2 c = omega (arith, made-small c .2)
-
-add-result-2 : tie.Need-add-result-2
-add-result-2 c = omega (arith, made-small c .0, made-small c .1, made-small c .2)
-
-mul-result-3 : tie.Need-mul-result-3
-mul-result-3 c = omega (arith, refused-small c .0)
-
-add-result-3 : tie.Need-add-result-3
-add-result-3 c = omega (arith, refused-small c .0)
-
-add-result-4 : tie.Need-add-result-4
-add-result-4 c =
-    let s = refused-small (c .before) in
-    omega (arith, s .0, c .code-of .ensures, fault-below (c .before .before .answer2 .given .0 .1 .0) (s .2))
-
-returns : tie.Need-returns
-unfolding numberOf
-returns c = rw (c .before .before .before .before .answer .given .1)
-
-returns-2 : tie.Need-returns-2
-unfolding numberOf
-returns-2 c = rw (c .before .before .answer2 .given .1, c .code-of .ensures)
-
 pub number-of-spec : {M : Type 1} → statement M
+unfolding numberOf
 number-of-spec =
     tie.close
     (tie.spec (λ c. search needs) (λ c. search needs) (λ c. search needs) (λ c. search needs) (λ c. search needs) (λ c. search needs)
-    mul-result-2
-    add-result-2
+    (λ c. omega (arith, made-small c .2))
+    (λ c. omega (arith, made-small c .0, made-small c .1, made-small c .2))
     (λ c. search needs) (λ c. search needs)
-    mul-result-3
-    add-result-3
+    (λ c. omega (arith, refused-small c .0))
+    (λ c. omega (arith, refused-small c .0))
     (λ c κs. search needs)
-    add-result-4
-    returns
-    returns-2)
+    (λ c. let s = refused-small (c .before) in
+      omega (arith, s .0, c .code-of .ensures, fault-below (c .before .before .answer2 .given .0 .1 .0) (s .2)))
+    (λ c. rw (c .before .before .before .before .answer .given .1))
+    (λ c. rw (c .before .before .answer2 .given .1, c .code-of .ensures)))

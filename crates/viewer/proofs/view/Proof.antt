@@ -9,21 +9,12 @@ use Rattle.viewer.proofs.view.Tie as tie
 located : (c : tie.After-locate) → let a = c .before .before .before .args in Inside (a .handler .now) (a .proof .now) (c .locate .result)
 located c = let a = c .before .before .before .args in rw (c .locate .ensures) (location-inside (a .handler .now) (a .proof .now) (a .number) (a .place))
 
-tail-requires : tie.Need-tail-requires
-tail-requires c κs = rw (c .enum-told .given .1) at (located (c .before .before))
-
-tail-requires-2 : tie.Need-tail-requires-2
-tail-requires-2 c κs = rw (c .enum-told2 .given .1) at (located (c .before .before))
-
-returns : tie.Need-returns
-unfolding viewed
-returns c = rw (← c .before .before .before .locate .ensures, c .before .enum-told .given .1) (c .tail .ensures)
-
-returns-2 : tie.Need-returns-2
-unfolding viewed
-returns-2 c = rw (← c .before .before .before .locate .ensures, c .before .enum-told2 .given .1) (c .tail2 .ensures)
-
 pub view-spec : {M : Type 1} → statement M
+unfolding viewed
 view-spec =
     tie.close
-    (tie.spec (λ c κs. search needs) (λ c. search needs) tail-requires (λ c. search needs) tail-requires-2 returns returns-2)
+    (tie.spec (λ c κs. search needs) (λ c. search needs)
+    (λ c κs. rw (c .enum-told .given .1) at (located (c .before .before)))
+    (λ c. search needs) (λ c κs. rw (c .enum-told2 .given .1) at (located (c .before .before)))
+    (λ c. rw (← c .before .before .before .locate .ensures, c .before .enum-told .given .1) (c .tail .ensures))
+    (λ c. rw (← c .before .before .before .locate .ensures, c .before .enum-told2 .given .1) (c .tail2 .ensures)))

@@ -24,11 +24,6 @@ outcome c = rw (← c .before .before .frame-in .ensures) (c .admit .ensures .0)
 all-slots : (c : tie.After-admit) → length (c .admit .result .frame .slots) ≡ places
 all-slots c = search (needs, length-of-mapped)
 
-answered-requires : tie.Need-answered-requires
-unfolding admit
-answered-requires c κs done =
-    well-whole _ (admitted-well _ _ _ _ (sym (ap (λ o. isDone (o .answer)) (outcome (c .before .before .before))) ∙ done))
-
 served : (c : tie.After-answered) →
     let a = c .before .before .before .before .before .before .before .before .before .before .before .before .args in
     ServedIf (eqb (c .answered .result) 0) (a .handler .now) (a .proof .now) (a .ticks) (frameIn (c .answered .last .0))
@@ -38,17 +33,17 @@ served c =
     rw (c .answered .ensures .0, c .answered .ensures .1)
     (served-read (k .admit .result) _ _ _ _ (all-slots k) coded (k .admit .ensures .1 .1))
 
-returns : tie.Need-returns
-returns c =
-    let answered = c .before .before .answered .ensures in
-    let k = c .before .before .before .before .before .before in
-    let read = k .before .before .frame-in .ensures in
-    let o = outcome k in
-    let number = answered .0 ∙ ap (λ o. codeOf (asVerdict (o .answer))) o in
-    let verdict = ap decoded number ∙ decoded-back _ (admit-coded _ _ _ _ _ _ .0) in
-    (number, (verdict, (rw (← o) (answered .1), (rw (← read) (k .admit .ensures .1 .0), served (c .before .before)))))
-
 pub admit-lent-spec : {M : Type 1} → statement M
+unfolding admit
 admit-lent-spec =
     tie.close
-    (tie.spec (λ c κs. search needs) (λ c κs. search needs) answered-requires (λ c. search needs) (λ c. search needs) returns)
+    (tie.spec (λ c κs. search needs) (λ c κs. search needs)
+    (λ c κs done. well-whole _ (admitted-well _ _ _ _ (sym (ap (λ o. isDone (o .answer)) (outcome (c .before .before .before))) ∙ done)))
+    (λ c. search needs) (λ c. search needs)
+    (λ c. let answered = c .before .before .answered .ensures in
+      let k = c .before .before .before .before .before .before in
+      let read = k .before .before .frame-in .ensures in
+      let o = outcome k in
+      let number = answered .0 ∙ ap (λ o. codeOf (asVerdict (o .answer))) o in
+      let verdict = ap decoded number ∙ decoded-back _ (admit-coded _ _ _ _ _ _ .0) in
+      (number, (verdict, (rw (← o) (answered .1), (rw (← read) (k .admit .ensures .1 .0), served (c .before .before)))))))

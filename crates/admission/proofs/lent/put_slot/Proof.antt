@@ -9,16 +9,12 @@ use Rattle.frame.specs.Lent.{slotNumbers}
 use Rattle.admission.proofs.lent.put_slot.Statement.{statement}
 use Rattle.admission.proofs.lent.put_slot.Tie as tie
 
-returns : tie.Need-returns
-unfolding slotNumbers
-returns c =
-    let at = 2 + 3 * c .args .i in
-    let two : at + 2 ≡ suc (suc at) = omega arith in
-    rw (add-one, two)
-
 pub put-slot-spec : {M : Type 1} → statement M
+unfolding slotNumbers
 put-slot-spec =
     tie.close
     (tie.spec (λ c. search needs) (λ c. search needs) (λ c. search needs) (λ c. search needs) (λ c. search needs) (λ c. search needs)
     (λ c. simp length-set (omega arith)) (λ c. search needs) (λ c. search needs) (λ c. simp length-set (omega arith)) (λ c. search needs)
-    returns)
+    (λ c. let at = 2 + 3 * c .args .i in
+      let two : at + 2 ≡ suc (suc at) = omega arith in
+      rw (add-one, two)))

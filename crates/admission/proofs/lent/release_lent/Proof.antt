@@ -15,16 +15,12 @@ outcome : (c : tie.After-release) →
     c .release .result ≡ released (frameIn (a .numbers .now)) (a .place)
 outcome c = rw (← c .before .frame-in .ensures) (c .release .ensures)
 
-answered-requires : tie.Need-answered-requires
-answered-requires c κs done = well-whole _ (released-well _ _ (sym (ap (λ o. isDone (o .answer)) (outcome (c .before))) ∙ done))
-
-returns : tie.Need-returns
-returns c =
-    let answered = c .before .before .answered .ensures in
-    let o = outcome (c .before .before .before .before) in
-    let number = answered .0 ∙ ap (λ o. codeOf (asVerdict (o .answer))) o in
-    (number, (ap decoded number ∙ decoded-back _ (released-coded _ _ .0), rw (← o) (answered .1)))
-
 pub release-lent-spec : {M : Type 1} → statement M
 release-lent-spec =
-    tie.close (tie.spec (λ c κs. search needs) (λ c κs. search needs) answered-requires (λ c. search needs) returns)
+    tie.close (tie.spec (λ c κs. search needs) (λ c κs. search needs)
+    (λ c κs done. well-whole _ (released-well _ _ (sym (ap (λ o. isDone (o .answer)) (outcome (c .before))) ∙ done)))
+    (λ c. search needs)
+    (λ c. let answered = c .before .before .answered .ensures in
+      let o = outcome (c .before .before .before .before) in
+      let number = answered .0 ∙ ap (λ o. codeOf (asVerdict (o .answer))) o in
+      (number, (ap decoded number ∙ decoded-back _ (released-coded _ _ .0), rw (← o) (answered .1)))))

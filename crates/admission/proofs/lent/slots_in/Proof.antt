@@ -17,24 +17,17 @@ Inv-loop numbers slots₀ i₀ slots i = (i ≤ places) × (length slots ≡ pla
 abbrev μ-loop : tie.MeasureT-loop
 μ-loop numbers slots₀ i₀ slots i = places - i
 
-loop-again : tie.Need-loop-again Inv-loop μ-loop
-unfolding slotsIn
-loop-again c =
-    let l = c .before .before .loop in (
-      omega arith,
-      length-set (l .slots) (l .i) (c .slot-in .result) ∙ l .inv .1,
-      rw (add-one, take-suc-set (l .slots) (l .i) _ (omega arith), l .inv .2, c .slot-in .ensures),
-    )
-
-returns : tie.Need-returns Inv-loop μ-loop
-returns c =
-    let l = c .before .loop in
-    let all : l .i ≡ places = omega arith in
-    sym (take-all places (l .slots) (omega arith)) ∙ rw all at (l .inv .2)
-
 pub slots-in-spec : {M : Type 1} → statement M
 unfolding slotsIn
 slots-in-spec =
     tie.close
     (tie.spec Inv-loop μ-loop (λ c. (omega arith, refl, refl)) (λ c κs. search needs) (λ c. search needs) (λ c. search needs) (λ c. search needs)
-    (λ c. search needs) loop-again returns)
+    (λ c. search needs)
+    (λ c. let l = c .before .before .loop in (
+        omega arith,
+        length-set (l .slots) (l .i) (c .slot-in .result) ∙ l .inv .1,
+        rw (add-one, take-suc-set (l .slots) (l .i) _ (omega arith), l .inv .2, c .slot-in .ensures),
+      ))
+    (λ c. let l = c .before .loop in
+      let all : l .i ≡ places = omega arith in
+      sym (take-all places (l .slots) (omega arith)) ∙ rw all at (l .inv .2)))

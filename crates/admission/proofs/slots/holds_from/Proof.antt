@@ -28,26 +28,8 @@ left c =
     c .loop .inv .1 ∙ ap (λ l. holds (a .place) (drop (a .from) l))
     (ap (λ k. take k (a .frame .slots)) (c .before .shown .ensures) ∙ take-shown (a .frame .slots) (a .frame .count) (full (c .before .before .before)))
 
-returns : tie.Need-returns Inv-loop μ-loop
-returns c =
-    let l = c .before .before in
-    let a = l .before .before .before .args in
-    sym (holds-here (a .frame .slots) (l .before .shown .result) (l .loop .i) _ (omega arith) (omega (arith, full (l .before .before .before))) _ (c .if1 .taken)) ∙ left l
-
-loop-again : tie.Need-loop-again Inv-loop μ-loop
-loop-again c =
-    let l = c .before .before in
-    let a = l .before .before .before .args in
-    (omega arith, sym (holds-past (a .frame .slots) (l .before .shown .result) (l .loop .i) _ (omega arith) (omega (arith, full (l .before .before .before))) _ (c .if1 .left)) ∙ l .loop .inv .1)
-
-returns-2 : tie.Need-returns-2 Inv-loop μ-loop
-unfolding holds
-returns-2 c =
-    let l = c .before in
-    let a = l .before .before .before .args in
-    ap (holds (a .place)) (sym (none-left (a .frame .slots) (l .before .shown .result) (l .loop .i) (omega arith))) ∙ left l
-
 pub holds-from-spec : {M : Type 1} → statement M
+unfolding holds
 holds-from-spec =
     tie.close
     (tie.spec
@@ -56,7 +38,13 @@ holds-from-spec =
     (λ c κs. search needs)
     (λ c. (omega arith, refl))
     (λ c. search needs) (λ c. search needs) (λ c. search needs)
-    returns
+    (λ c. let l = c .before .before in
+      let a = l .before .before .before .args in
+      sym (holds-here (a .frame .slots) (l .before .shown .result) (l .loop .i) _ (omega arith) (omega (arith, full (l .before .before .before))) _ (c .if1 .taken)) ∙ left l)
     (λ c. search needs) (λ c. search needs)
-    loop-again
-    returns-2)
+    (λ c. let l = c .before .before in
+      let a = l .before .before .before .args in
+      (omega arith, sym (holds-past (a .frame .slots) (l .before .shown .result) (l .loop .i) _ (omega arith) (omega (arith, full (l .before .before .before))) _ (c .if1 .left)) ∙ l .loop .inv .1))
+    (λ c. let l = c .before in
+      let a = l .before .before .before .args in
+      ap (holds (a .place)) (sym (none-left (a .frame .slots) (l .before .shown .result) (l .loop .i) (omega arith))) ∙ left l))

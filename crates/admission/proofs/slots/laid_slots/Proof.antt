@@ -50,12 +50,6 @@ wrong c h =
     let none = sym (l .loop .inv .3) ∙ ap (laidWithin (a .frame .length) (l .loop .tick)) (next c) ∙ h in
     ap (λ b. laidFound b (total (held (a .frame)))) (sym none)
 
-returns : tie.Need-returns Inv-loop μ-loop
-returns c = wrong (c .before .before .before) (laid-not _ _ _ _ (sym (c .before .lies-at .ensures) ∙ not-true _ (c .if1 .taken)))
-
-returns-2 : tie.Need-returns-2 Inv-loop μ-loop
-returns-2 c = wrong (c .before .before .before .before .before) (laid-twice _ _ _ _ (sym (c .before .holds-from .ensures) ∙ c .if2 .taken))
-
 -- Slot i is right, so it ends within the frame, and the slots after it decide.
 right : (c : tie.Else1 Inv-loop μ-loop) →
     let l = c .before .before .before .before in
@@ -73,31 +67,8 @@ room c =
     let s = getD (a .frame .slots) (l .loop .i) noSlot in
     leb-true _ _ (and-right (eqb (s .first) (l .loop .tick)) _ (and-left _ (ltb (s .place) places) (right c)))
 
-loop-again : tie.Need-loop-again Inv-loop μ-loop
-unfolding total
-loop-again c =
-    let one = c .before .before .before in
-    let i = one .before .before .before in
-    let l = i .before in
-    let a = l .before .before .args in
-    let alone = sym (c .before .before .holds-from .ensures) ∙ c .before .if2 .left in (
-      omega arith,
-      room one,
-      omega (arith, ap total (next i), l .loop .inv .2),
-      sym (laid-on _ _ _ _ (right one) alone) ∙ ap (laidWithin (a .frame .length) (l .loop .tick)) (sym (next i)) ∙ l .loop .inv .3,
-    )
-
-returns-3 : tie.Need-returns-3 Inv-loop μ-loop
-unfolding total
-returns-3 c =
-    let l = c .before in
-    let a = l .before .before .args in
-    let none = none-left (a .frame .slots) (a .frame .count) (l .loop .i) (omega arith) in
-    ap₂ laidFound
-    (sym (laid-none (a .frame .length) (l .loop .tick) (search needs)) ∙ ap (laidWithin (a .frame .length) (l .loop .tick)) (sym none) ∙ l .loop .inv .3)
-    (omega (arith, l .loop .inv .2, ap total none))
-
 pub laid-slots-spec : {M : Type 1} → statement M
+unfolding total
 laid-slots-spec =
     tie.close
     (tie.spec
@@ -105,9 +76,23 @@ laid-slots-spec =
     μ-loop
     (λ c. (omega arith, omega arith, omega arith, refl))
     (λ c. search needs) (λ c. search needs) (λ c. search needs) (λ c κs. search needs)
-    returns
+    (λ c. wrong (c .before .before .before) (laid-not _ _ _ _ (sym (c .before .lies-at .ensures) ∙ not-true _ (c .if1 .taken))))
     (λ c. omega arith) (λ c κs. search needs)
-    returns-2
+    (λ c. wrong (c .before .before .before .before .before) (laid-twice _ _ _ _ (sym (c .before .holds-from .ensures) ∙ c .if2 .taken)))
     (λ c. omega (arith, room (c .before .before .before))) (λ c. search needs) (λ c. search needs)
-    loop-again
-    returns-3)
+    (λ c. let one = c .before .before .before in
+      let i = one .before .before .before in
+      let l = i .before in
+      let a = l .before .before .args in
+      let alone = sym (c .before .before .holds-from .ensures) ∙ c .before .if2 .left in (
+        omega arith,
+        room one,
+        omega (arith, ap total (next i), l .loop .inv .2),
+        sym (laid-on _ _ _ _ (right one) alone) ∙ ap (laidWithin (a .frame .length) (l .loop .tick)) (sym (next i)) ∙ l .loop .inv .3,
+      ))
+    (λ c. let l = c .before in
+      let a = l .before .before .args in
+      let none = none-left (a .frame .slots) (a .frame .count) (l .loop .i) (omega arith) in
+      ap₂ laidFound
+      (sym (laid-none (a .frame .length) (l .loop .tick) (search needs)) ∙ ap (laidWithin (a .frame .length) (l .loop .tick)) (sym none) ∙ l .loop .inv .3)
+      (omega (arith, l .loop .inv .2, ap total none))))

@@ -20,56 +20,35 @@ abbrev μ-loop : tie.MeasureT-loop
 full : (c : tie.Start Inv-loop μ-loop) → length (c .args .frame .slots) ≡ places
 full c = search (needs, length-of-mapped)
 
-loop-holds : tie.Need-loop-holds Inv-loop μ-loop
-unfolding others laidFrom total frameOf
-loop-holds c = (omega arith, rw (c .no-slots .ensures) refl, refl)
-
 -- Slot i is one of the record's.
 there : (c : tie.In-loop Inv-loop μ-loop) → c .before .loop .i < length (c .before .before .before .before .args .frame .slots)
 there c = omega (arith, full (c .before .before .before .before))
 
-with-other-requires : tie.Need-with-other-requires Inv-loop μ-loop
-unfolding frameOf
-with-other-requires c κs =
-    let l = c .before .before in
-    let a = l .before .before .before .args in
-    omega (arith, ap (λ f. f .count) (l .loop .inv .1), few-kept (a .place) (a .frame .slots) (l .loop .i) (there (c .before)))
-
-tick-after-requires : tie.Need-tick-after-requires Inv-loop μ-loop
-tick-after-requires c κs =
-    let l = c .before .before .before in
-    let a = l .before .before .before .args in
-    omega (arith, l .loop .inv .2, room-next (a .place) (a .frame .slots) (l .loop .i) (there (c .before .before)) (a .frame .count) (omega arith))
-
-loop-again : tie.Need-loop-again Inv-loop μ-loop
-loop-again c =
-    let l = c .before .before .before .before in
-    let a = l .before .before .before .args in
-    let in-slots = there (c .before .before .before) in (
-      omega arith,
-      c .before .with-other .ensures ∙ laid-next (a .place) (a .frame .slots) (l .loop .i) in-slots _ _ _ (l .loop .inv .1) (l .loop .inv .2) (omega arith),
-      c .tick-after .ensures ∙ total-next (a .place) (a .frame .slots) (l .loop .i) in-slots _ (l .loop .inv .2),
-    )
-
-returns : tie.Need-returns Inv-loop μ-loop
-unfolding frameOf
-returns c =
-    let l = c .before in
-    let a = l .before .before .before .args in
-    let all : l .loop .i ≡ a .frame .count = omega arith in
-    l .loop .inv .1 ∙ ap₂ (λ n k. frameOf n (laidFrom 0 (without (a .place) (take k (a .frame .slots))))) (ap (λ f. f .length) (l .before .no-slots .ensures)) all
-
 pub laid-without-spec : {M : Type 1} → statement M
+unfolding frameOf laidFrom others total
 laid-without-spec =
     tie.close
     (tie.spec
     Inv-loop
     μ-loop
     (λ c κs. search needs)
-    loop-holds
+    (λ c. (omega arith, rw (c .no-slots .ensures) refl, refl))
     (λ c. search needs) (λ c. search needs) (λ c. search needs)
-    with-other-requires
-    tick-after-requires
+    (λ c κs. let l = c .before .before in
+      let a = l .before .before .before .args in
+      omega (arith, ap (λ f. f .count) (l .loop .inv .1), few-kept (a .place) (a .frame .slots) (l .loop .i) (there (c .before))))
+    (λ c κs. let l = c .before .before .before in
+      let a = l .before .before .before .args in
+      omega (arith, l .loop .inv .2, room-next (a .place) (a .frame .slots) (l .loop .i) (there (c .before .before)) (a .frame .count) (omega arith)))
     (λ c. search needs) (λ c. search needs)
-    loop-again
-    returns)
+    (λ c. let l = c .before .before .before .before in
+      let a = l .before .before .before .args in
+      let in-slots = there (c .before .before .before) in (
+        omega arith,
+        c .before .with-other .ensures ∙ laid-next (a .place) (a .frame .slots) (l .loop .i) in-slots _ _ _ (l .loop .inv .1) (l .loop .inv .2) (omega arith),
+        c .tick-after .ensures ∙ total-next (a .place) (a .frame .slots) (l .loop .i) in-slots _ (l .loop .inv .2),
+      ))
+    (λ c. let l = c .before in
+      let a = l .before .before .before .args in
+      let all : l .loop .i ≡ a .frame .count = omega arith in
+      l .loop .inv .1 ∙ ap₂ (λ n k. frameOf n (laidFrom 0 (without (a .place) (take k (a .frame .slots))))) (ap (λ f. f .length) (l .before .no-slots .ensures)) all))

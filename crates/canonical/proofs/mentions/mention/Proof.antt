@@ -16,15 +16,6 @@ use Rattle.canonical.proofs.mentions.mention.Tie as tie
 abbrev listing : (c : tie.Start) → Listing (c .args .order .now) (c .args .count)
 listing c = c .pre .0
 
-returns : tie.Need-returns
-unfolding allMentioned
-returns c =
-    let start = c .before .before .before .before in
-    let a = start .args in
-    let under : placeIn (take (a .count) (a .order .now)) (a .x) < a .count = rw (← c .before .place-in .ensures) (c .if1 .taken) in
-    let there = is-there (a .order .now) (a .x) (a .count) (omega (arith, listing start .length-enough, listing start .count-most)) under in
-    record { listed = sym (mentioned-there _ _ there); most = listing start .count-most }
-
 -- x is new, so one of the 16 entries is free.
 free : (c : tie.Else1) → let a = c .before .before .before .before .args in
     (isIn (take (a .count) (a .order .now)) (a .x) ≡ false) × (a .count < 16)
@@ -40,19 +31,19 @@ free c =
 inside : (c : tie.Else1) → c .before .before .before .before .args .count < length (c .before .before .before .before .args .order .now)
 inside c = omega (arith, free c .1, listing (c .before .before .before .before) .length-enough)
 
-returns-2 : tie.Need-returns-2
-unfolding allMentioned
-returns-2 c =
-    let a = c .before .before .before .before .args in
-    record { listed = put-new (a .order .now) (a .x) (a .count) (inside c) (free c .0); most = omega (arith, free c .1) }
-
 pub mention-spec : {M : Type 1} → statement M
+unfolding allMentioned
 mention-spec =
     tie.close
     (tie.spec
     (λ c κs. omega (arith, listing (c .before .before) .length-enough, listing (c .before .before) .count-most)) (λ c. search needs)
-    returns
+    (λ c. let start = c .before .before .before .before in
+      let a = start .args in
+      let under : placeIn (take (a .count) (a .order .now)) (a .x) < a .count = rw (← c .before .place-in .ensures) (c .if1 .taken) in
+      let there = is-there (a .order .now) (a .x) (a .count) (omega (arith, listing start .length-enough, listing start .count-most)) under in
+      record { listed = sym (mentioned-there _ _ there); most = listing start .count-most })
     (λ c. search needs)
     inside
     (λ c. omega (arith, free c .1)) (λ c. search needs)
-    returns-2)
+    (λ c. let a = c .before .before .before .before .args in
+      record { listed = put-new (a .order .now) (a .x) (a .count) (inside c) (free c .0); most = omega (arith, free c .1) }))

@@ -15,41 +15,24 @@ Inv-loop nodes count sets₀ relations₀ set-reps relation-reps set-count₀ re
 abbrev μ-loop : tie.MeasureT-loop
 μ-loop nodes count sets₀ relations₀ set-reps relation-reps set-count₀ relation-count₀ i₀ sets relations set-count relation-count i = count - i
 
-loop-holds : tie.Need-loop-holds Inv-loop μ-loop
-loop-holds c = (omega arith, so-far-none _ _ _ _ (search needs), so-far-none _ _ _ _ (search needs))
-
-mention-sets-requires : tie.Need-mention-sets-requires Inv-loop μ-loop
-mention-sets-requires c κs = c .before .before .before .before .loop .inv .1 .listing
-
-mention-relations-requires : tie.Need-mention-relations-requires Inv-loop μ-loop
-mention-relations-requires c κs = c .before .before .before .before .before .before .before .before .before .loop .inv .2 .listing
-
-loop-again : tie.Need-loop-again Inv-loop μ-loop
-loop-again c =
-    let node = c .before .before .before .before .before .before .before .before .before .before .node-at .ensures in
-    let l = c .before .before .before .before .before .before .before .before .before .before .before .before .loop in (
-      omega arith,
-      so-far-more setsOf _ _ _ (l .i) _ _ _ _ (omega arith) (l .inv .1) (rw (← node) (c .before .before .before .before .before .before .before .mention-sets .ensures)) (search needs),
-      so-far-more relationsOf _ _ _ (l .i) _ _ _ _ (omega arith) (l .inv .2) (rw (← node) (c .before .before .mention-relations .ensures)) (search needs),
-    )
-
-returns : tie.Need-returns Inv-loop μ-loop
-returns c =
-    let l = c .before .loop in
-    let all : l .i ≡ c .before .before .before .before .before .before .before .args .count = omega arith in
-    rw (← all) (l .inv .1 .after, l .inv .2 .after)
-
 pub mention-nodes-spec : {M : Type 1} → statement M
 mention-nodes-spec =
     tie.close
     (tie.spec
     Inv-loop
     μ-loop
-    loop-holds
+    (λ c. (omega arith, so-far-none _ _ _ _ (search needs), so-far-none _ _ _ _ (search needs)))
     (λ c κs. search needs)
-    mention-sets-requires
-    mention-relations-requires
+    (λ c κs. c .before .before .before .before .loop .inv .1 .listing)
+    (λ c κs. c .before .before .before .before .before .before .before .before .before .loop .inv .2 .listing)
     (λ c. search needs) (λ c. search needs)
-    loop-again
+    (λ c. let node = c .before .before .before .before .before .before .before .before .before .before .node-at .ensures in
+      let l = c .before .before .before .before .before .before .before .before .before .before .before .before .loop in (
+        omega arith,
+        so-far-more setsOf _ _ _ (l .i) _ _ _ _ (omega arith) (l .inv .1) (rw (← node) (c .before .before .before .before .before .before .before .mention-sets .ensures)) (search needs),
+        so-far-more relationsOf _ _ _ (l .i) _ _ _ _ (omega arith) (l .inv .2) (rw (← node) (c .before .before .mention-relations .ensures)) (search needs),
+      ))
     (λ c. c .before .loop .inv .1 .same) (λ c. c .before .loop .inv .2 .same)
-    returns)
+    (λ c. let l = c .before .loop in
+      let all : l .i ≡ c .before .before .before .before .before .before .before .args .count = omega arith in
+      rw (← all) (l .inv .1 .after, l .inv .2 .after)))

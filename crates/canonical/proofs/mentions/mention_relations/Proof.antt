@@ -15,26 +15,17 @@ listed c =
     let a = start .args in
     listing-after _ _ _ _ _ (start .pre) (search needs) (named-below (a .reps .now) (a .node .names .r ∷ a .node .names .g ∷ [])) (c .mention-two .ensures)
 
-returns : tie.Need-returns
-unfolding relationsOf
-returns c =
-    rw (eq-eqb _ 5 (c .before .before .before .before .if1 .taken))
-    (after-again _ _ _ _ _ _ _ _ (c .before .before .before .before .before .before .before .before .mention-two .ensures) (c .before .before .mention-two2 .ensures))
-
-returns-2 : tie.Need-returns-2
-unfolding relationsOf
-returns-2 c =
-    rw (ne-eqb _ 5 (c .before .before .before .before .if1 .left))
-    (after-again _ _ _ _ _ _ _ _ (c .before .before .before .before .before .before .before .before .mention-two .ensures) (c .before .before .mention-one .ensures))
-
 pub mention-relations-spec : {M : Type 1} → statement M
+unfolding relationsOf
 mention-relations-spec =
     tie.close
     (tie.spec
     (λ c κs. search needs)
     (λ c κs. listed (c .before .before .before .before .before))
     (λ c. search needs)
-    returns
+    (λ c. rw (eq-eqb _ 5 (c .before .before .before .before .if1 .taken))
+      (after-again _ _ _ _ _ _ _ _ (c .before .before .before .before .before .before .before .before .mention-two .ensures) (c .before .before .mention-two2 .ensures)))
     (λ c κs. listed (c .before .before .before .before .before))
     (λ c. search needs)
-    returns-2)
+    (λ c. rw (ne-eqb _ 5 (c .before .before .before .before .if1 .left))
+      (after-again _ _ _ _ _ _ _ _ (c .before .before .before .before .before .before .before .before .mention-two .ensures) (c .before .before .mention-one .ensures))))

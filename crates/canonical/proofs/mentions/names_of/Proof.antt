@@ -17,19 +17,6 @@ Inv-loop order count reps names₀ i₀ names i =
 abbrev μ-loop : tie.MeasureT-loop
 μ-loop order count reps names₀ i₀ names i = 16 - i
 
-loop-again : tie.Need-loop-again Inv-loop μ-loop
-loop-again c =
-    let l = c .before .before .before .loop in
-    let a = c .before .before .before .before .before .args in
-    let place = c .place-in .ensures ∙ ap (placeIn (take (a .count) (a .order .now))) (c .before .name-in .ensures) in (
-      omega arith,
-      length-set (l .names) (l .i) _ ∙ l .inv .1,
-      entry-more (λ k x. x ≡ placeIn (take (a .count) (a .order .now)) (nameIn (a .reps .now) k)) (l .names) (l .i) _ (omega arith) (l .inv .2) place,
-    )
-
-returns : tie.Need-returns Inv-loop μ-loop
-returns c = λ k under. c .before .loop .inv .2 k (omega arith)
-
 pub names-of-spec : {M : Type 1} → statement M
 names-of-spec =
     tie.close
@@ -40,5 +27,11 @@ names-of-spec =
     (λ c. search needs)
     (λ c κs. search needs) (λ c κs. search needs)
     (λ c. search needs) (λ c. search needs) (λ c. search needs) (λ c. search needs)
-    loop-again
-    returns)
+    (λ c. let l = c .before .before .before .loop in
+      let a = c .before .before .before .before .before .args in
+      let place = c .place-in .ensures ∙ ap (placeIn (take (a .count) (a .order .now))) (c .before .name-in .ensures) in (
+        omega arith,
+        length-set (l .names) (l .i) _ ∙ l .inv .1,
+        entry-more (λ k x. x ≡ placeIn (take (a .count) (a .order .now)) (nameIn (a .reps .now) k)) (l .names) (l .i) _ (omega arith) (l .inv .2) place,
+      ))
+    (λ c. λ k under. c .before .loop .inv .2 k (omega arith)))

@@ -7,28 +7,17 @@ use Rattle.canonical.proofs.Bounds.{few-bits}
 use Rattle.canonical.proofs.mentions.representatives_of.Statement.{statement}
 use Rattle.canonical.proofs.mentions.representatives_of.Tie as tie
 
-representatives-requires : tie.Need-representatives-requires
-representatives-requires c κs = (subst Within (sym (c .set-run .ensures)) (omega arith), omega arith)
-
-representatives-requires-2 : tie.Need-representatives-requires-2
-representatives-requires-2 c κs =
-    let start = c .before .before .before .before .before .before in
-    let small = few-bits (start .args .n) (start .args .head .sets) 0 (start .pre .0) (start .pre .1) (omega arith) in
-    (subst Within (sym (c .before .relation-run .ensures)) (omega arith), omega arith)
-
-returns : tie.Need-returns
-returns c =
-    let a = c .before .before .before .before .before .before .before .args in (
-      subst (λ run. Leasts (membersIn (a .src .now) run) (a .head .sets) (c .before .before .before .representatives .result)) (c .before .before .before .before .set-run .ensures) (c .before .before .before .representatives .ensures),
-      subst (λ run. Leasts (membersIn (a .src .now) run) (a .head .relations) (c .representatives2 .result)) (c .before .before .relation-run .ensures) (c .representatives2 .ensures),
-    )
-
 pub representatives-of-spec : {M : Type 1} → statement M
 representatives-of-spec =
     tie.close
     (tie.spec
     (λ c. search needs) (λ c κs. search needs)
-    representatives-requires
+    (λ c κs. (subst Within (sym (c .set-run .ensures)) (omega arith), omega arith))
     (λ c κs. search needs) (λ c. search needs)
-    representatives-requires-2
-    returns)
+    (λ c κs. let start = c .before .before .before .before .before .before in
+      let small = few-bits (start .args .n) (start .args .head .sets) 0 (start .pre .0) (start .pre .1) (omega arith) in
+      (subst Within (sym (c .before .relation-run .ensures)) (omega arith), omega arith))
+    (λ c. let a = c .before .before .before .before .before .before .before .args in (
+        subst (λ run. Leasts (membersIn (a .src .now) run) (a .head .sets) (c .before .before .before .representatives .result)) (c .before .before .before .before .set-run .ensures) (c .before .before .before .representatives .ensures),
+        subst (λ run. Leasts (membersIn (a .src .now) run) (a .head .relations) (c .representatives2 .result)) (c .before .before .relation-run .ensures) (c .representatives2 .ensures),
+      )))

@@ -19,10 +19,6 @@ Inv-loop nodes count width₀ i₀ i-end width i = (i ≤ i-end) × (width ≡ w
 abbrev μ-loop : tie.MeasureT-loop
 μ-loop nodes count width₀ i₀ i-end width i = i-end - i
 
-loop-holds : tie.Need-loop-holds Inv-loop μ-loop
-unfolding widthOf
-loop-holds c = (omega arith, rw (held-none partsOf (c .before .before .args .nodes .now)), omega arith)
-
 -- The bits of the node of this round.
 added : (c : tie.After-node-width Inv-loop μ-loop) →
     let l = c .before .before .before in
@@ -32,29 +28,22 @@ added c = c .node-width .ensures ∙ ap (λ x. widthOf (partsOf x)) (c .before .
 few : (c : tie.After-node-width Inv-loop μ-loop) → c .node-width .result ≤ 27
 few c = rw (added c) (width-most _)
 
-loop-again : tie.Need-loop-again Inv-loop μ-loop
-loop-again c =
-    let l = c .before .before .before in
-    let more = width-more (l .before .before .before .args .nodes .now) (l .loop .i) (omega arith) in
-    (omega arith, omega (arith, l .loop .inv .1, added c, more), omega (arith, few c, l .loop .inv .2))
-
-returns : tie.Need-returns Inv-loop μ-loop
-returns c =
-    let n = c .before .before in
-    let all : c .before .loop .i ≡ n .node-count .result = omega arith in
-    rw (all, n .node-count .ensures .2) at (c .before .loop .inv .1)
-
 pub nodes-width-spec : {M : Type 1} → statement M
+unfolding widthOf
 nodes-width-spec =
     tie.close
     (tie.spec
     Inv-loop
     μ-loop
     (λ c κs. search needs)
-    loop-holds
+    (λ c. (omega arith, rw (held-none partsOf (c .before .before .args .nodes .now)), omega arith))
     (λ c κs. search needs)
     (λ c κs. search needs)
     (λ c. omega (arith, few c, c .before .before .before .loop .inv .2))
     (λ c. search needs) (λ c. search needs)
-    loop-again
-    returns)
+    (λ c. let l = c .before .before .before in
+      let more = width-more (l .before .before .before .args .nodes .now) (l .loop .i) (omega arith) in
+      (omega arith, omega (arith, l .loop .inv .1, added c, more), omega (arith, few c, l .loop .inv .2)))
+    (λ c. let n = c .before .before in
+      let all : c .before .loop .i ≡ n .node-count .result = omega arith in
+      rw (all, n .node-count .ensures .2) at (c .before .loop .inv .1)))

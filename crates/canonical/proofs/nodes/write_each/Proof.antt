@@ -25,13 +25,6 @@ Inv-loop nodes count sets relations out₀ at cursor₀ i₀ out cursor i =
 abbrev μ-loop : tie.MeasureT-loop
 μ-loop nodes count sets relations out₀ at cursor₀ i₀ out cursor i = count - i
 
-loop-holds : tie.Need-loop-holds Inv-loop μ-loop
-unfolding widthOf putParts
-loop-holds c =
-    let a = c .before .before .args in
-    let renamed = renamedParts (a .sets .now) (a .relations .now) in
-    (omega arith, rw (held-none partsOf (a .nodes .now)) (omega arith), rw (held-none renamed (a .nodes .now)))
-
 -- The buffer's length never changes.
 kept : (c : tie.At-loop Inv-loop μ-loop) → length (c .loop .out) ≡ length (c .before .before .before .args .out .now)
 kept c = ap length (c .loop .inv .2) ∙ length-parts _ _ _
@@ -71,36 +64,31 @@ added : (c : tie.After-node-width Inv-loop μ-loop) → let r = c .before .befor
     c .node-width .result ≡ widthOf (own (r .before .before))
 added c = c .node-width .ensures ∙ ap widthOf (parts-are (c .before .before .before .before .before))
 
-loop-again : tie.Need-loop-again Inv-loop μ-loop
-loop-again c =
-    let r = c .before .before .before .before .before in
-    let i = r .before .before in
-    let l = i .before in
-    let a = l .before .before .before .args in
-    let inside : l .loop .i < length (a .nodes .now) = omega arith in (
-      omega arith,
-      omega (arith, l .loop .inv .1, added c, own-width i, width-more (a .nodes .now) (l .loop .i) inside),
-      c .before .before .before .write-node .ensures ∙ ap (putAll (l .loop .out) (l .loop .cursor)) (parts-are r)
-          ∙ all-fits (l .loop .out) (l .loop .cursor) (own i) (room i .0) (room i .1)
-          ∙ (λ k. putParts (l .loop .inv .2 k) (l .loop .inv .1 k) (own i))
-          ∙ sym (put-next (a .sets .now) (a .relations .now) _ _ (a .nodes .now) (l .loop .i) inside),
-    )
-
-returns : tie.Need-returns Inv-loop μ-loop
-returns c =
-    let all : c .before .loop .i ≡ c .before .before .before .before .args .count = omega arith in
-    rw all at (c .before .loop .inv .2)
-
 pub write-each-spec : {M : Type 1} → statement M
+unfolding putParts widthOf
 write-each-spec =
     tie.close
     (tie.spec
     Inv-loop
     μ-loop
-    loop-holds
+    (λ c. let a = c .before .before .args in
+      let renamed = renamedParts (a .sets .now) (a .relations .now) in
+      (omega arith, rw (held-none partsOf (a .nodes .now)) (omega arith), rw (held-none renamed (a .nodes .now))))
     (λ c κs. search needs) (λ c κs. search needs) (λ c κs. search needs) (λ c κs. search needs)
     (λ c. omega (arith, added c, room (c .before .before .before .before .before .before .before) .1))
     (λ c. search needs) (λ c. search needs)
-    loop-again
+    (λ c. let r = c .before .before .before .before .before in
+      let i = r .before .before in
+      let l = i .before in
+      let a = l .before .before .before .args in
+      let inside : l .loop .i < length (a .nodes .now) = omega arith in (
+        omega arith,
+        omega (arith, l .loop .inv .1, added c, own-width i, width-more (a .nodes .now) (l .loop .i) inside),
+        c .before .before .before .write-node .ensures ∙ ap (putAll (l .loop .out) (l .loop .cursor)) (parts-are r)
+            ∙ all-fits (l .loop .out) (l .loop .cursor) (own i) (room i .0) (room i .1)
+            ∙ (λ k. putParts (l .loop .inv .2 k) (l .loop .inv .1 k) (own i))
+            ∙ sym (put-next (a .sets .now) (a .relations .now) _ _ (a .nodes .now) (l .loop .i) inside),
+      ))
     (λ c. kept (c .before))
-    returns)
+    (λ c. let all : c .before .loop .i ≡ c .before .before .before .before .args .count = omega arith in
+      rw all at (c .before .loop .inv .2)))

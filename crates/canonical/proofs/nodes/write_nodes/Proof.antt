@@ -22,35 +22,23 @@ tested c =
     ap (hasRoom (a .out .now) (a .at)) (held-width (a .sets .now) (a .relations .now) _ ∙ sym (c .before .nodes-width .ensures))
     ∙ sym (c .has-room .ensures)
 
-write-each-requires : tie.Need-write-each-requires
-write-each-requires c κs =
-    let h = c .before .before .before in
-    let a = h .before .before .before .before .before .args in
-    let room = in-room (a .out .now) (a .at) _ (sym (h .has-room .ensures) ∙ c .before .before .if1 .taken) in
-    let width = ap (λ ws. widthOf (heldIn partsOf ws)) (c .before .node-count .ensures .2) ∙ sym (h .before .nodes-width .ensures) in
-    (c .before .node-count .ensures .1, (rw width (room .0), rw width (room .1)))
-
-returns : tie.Need-returns
-unfolding putAll
-returns c =
-    let n = c .before .before .before .before in
-    let h = n .before .before in
-    let a = h .before .before .before .before .before .args in
-    rw (tested h, n .before .if1 .taken)
-    (c .before .before .write-each .ensures
-    ∙ ap (λ ws. putParts (a .out .now) (a .at) (heldIn (renamedParts (a .sets .now) (a .relations .now)) ws)) (n .node-count .ensures .2))
-
-returns-2 : tie.Need-returns-2
-unfolding putAll
-returns-2 c = rw (tested (c .before), c .if1 .left)
-
 pub write-nodes-spec : {M : Type 1} → statement M
+unfolding putAll
 write-nodes-spec =
     tie.close
     (tie.spec
     (λ c κs. search needs) (λ c κs. search needs) (λ c κs. search needs)
-    write-each-requires
+    (λ c κs. let h = c .before .before .before in
+      let a = h .before .before .before .before .before .args in
+      let room = in-room (a .out .now) (a .at) _ (sym (h .has-room .ensures) ∙ c .before .before .if1 .taken) in
+      let width = ap (λ ws. widthOf (heldIn partsOf ws)) (c .before .node-count .ensures .2) ∙ sym (h .before .nodes-width .ensures) in
+      (c .before .node-count .ensures .1, (rw width (room .0), rw width (room .1))))
     (λ c. search needs)
-    returns
+    (λ c. let n = c .before .before .before .before in
+      let h = n .before .before in
+      let a = h .before .before .before .before .before .args in
+      rw (tested h, n .before .if1 .taken)
+      (c .before .before .write-each .ensures
+      ∙ ap (λ ws. putParts (a .out .now) (a .at) (heldIn (renamedParts (a .sets .now) (a .relations .now)) ws)) (n .node-count .ensures .2)))
     (λ c. search needs)
-    returns-2)
+    (λ c. rw (tested (c .before), c .if1 .left)))

@@ -17,9 +17,6 @@ Inv-loop src run mixes i at j₀ j = (j ≤ i) × ((k : ℕ) → k < j → membe
 abbrev μ-loop : tie.MeasureT-loop
 μ-loop src run mixes i at j₀ j = i - j
 
-loop-holds : tie.Need-loop-holds Inv-loop μ-loop
-loop-holds c = (omega arith, λ k under. absurd (omega arith))
-
 -- The mixes of the two tables differ.
 loop-again : tie.Need-loop-again Inv-loop μ-loop
 loop-again c =
@@ -42,20 +39,6 @@ compared c =
     let second = c .before .before .before .before .before .before .before .table-cursor .ensures .0 in
     c .same-bits .ensures ∙ (λ i. eqb (bitsAt (a .src .now) (first i) (a .run .width)) (bitsAt (a .src .now) (second i) (a .run .width)))
 
-returns : tie.Need-returns Inv-loop μ-loop
-returns c =
-    let l = c .before .before .before .before .before .before .before .loop in
-    record { within = l .inv .0; same = eqb-true _ _ (sym (compared (c .before)) ∙ c .if2 .taken); first = l .inv .1 }
-
-loop-again-2 : tie.Need-loop-again-2 Inv-loop μ-loop
-loop-again-2 c =
-    let l = c .before .before .before .before .before .before .before .loop in
-    let differs : membersIn _ _ _ ≡ membersIn _ _ _ → ⊥ = eqb-false _ _ (sym (compared (c .before)) ∙ c .if2 .left) in
-    (omega arith, below-more _ (l .j) (l .inv .1) differs)
-
-returns-2 : tie.Need-returns-2 Inv-loop μ-loop
-returns-2 c = record { within = omega arith; same = refl; first = λ k under. c .before .loop .inv .1 k (omega arith) }
-
 pub least-equal-spec : {M : Type 1} → statement M
 least-equal-spec =
     tie.close
@@ -63,7 +46,7 @@ least-equal-spec =
     Inv-loop
     μ-loop
     (λ c κs. search needs)
-    loop-holds
+    (λ c. (omega arith, λ k under. absurd (omega arith)))
     (λ c. search needs)
     (λ c. search needs)
     (λ c. search needs)
@@ -73,8 +56,11 @@ least-equal-spec =
     loop-again
     (λ c κs. search needs)
     (λ c κs. (c .table-cursor2 .ensures .1, c .before .before .before .before .before .before .table-cursor .ensures .1, search needs))
-    returns
+    (λ c. let l = c .before .before .before .before .before .before .before .loop in
+      record { within = l .inv .0; same = eqb-true _ _ (sym (compared (c .before)) ∙ c .if2 .taken); first = l .inv .1 })
     (λ c. search needs)
     (λ c. search needs)
-    loop-again-2
-    returns-2)
+    (λ c. let l = c .before .before .before .before .before .before .before .loop in
+      let differs : membersIn _ _ _ ≡ membersIn _ _ _ → ⊥ = eqb-false _ _ (sym (compared (c .before)) ∙ c .if2 .left) in
+      (omega arith, below-more _ (l .j) (l .inv .1) differs))
+    (λ c. record { within = omega arith; same = refl; first = λ k under. c .before .loop .inv .1 k (omega arith) }))

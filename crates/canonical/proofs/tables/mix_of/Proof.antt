@@ -19,11 +19,6 @@ loop-holds : tie.Need-loop-holds Inv-loop μ-loop
 unfolding mixWords
 loop-holds c = (search needs, refl)
 
-loop-again : tie.Need-loop-again Inv-loop μ-loop
-loop-again c =
-    let word = c .before .number-at .ensures ∙ number-bits _ _ 64 (omega arith) in
-    (omega arith, c .mixed .ensures ∙ (λ i. mixWith (c .before .before .before .loop .inv .1 i) (word i)) ∙ sym (mix-more _ _ _))
-
 returns : tie.Need-returns Inv-loop μ-loop
 unfolding mixAt
 returns c =
@@ -47,7 +42,8 @@ mix-of-spec =
     (λ c κs. search needs)
     (λ c. search needs)
     (λ c. search needs)
-    loop-again
+    (λ c. let word = c .before .number-at .ensures ∙ number-bits _ _ 64 (omega arith) in
+      (omega arith, c .mixed .ensures ∙ (λ i. mixWith (c .before .before .before .loop .inv .1 i) (word i)) ∙ sym (mix-more _ _ _)))
     (λ c. omega arith)
     (λ c. omega arith)
     (λ c κs. search needs)

@@ -27,20 +27,6 @@ more-mixes c =
     let mix = c .before .mix-of .ensures ∙ ap (λ x. mixAt (a .src .now) x (a .run .width)) (c .before .before .table-cursor .ensures .0) in
     entry-more (λ k x. x ≡ mixIn (a .src .now) (a .run) k) (l .mixes) (l .i) _ (omega arith) (l .inv .3) mix
 
-loop-again : tie.Need-loop-again Inv-loop μ-loop
-loop-again c =
-    let l = c .before .before .before .before .before .loop in
-    let a = c .before .before .before .before .before .before .before .args in (
-      omega arith,
-      length-set (l .least) (l .i) _ ∙ l .inv .1,
-      length-set (l .mixes) (l .i) _ ∙ l .inv .2,
-      more-mixes (c .before),
-      entry-more (Least (membersIn (a .src .now) (a .run))) (l .least) (l .i) _ (omega arith) (l .inv .4) (c .least-equal .ensures),
-    )
-
-returns : tie.Need-returns Inv-loop μ-loop
-returns c = λ k under. c .before .loop .inv .4 k (omega arith)
-
 pub representatives-spec : {M : Type 1} → statement M
 representatives-spec =
     tie.close
@@ -57,5 +43,12 @@ representatives-spec =
     (λ c. search needs)
     (λ c. search needs)
     (λ c. search needs)
-    loop-again
-    returns)
+    (λ c. let l = c .before .before .before .before .before .loop in
+      let a = c .before .before .before .before .before .before .before .args in (
+        omega arith,
+        length-set (l .least) (l .i) _ ∙ l .inv .1,
+        length-set (l .mixes) (l .i) _ ∙ l .inv .2,
+        more-mixes (c .before),
+        entry-more (Least (membersIn (a .src .now) (a .run))) (l .least) (l .i) _ (omega arith) (l .inv .4) (c .least-equal .ensures),
+      ))
+    (λ c. λ k under. c .before .loop .inv .4 k (omega arith)))

@@ -17,11 +17,6 @@ few c =
     let words = take (min (a .count) 127) (a .nodes .now) in
     omega (arith, c .nodes-width .ensures, nodes-most words, length-take (min (a .count) 127) (a .nodes .now))
 
-returns : tie.Need-returns
-returns c =
-    let s = small (c .before .before .before .before .before .before) in
-    (omega (arith, c .nodes-width .ensures), omega (arith, s, few c))
-
 pub form-bits-spec : {M : Type 1} → statement M
 form-bits-spec =
     tie.close
@@ -33,4 +28,5 @@ form-bits-spec =
     (λ c. omega (arith, small (c .before .before .before .before .before)))
     (λ c κs. search needs)
     (λ c. omega (arith, small (c .before .before .before .before .before .before), few c))
-    returns)
+    (λ c. let s = small (c .before .before .before .before .before .before) in
+      (omega (arith, c .nodes-width .ensures), omega (arith, s, few c))))

@@ -18,10 +18,6 @@ Inv-loop src run order count out₀ at k₀ out k = (k ≤ count) × (out ≡ pu
 abbrev μ-loop : tie.MeasureT-loop
 μ-loop src run order count out₀ at k₀ out k = count - k
 
-loop-holds : tie.Need-loop-holds Inv-loop μ-loop
-unfolding putParts membersOf
-loop-holds c = (search needs, refl)
-
 -- The buffer keeps its length.
 kept : (c : tie.At-loop Inv-loop μ-loop) → length (c .loop .out) ≡ length (c .before .before .before .before .args .out .now)
 kept c =
@@ -35,37 +31,29 @@ room : (c : tie.After-struct-known Inv-loop μ-loop) →
     a .run .width * l .loop .k + a .run .width ≤ a .run .width * a .count
 room c = table-within _ _ _ (omega arith)
 
-loop-again : tie.Need-loop-again Inv-loop μ-loop
-unfolding membersIn
-loop-again c =
-    let call = c .before .before in
-    let s = call .before in
-    let cursor = s .before .before in
-    let l = cursor .before .before .before in
-    let a = l .before .before .before .before .args in
-    let fits = copied-fits (l .loop .out) (a .at + a .run .width * l .loop .k) (a .src .now) (cursor .table-cursor .result) (a .run .width)
-    (omega (arith, room s, kept l)) (omega (arith, room s)) (omega (arith, cursor .table-cursor .ensures .1)) in (
-      omega arith,
-      call .copy .ensures ∙ rw (fits, cursor .table-cursor .ensures .0, l .loop .inv .1)
-          (tables-more (a .src .now) (a .run) (a .order .now) (a .out .now) (a .at) (l .loop .k) (omega arith)),
-    )
-
-returns : tie.Need-returns Inv-loop μ-loop
-returns c =
-    let all : c .before .loop .k ≡ c .before .before .before .before .before .args .count = omega arith in
-    rw all at (c .before .loop .inv .1)
-
 pub write-tables-spec : {M : Type 1} → statement M
+unfolding membersIn membersOf putParts
 write-tables-spec =
     tie.close
     (tie.spec
     Inv-loop
     μ-loop
-    loop-holds
+    (λ c. (search needs, refl))
     (λ c. search needs) (λ c. search needs) (λ c κs. search needs)
     (λ c. omega (arith, room c)) (λ c. omega (arith, room c))
     (λ c κs. search needs)
     (λ c. search needs) (λ c. search needs)
-    loop-again
+    (λ c. let call = c .before .before in
+      let s = call .before in
+      let cursor = s .before .before in
+      let l = cursor .before .before .before in
+      let a = l .before .before .before .before .args in
+      let fits = copied-fits (l .loop .out) (a .at + a .run .width * l .loop .k) (a .src .now) (cursor .table-cursor .result) (a .run .width)
+      (omega (arith, room s, kept l)) (omega (arith, room s)) (omega (arith, cursor .table-cursor .ensures .1)) in (
+        omega arith,
+        call .copy .ensures ∙ rw (fits, cursor .table-cursor .ensures .0, l .loop .inv .1)
+            (tables-more (a .src .now) (a .run) (a .order .now) (a .out .now) (a .at) (l .loop .k) (omega arith)),
+      ))
     (λ c. kept (c .before))
-    returns)
+    (λ c. let all : c .before .loop .k ≡ c .before .before .before .before .before .args .count = omega arith in
+      rw all at (c .before .loop .inv .1)))

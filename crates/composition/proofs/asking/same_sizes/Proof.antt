@@ -5,12 +5,9 @@ use Rattle.composition.proofs.Asked.{heads-same}
 use Rattle.composition.proofs.asking.same_sizes.Statement.{statement}
 use Rattle.composition.proofs.asking.same_sizes.Tie as tie
 
-returns : tie.Need-returns
-unfolding all
-returns c s t e e′ few few′ = heads-same _ _ s t e e′ few
-
 pub same-sizes-spec : {M : Type 1} → statement M
+unfolding all
 same-sizes-spec =
     tie.close
     (tie.spec (λ c. search needs) (λ c. search needs) (λ c. search needs) (λ c. search needs) (λ c. search needs) (λ c. search needs)
-    (λ c. search needs) (λ c. search needs) returns)
+    (λ c. search needs) (λ c. search needs) (λ c s t e e′ few few′. heads-same _ _ s t e e′ few))

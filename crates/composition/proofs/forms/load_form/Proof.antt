@@ -16,21 +16,15 @@ array-share-prefix-bytes c =
     front-fits _ _ (start .pre .0) _ (length-replicate {A = ℕ} mostProofBytes 0) _ (wrote .write-form .ensures .0) _ (c .written-bytes .ensures) _
     (wrote .write-form .ensures .1)
 
-slice-aggregate-load-file : tie.Need-slice-aggregate-load-file
-slice-aggregate-load-file c = sym (length-take-le _ _ (array-share-prefix-bytes (c .before)))
-
-returns : tie.Need-returns
-returns c =
-    let load = c .before .before in
-    let count = load .before .before .before in
-    let wrote = count .before .before in
-    let pre = wrote .before .before .before .before .before .pre in
-    let front = front-is _ _ (pre .0) _ (length-replicate {A = ℕ} mostProofBytes 0) _ (wrote .write-form .ensures .0) _ (count .written-bytes .ensures) _
-    (wrote .write-form .ensures .1) in
-    form-loaded _ _ (pre .0) _ (pre .2) _ _ _ (pre .1) _ front (load .load-file .ensures .0) (load .load-file .ensures .1)
-
 pub load-form-spec : {M : Type 1} → statement M
 load-form-spec =
     tie.close
     (tie.spec (λ c. search needs) (λ c κs. search needs) (λ c κs. search needs) array-share-prefix-bytes
-    slice-aggregate-load-file (λ c κs. search needs) (λ c. search needs) returns)
+    (λ c. sym (length-take-le _ _ (array-share-prefix-bytes (c .before)))) (λ c κs. search needs) (λ c. search needs)
+    (λ c. let load = c .before .before in
+      let count = load .before .before .before in
+      let wrote = count .before .before in
+      let pre = wrote .before .before .before .before .before .pre in
+      let front = front-is _ _ (pre .0) _ (length-replicate {A = ℕ} mostProofBytes 0) _ (wrote .write-form .ensures .0) _ (count .written-bytes .ensures) _
+      (wrote .write-form .ensures .1) in
+      form-loaded _ _ (pre .0) _ (pre .2) _ _ _ (pre .1) _ front (load .load-file .ensures .0) (load .load-file .ensures .1)))

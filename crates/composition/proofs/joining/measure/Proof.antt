@@ -6,16 +6,13 @@ use Rattle.writer.specs.Packing.{bytesFor}
 use Rattle.composition.proofs.joining.measure.Statement.{statement}
 use Rattle.composition.proofs.joining.measure.Tie as tie
 
-returns : tie.Need-returns
-returns c =
-    let first = c .before .before in
-    let start = first .before .before .before .before .before in
-    record {
-      handler-is = first .file-bytes .ensures ∙ ap bytesFor (omega (arith, start .pre .3 .starts));
-      proof-is = c .file-bytes2 .ensures ∙ ap bytesFor (c .before .proof-bits .ensures .0);
-    }
-
 pub measure-spec : {M : Type 1} → statement M
 measure-spec =
     tie.close
-    (tie.spec (λ c. search needs) (λ c. search needs) (λ c. search needs) (λ c κs. search needs) (λ c κs. search needs) (λ c κs. search needs) returns)
+    (tie.spec (λ c. search needs) (λ c. search needs) (λ c. search needs) (λ c κs. search needs) (λ c κs. search needs) (λ c κs. search needs)
+    (λ c. let first = c .before .before in
+      let start = first .before .before .before .before .before in
+      record {
+        handler-is = first .file-bytes .ensures ∙ ap bytesFor (omega (arith, start .pre .3 .starts));
+        proof-is = c .file-bytes2 .ensures ∙ ap bytesFor (c .before .proof-bits .ensures .0);
+      }))

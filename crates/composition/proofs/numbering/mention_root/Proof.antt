@@ -8,11 +8,9 @@ use Rattle.composition.specs.Refinement.{relationsHeld}
 use Rattle.composition.proofs.numbering.mention_root.Statement.{statement}
 use Rattle.composition.proofs.numbering.mention_root.Tie as tie
 
-returns : tie.Need-returns
-unfolding relationsHeld tabulate
-returns c = c .before .before .mention-three .ensures [] (λ l. refl, λ l. absurd (omega arith))
-
 pub mention-root-spec : {M : Type 1} → statement M
+unfolding relationsHeld tabulate
 mention-root-spec =
     tie.close
-    (tie.spec (λ c. search needs) (λ c. search needs) (λ c. search needs) (λ c κs. search needs) (λ c. search needs) returns)
+    (tie.spec (λ c. search needs) (λ c. search needs) (λ c. search needs) (λ c κs. search needs) (λ c. search needs)
+    (λ c. c .before .before .mention-three .ensures [] (λ l. refl, λ l. absurd (omega arith))))

@@ -8,15 +8,12 @@ use Rattle.composition.proofs.Mentioning.{three-by}
 use Rattle.composition.proofs.numbering.mention_side.Statement.{statement}
 use Rattle.composition.proofs.numbering.mention_side.Tie as tie
 
-returns : tie.Need-returns
-unfolding wordRelation
-returns c seen k =
-    let m = c .before .before in
-    let n = m .before .before .before .before .before .before .before .args .n in
-    three-by _ _ _ _ _ _ _ _ (ap (λ w. relationWhere n (rel n w)) (m .before .before .rows-of .ensures))
-    (ap (λ w. relationWhere n (rel n w)) (m .before .rows-of2 .ensures)) (m .mention-three .ensures seen k)
-
 pub mention-side-spec : {M : Type 1} → statement M
+unfolding wordRelation
 mention-side-spec =
     tie.close
-    (tie.spec (λ c κs. search needs) (λ c κs. search needs) (λ c κs. search needs) (λ c. search needs) returns)
+    (tie.spec (λ c κs. search needs) (λ c κs. search needs) (λ c κs. search needs) (λ c. search needs)
+    (λ c seen k. let m = c .before .before in
+      let n = m .before .before .before .before .before .before .before .args .n in
+      three-by _ _ _ _ _ _ _ _ (ap (λ w. relationWhere n (rel n w)) (m .before .before .rows-of .ensures))
+      (ap (λ w. relationWhere n (rel n w)) (m .before .rows-of2 .ensures)) (m .mention-three .ensures seen k)))

@@ -32,20 +32,6 @@ fault-is c =
     let n = start (first (second c)) .args .n in
     c .unmet .ensures ∙ (λ i. firstUnmet n (first (second c) .load-form .ensures .tables-are i) (second c .load-form2 .ensures .tables-are i))
 
-unmet-requires : tie.Need-unmet-requires
-unmet-requires c κs =
-    let p = start (first (c .before .before .before)) .pre in
-    room-of _ _ (p .first) _ (p .first-states) .states-most
-
-returns : tie.Need-returns
-returns c =
-    let d = c .before .before in
-    let a = start (first (second d)) .args in
-    let is = fault-is d in
-    leaves-refused (a .hout .now) (a .pout .now) _ 0 _
-    (met-not (a .n) (a .h1 .now) (a .h2 .now) (firstSide d) (secondSide d) _ (λ z. c .before .if1 .taken (is ∙ z)))
-    _ (c .refused .ensures ∙ ap (λ k. Refused 0 (plain k)) is)
-
 -- Both sides are ready to be joined.
 first-ready : (c : tie.After-unmet) → let l = first (second c) in let a = start l .args in
     Ready (a .n) (firstSide c) (a .both .first) (l .load-form .result) (l .load-form .last .1 .1 .1 .0)
@@ -61,26 +47,30 @@ second-ready c =
     let p = start (first l) .pre in
     ready _ _ (p .second) _ (p .second-states) _ _ _ (p .second-handler) (l .load-form2 .ensures)
 
-join-requires : tie.Need-join-requires
-join-requires c κs =
-    let d = c .before .before .before .before .before .before in
-    (record { A = firstSide d; B = secondSide d; first = first-ready d; second = second-ready d }, omega arith)
-
-returns-2 : tie.Need-returns-2
-returns-2 c =
-    let j = c .before .before .before .before .before .join .ensures in
-    let d = c .before .before .before .before .before .before .before .before .before .before .before .before in
-    let a = start (first (second d)) .args in
-    let A = firstSide d in
-    let B = secondSide d in
-    let x = first-ready d in
-    let y = second-ready d in
-    leaves-same (a .hout .now) (a .pout .now) _ _
-    (met-all (a .n) (a .h1 .now) (a .h2 .now) A B _ (sym (fault-is d) ∙ c .before .before .before .before .before .before .before .before .before .before .before .if1 .left))
-    _ _ _ (j .0 A B x y, (j .1 .0 A B x y, j .1 .1 A B x y))
-
 pub compose-sides-spec : {M : Type 1} → statement M
 compose-sides-spec =
     tie.close
-    (tie.spec (λ c. search needs) (λ c κs. search needs) (λ c. search needs) (λ c κs. search needs) (λ c. search needs) (λ c. search needs) unmet-requires
-    (λ c κs. search needs) returns (λ c. search needs) (λ c. search needs) (λ c. search needs) join-requires (λ c. search needs) (λ c. search needs) returns-2)
+    (tie.spec (λ c. search needs) (λ c κs. search needs) (λ c. search needs) (λ c κs. search needs) (λ c. search needs) (λ c. search needs)
+    (λ c κs. let p = start (first (c .before .before .before)) .pre in
+      room-of _ _ (p .first) _ (p .first-states) .states-most)
+    (λ c κs. search needs)
+    (λ c. let d = c .before .before in
+      let a = start (first (second d)) .args in
+      let is = fault-is d in
+      leaves-refused (a .hout .now) (a .pout .now) _ 0 _
+      (met-not (a .n) (a .h1 .now) (a .h2 .now) (firstSide d) (secondSide d) _ (λ z. c .before .if1 .taken (is ∙ z)))
+      _ (c .refused .ensures ∙ ap (λ k. Refused 0 (plain k)) is))
+    (λ c. search needs) (λ c. search needs) (λ c. search needs)
+    (λ c κs. let d = c .before .before .before .before .before .before in
+      (record { A = firstSide d; B = secondSide d; first = first-ready d; second = second-ready d }, omega arith))
+    (λ c. search needs) (λ c. search needs)
+    (λ c. let j = c .before .before .before .before .before .join .ensures in
+      let d = c .before .before .before .before .before .before .before .before .before .before .before .before in
+      let a = start (first (second d)) .args in
+      let A = firstSide d in
+      let B = secondSide d in
+      let x = first-ready d in
+      let y = second-ready d in
+      leaves-same (a .hout .now) (a .pout .now) _ _
+      (met-all (a .n) (a .h1 .now) (a .h2 .now) A B _ (sym (fault-is d) ∙ c .before .before .before .before .before .before .before .before .before .before .before .if1 .left))
+      _ _ _ (j .0 A B x y, (j .1 .0 A B x y, j .1 .1 A B x y))))

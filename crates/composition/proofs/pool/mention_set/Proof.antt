@@ -9,24 +9,17 @@ use Rattle.composition.proofs.Stored.{set-stored}
 use Rattle.composition.proofs.pool.mention_set.Statement.{statement}
 use Rattle.composition.proofs.pool.mention_set.Tie as tie
 
-returns : tie.Need-returns
-unfolding setsHeld
-returns c = mention-there _ _ _ _ (search needs) (search needs)
-
-returns-2 : tie.Need-returns-2
-unfolding setsHeld
-returns-2 c = mention-new _ _ _ _ _ (search needs) (omega arith) (λ l. absurd (omega arith))
-
-returns-3 : tie.Need-returns-3
-unfolding setsHeld
-returns-3 c =
-    let a = c .before .before .before .before .before .before .before .before .before .args in
-    mention-new _ _ _ _ _ (search needs) (omega arith)
-    (λ l. ap (λ words. setsHeld (a .n) words (a .count + 1)) (c .before .before .put-entry .ensures)
-    ∙ set-stored (a .n) (a .pool .now) (a .count) (a .set) (omega arith))
-
 pub mention-set-spec : {M : Type 1} → statement M
+unfolding setsHeld
 mention-set-spec =
     tie.close
-    (tie.spec (λ c κs. search needs) (λ c. search needs) returns (λ c. search needs) (λ c. search needs) returns-2 (λ c κs. search needs)
-    (λ c. search needs) returns-3)
+    (tie.spec (λ c κs. search needs) (λ c. search needs)
+    (λ c. mention-there _ _ _ _ (search needs) (search needs))
+    (λ c. search needs) (λ c. search needs)
+    (λ c. mention-new _ _ _ _ _ (search needs) (omega arith) (λ l. absurd (omega arith)))
+    (λ c κs. search needs)
+    (λ c. search needs)
+    (λ c. let a = c .before .before .before .before .before .before .before .before .before .args in
+      mention-new _ _ _ _ _ (search needs) (omega arith)
+      (λ l. ap (λ words. setsHeld (a .n) words (a .count + 1)) (c .before .before .put-entry .ensures)
+      ∙ set-stored (a .n) (a .pool .now) (a .count) (a .set) (omega arith))))

@@ -38,28 +38,18 @@ compared c =
     c .same-members .ensures
     ∙ ap (λ w. all (a .n) (λ s. all (a .n) (λ t. Bool·beq (rel (a .n) w s t) (rel (a .n) (a .rows .now) s t)))) (c .before .rows-of .ensures)
 
-returns : tie.Need-returns Inv-loop μ-loop
-unfolding relationsHeld
-returns c =
-    let l = c .before .before .before .before in
-    sym (found-at _ _ (l .loop .i) _ (omega arith) (l .loop .inv .1) (relation-same _ _ _ (sym (compared (c .before)) ∙ c .if1 .taken)))
-
-loop-again : tie.Need-loop-again Inv-loop μ-loop
-unfolding relationsHeld
-loop-again c =
-    let l = c .before .before .before .before in (
-      omega arith,
-      not-yet _ _ (l .loop .i) (l .loop .inv .1) (λ e. true≢false (sym (compared (c .before) ∙ relation-alike _ _ _ e) ∙ c .if1 .left)),
-    )
-
-returns-2 : tie.Need-returns-2 Inv-loop μ-loop
-unfolding relationsHeld
-returns-2 c =
-    let all : c .before .loop .i ≡ c .before .before .before .before .args .count = omega arith in
-    sym (nowhere _ _ _ (rw all at (c .before .loop .inv .1)))
-
 pub place-of-relation-spec : {M : Type 1} → statement M
+unfolding relationsHeld
 place-of-relation-spec =
     tie.close
-    (tie.spec Inv-loop μ-loop loop-holds (λ c. search needs) (λ c κs. search needs) (λ c κs. search needs) returns (λ c. search needs)
-    (λ c. search needs) loop-again returns-2)
+    (tie.spec Inv-loop μ-loop loop-holds (λ c. search needs) (λ c κs. search needs) (λ c κs. search needs)
+    (λ c. let l = c .before .before .before .before in
+      sym (found-at _ _ (l .loop .i) _ (omega arith) (l .loop .inv .1) (relation-same _ _ _ (sym (compared (c .before)) ∙ c .if1 .taken))))
+    (λ c. search needs)
+    (λ c. search needs)
+    (λ c. let l = c .before .before .before .before in (
+        omega arith,
+        not-yet _ _ (l .loop .i) (l .loop .inv .1) (λ e. true≢false (sym (compared (c .before) ∙ relation-alike _ _ _ e) ∙ c .if1 .left)),
+      ))
+    (λ c. let all : c .before .loop .i ≡ c .before .before .before .before .args .count = omega arith in
+      sym (nowhere _ _ _ (rw all at (c .before .loop .inv .1)))))

@@ -35,28 +35,18 @@ compared c =
     let a = c .before .before .before .before .before .args in
     c .same-set .ensures ∙ ap (λ p. sameSet (a .n) p (has (a .set))) (fun-ext (c .before .set-at .ensures))
 
-returns : tie.Need-returns Inv-loop μ-loop
-unfolding setsHeld
-returns c =
-    let l = c .before .before .before .before in
-    sym (found-at _ _ (l .loop .i) _ (omega arith) (l .loop .inv .1) (set-same _ _ _ (sym (compared (c .before)) ∙ c .if1 .taken)))
-
-loop-again : tie.Need-loop-again Inv-loop μ-loop
-unfolding setsHeld
-loop-again c =
-    let l = c .before .before .before .before in (
-      omega arith,
-      not-yet _ _ (l .loop .i) (l .loop .inv .1) (λ e. true≢false (sym (compared (c .before) ∙ set-alike _ _ _ e) ∙ c .if1 .left)),
-    )
-
-returns-2 : tie.Need-returns-2 Inv-loop μ-loop
-unfolding setsHeld
-returns-2 c =
-    let all : c .before .loop .i ≡ c .before .before .before .args .count = omega arith in
-    sym (nowhere _ _ _ (rw all at (c .before .loop .inv .1)))
-
 pub place-of-set-spec : {M : Type 1} → statement M
+unfolding setsHeld
 place-of-set-spec =
     tie.close
-    (tie.spec Inv-loop μ-loop loop-holds (λ c. search needs) (λ c κs. search needs) (λ c κs. search needs) returns (λ c. search needs)
-    (λ c. search needs) loop-again returns-2)
+    (tie.spec Inv-loop μ-loop loop-holds (λ c. search needs) (λ c κs. search needs) (λ c κs. search needs)
+    (λ c. let l = c .before .before .before .before in
+      sym (found-at _ _ (l .loop .i) _ (omega arith) (l .loop .inv .1) (set-same _ _ _ (sym (compared (c .before)) ∙ c .if1 .taken))))
+    (λ c. search needs)
+    (λ c. search needs)
+    (λ c. let l = c .before .before .before .before in (
+        omega arith,
+        not-yet _ _ (l .loop .i) (l .loop .inv .1) (λ e. true≢false (sym (compared (c .before) ∙ set-alike _ _ _ e) ∙ c .if1 .left)),
+      ))
+    (λ c. let all : c .before .loop .i ≡ c .before .before .before .args .count = omega arith in
+      sym (nowhere _ _ _ (rw all at (c .before .loop .inv .1)))))

@@ -19,19 +19,13 @@ Inv-loop n a b rows₀ s₀ rows s = RowsFilled (λ u t. rel n a u t && rel n b 
 abbrev μ-loop : tie.MeasureT-loop
 μ-loop n a b rows₀ s₀ rows s = capacity - s
 
-loop-again : tie.Need-loop-again Inv-loop μ-loop
-loop-again c =
-    let d = c .before .before in
-    rw (c .before .put-entry .ensures)
-    (rows-more _ _ _ _ (omega arith) (λ t. d .meet .ensures t ∙ ap₂ _&&_ (d .before .before .row .ensures t) (d .before .row2 .ensures t))
-    (d .before .before .before .before .before .loop .inv))
-
-returns : tie.Need-returns Inv-loop μ-loop
-returns c most s t =
-    filled-rel _ most _ _ _ (c .loop-test .left) (c .before .loop .inv) (λ u v e. rel-between _ _ u v (and-left _ _ e)) s t
-
 pub met-spec : {M : Type 1} → statement M
 met-spec =
     tie.close
     (tie.spec Inv-loop μ-loop (λ c. rows-none _) (λ c. search needs) (λ c. search needs) (λ c κs. search needs) (λ c κs. search needs)
-    (λ c κs. search needs) (λ c κs. search needs) (λ c. search needs) (λ c. search needs) loop-again returns)
+    (λ c κs. search needs) (λ c κs. search needs) (λ c. search needs) (λ c. search needs)
+    (λ c. let d = c .before .before in
+      rw (c .before .put-entry .ensures)
+      (rows-more _ _ _ _ (omega arith) (λ t. d .meet .ensures t ∙ ap₂ _&&_ (d .before .before .row .ensures t) (d .before .row2 .ensures t))
+      (d .before .before .before .before .before .loop .inv)))
+    (λ c most s t. filled-rel _ most _ _ _ (c .loop-test .left) (c .before .loop .inv) (λ u v e. rel-between _ _ u v (and-left _ _ e)) s t))

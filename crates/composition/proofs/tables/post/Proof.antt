@@ -16,19 +16,13 @@ Inv-loop n p a b moves rows₀ s₀ rows s = RowsFilled (λ u t. has p u && rel 
 abbrev μ-loop : tie.MeasureT-loop
 μ-loop n p a b moves rows₀ s₀ rows s = capacity - s
 
-loop-again : tie.Need-loop-again Inv-loop μ-loop
-loop-again c =
-    let d = c .before .before in
-    rw (c .before .put-entry .ensures) (rows-more _ _ _ _ (omega arith) (d .post-at .ensures) (d .before .before .before .loop .inv))
-
-returns : tie.Need-returns Inv-loop μ-loop
-returns c most =
-    let a = c .before .before .before .before .before .args in
-    filled-rel (a .n) most _ _ _ (c .loop-test .left) (c .before .loop .inv)
-    (part-between (a .n) (a .a .now) (has (a .p)) (rel (a .n) (a .b .now)) (reach (a .n) (rel (a .n) (a .moves .now))))
-
 pub post-spec : {M : Type 1} → statement M
 post-spec =
     tie.close
     (tie.spec Inv-loop μ-loop (λ c. rows-none _) (λ c. search needs) (λ c. search needs) (λ c κs. search needs) (λ c κs. search needs)
-    (λ c. search needs) (λ c. search needs) loop-again returns)
+    (λ c. search needs) (λ c. search needs)
+    (λ c. let d = c .before .before in
+      rw (c .before .put-entry .ensures) (rows-more _ _ _ _ (omega arith) (d .post-at .ensures) (d .before .before .before .loop .inv)))
+    (λ c most. let a = c .before .before .before .before .before .args in
+      filled-rel (a .n) most _ _ _ (c .loop-test .left) (c .before .loop .inv)
+      (part-between (a .n) (a .a .now) (has (a .p)) (rel (a .n) (a .b .now)) (reach (a .n) (rel (a .n) (a .moves .now))))))

@@ -22,10 +22,6 @@ Inv-loop n words r out₀ at width s₀ out s =
 abbrev μ-loop : tie.MeasureT-loop
 μ-loop n words r out₀ at width s₀ out s = n - s
 
-loop-holds : tie.Need-loop-holds Inv-loop μ-loop
-unfolding putBits
-loop-holds c = (search needs, rw (mul-zero (c .before .before .args .n)))
-
 -- The buffer keeps its length.
 kept : (c : tie.At-loop Inv-loop μ-loop) → length (c .loop .out) ≡ length (c .before .before .before .args .out .now)
 kept c =
@@ -39,36 +35,28 @@ room : (c : tie.After-put-set-arg Inv-loop μ-loop) →
     a .n * l .loop .s + a .n ≤ a .n * a .n
 room c = table-within _ _ _ (omega arith)
 
-loop-again : tie.Need-loop-again Inv-loop μ-loop
-loop-again c =
-    let put = c .before .before in
-    let arg = put .before in
-    let l = arg .before .before .before in
-    let a = l .before .before .before .args in
-    let members = fun-ext (arg .before .row-at .ensures) in (
-      omega arith,
-      put .put-set .ensures
-          ∙ rw (members, l .loop .inv .1)
-          (row-more (a .n) (wordRelation (a .n) (a .words .now) (a .r)) (a .out .now) (a .at) (l .loop .s) (omega (arith, room arg)) (omega (arith, room arg))),
-    )
-
-returns : tie.Need-returns Inv-loop μ-loop
-unfolding relationWhere
-returns c =
-    let all : c .before .loop .s ≡ c .before .before .before .before .args .n = omega arith in
-    rw all at (c .before .loop .inv .1)
-
 pub write-relation-spec : {M : Type 1} → statement M
+unfolding putBits relationWhere
 write-relation-spec =
     tie.close
     (tie.spec
     Inv-loop
     μ-loop
-    loop-holds
+    (λ c. (search needs, rw (mul-zero (c .before .before .args .n))))
     (λ c κs. search needs) (λ c. search needs)
     (λ c. omega (arith, room c)) (λ c. omega (arith, room c))
     (λ c κs. search needs)
     (λ c. search needs) (λ c. search needs)
-    loop-again
+    (λ c. let put = c .before .before in
+      let arg = put .before in
+      let l = arg .before .before .before in
+      let a = l .before .before .before .args in
+      let members = fun-ext (arg .before .row-at .ensures) in (
+        omega arith,
+        put .put-set .ensures
+            ∙ rw (members, l .loop .inv .1)
+            (row-more (a .n) (wordRelation (a .n) (a .words .now) (a .r)) (a .out .now) (a .at) (l .loop .s) (omega (arith, room arg)) (omega (arith, room arg))),
+      ))
     (λ c. kept (c .before))
-    returns)
+    (λ c. let all : c .before .loop .s ≡ c .before .before .before .before .args .n = omega arith in
+      rw all at (c .before .loop .inv .1)))

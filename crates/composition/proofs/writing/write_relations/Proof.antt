@@ -21,10 +21,6 @@ Inv-loop n words count out₀ at width r₀ out r = (r ≤ count) × (out ≡ pu
 abbrev μ-loop : tie.MeasureT-loop
 μ-loop n words count out₀ at width r₀ out r = count - r
 
-loop-holds : tie.Need-loop-holds Inv-loop μ-loop
-unfolding relationsHeld tabulate putParts
-loop-holds c = (search needs, refl)
-
 -- The buffer keeps its length.
 kept : (c : tie.At-loop Inv-loop μ-loop) → length (c .loop .out) ≡ length (c .before .before .before .args .out .now)
 kept c =
@@ -38,36 +34,24 @@ room : (c : tie.After-write-relation-arg Inv-loop μ-loop) →
     a .n * a .n * l .loop .r + a .n * a .n ≤ a .n * a .n * a .count
 room c = table-within _ _ _ (omega arith)
 
-write-relation-requires : tie.Need-write-relation-requires Inv-loop μ-loop
-write-relation-requires c κs =
-    let l = c .before .before in
-    (search needs, search needs, (omega (arith, room c, kept l), omega (arith, room c)))
-
-loop-again : tie.Need-loop-again Inv-loop μ-loop
-unfolding relationsHeld
-loop-again c =
-    let call = c .before .before in
-    let l = call .before .before .before in
-    let a = l .before .before .before .args in
-    (omega arith, call .write-relation .ensures ∙ rw (l .loop .inv .1) (tables-more (a .n * a .n) _ (a .out .now) (a .at) (l .loop .r)))
-
-returns : tie.Need-returns Inv-loop μ-loop
-returns c =
-    let all : c .before .loop .r ≡ c .before .before .before .before .args .count = omega arith in
-    rw all at (c .before .loop .inv .1)
-
 pub write-relations-spec : {M : Type 1} → statement M
+unfolding putParts relationsHeld tabulate
 write-relations-spec =
     tie.close
     (tie.spec
     Inv-loop
     μ-loop
     (λ c. let n = c .before .before .args .n in omega (arith, few-bits n 0 0 (search needs) (omega arith) (omega arith)))
-    loop-holds
+    (λ c. (search needs, refl))
     (λ c. search needs)
     (λ c. omega (arith, room c)) (λ c. omega (arith, room c))
-    write-relation-requires
+    (λ c κs. let l = c .before .before in
+      (search needs, search needs, (omega (arith, room c, kept l), omega (arith, room c))))
     (λ c. search needs) (λ c. search needs)
-    loop-again
+    (λ c. let call = c .before .before in
+      let l = call .before .before .before in
+      let a = l .before .before .before .args in
+      (omega arith, call .write-relation .ensures ∙ rw (l .loop .inv .1) (tables-more (a .n * a .n) _ (a .out .now) (a .at) (l .loop .r))))
     (λ c. kept (c .before))
-    returns)
+    (λ c. let all : c .before .loop .r ≡ c .before .before .before .before .args .count = omega arith in
+      rw all at (c .before .loop .inv .1)))

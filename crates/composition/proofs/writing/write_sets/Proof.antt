@@ -21,10 +21,6 @@ Inv-loop n words count out₀ at width i₀ out i = (i ≤ count) × (out ≡ pu
 abbrev μ-loop : tie.MeasureT-loop
 μ-loop n words count out₀ at width i₀ out i = count - i
 
-loop-holds : tie.Need-loop-holds Inv-loop μ-loop
-unfolding setsHeld tabulate putParts
-loop-holds c = (search needs, refl)
-
 -- The buffer keeps its length.
 kept : (c : tie.At-loop Inv-loop μ-loop) → length (c .loop .out) ≡ length (c .before .before .before .args .out .now)
 kept c =
@@ -38,36 +34,28 @@ room : (c : tie.After-put-set-arg Inv-loop μ-loop) →
     a .n * l .loop .i + a .n ≤ a .n * a .count
 room c = table-within _ _ _ (omega arith)
 
-loop-again : tie.Need-loop-again Inv-loop μ-loop
-unfolding setsHeld
-loop-again c =
-    let put = c .before .before in
-    let arg = put .before in
-    let l = arg .before .before .before in
-    let a = l .before .before .before .args in
-    let members = fun-ext (arg .before .set-at .ensures) in (
-      omega arith,
-      put .put-set .ensures
-          ∙ rw (members, l .loop .inv .1)
-          (set-more (a .n) (wordSet (a .n) (a .words .now)) (a .out .now) (a .at) (l .loop .i) (omega (arith, room arg)) (omega (arith, room arg))),
-    )
-
-returns : tie.Need-returns Inv-loop μ-loop
-returns c =
-    let all : c .before .loop .i ≡ c .before .before .before .before .args .count = omega arith in
-    rw all at (c .before .loop .inv .1)
-
 pub write-sets-spec : {M : Type 1} → statement M
+unfolding putParts setsHeld tabulate
 write-sets-spec =
     tie.close
     (tie.spec
     Inv-loop
     μ-loop
-    loop-holds
+    (λ c. (search needs, refl))
     (λ c. search needs) (λ c κs. search needs)
     (λ c. omega (arith, room c)) (λ c. omega (arith, room c))
     (λ c κs. search needs)
     (λ c. search needs) (λ c. search needs)
-    loop-again
+    (λ c. let put = c .before .before in
+      let arg = put .before in
+      let l = arg .before .before .before in
+      let a = l .before .before .before .args in
+      let members = fun-ext (arg .before .set-at .ensures) in (
+        omega arith,
+        put .put-set .ensures
+            ∙ rw (members, l .loop .inv .1)
+            (set-more (a .n) (wordSet (a .n) (a .words .now)) (a .out .now) (a .at) (l .loop .i) (omega (arith, room arg)) (omega (arith, room arg))),
+      ))
     (λ c. kept (c .before))
-    returns)
+    (λ c. let all : c .before .loop .i ≡ c .before .before .before .before .args .count = omega arith in
+      rw all at (c .before .loop .inv .1)))

@@ -25,24 +25,6 @@ found r = sym (ap (λ f. f .found) (r .read-pair .ensures))
 held : (c : tie.After-struct-known) → let a = start (reading c) .args in FoundPair (readPair (a .handler .now) (a .proof .now)) (c .before .before .found .given .0 .0)
 held c = found-pair _ _ (found (reading c) ∙ c .before .before .found .given .1)
 
-returns : tie.Need-returns
-returns c =
-    let a = start (reading (c .before)) .args in
-    let f = held (c .before) in
-    let few = count-bits _ _ (f .held) (f .read) in
-    rw (bits-of _ _ (f .held) (f .read)) (sym (no-node (a .proof .now) _ (a .node) (omega (arith, c .if1 .taken, ap (λ w. w .proof .nodes) (f .summary)))))
-
-slice-aggregate-node-at : tie.Need-slice-aggregate-node-at
-slice-aggregate-node-at c = let words = reading (c .before .before .before) .read-pair .ok .1 .1 .1 .1 .1 .0 in search needs
-
-returns-2 : tie.Need-returns-2
-unfolding firstBitsOf
-returns-2 c = rw (found-long _ (found (c .before .before) ∙ c .enum-told .given .1)) (sym (no-node _ _ _ (omega arith)))
-
-returns-3 : tie.Need-returns-3
-unfolding firstBitsOf
-returns-3 c = rw (found-fault _ _ _ (found (c .before .before) ∙ c .enum-told2 .given .1)) (sym (no-node _ _ _ (omega arith)))
-
 returns-4 : tie.Need-returns-4
 unfolding pairFile
 returns-4 c =
@@ -58,13 +40,17 @@ returns-4 c =
     ∙ rw (bits-of _ _ x (f .read)) (sym (node-there (a .proof .now) _ (a .node) (omega arith)))
 
 pub node-byte-spec : {M : Type 1} → statement M
+unfolding firstBitsOf
 node-byte-spec =
     tie.close
     (tie.spec
     (λ c κs. search needs) (λ c. search needs) (λ c. search needs) (λ c. search needs) (λ c. search needs)
-    returns
-    slice-aggregate-node-at
+    (λ c. let a = start (reading (c .before)) .args in
+      let f = held (c .before) in
+      let few = count-bits _ _ (f .held) (f .read) in
+      rw (bits-of _ _ (f .held) (f .read)) (sym (no-node (a .proof .now) _ (a .node) (omega (arith, c .if1 .taken, ap (λ w. w .proof .nodes) (f .summary))))))
+    (λ c. let words = reading (c .before .before .before) .read-pair .ok .1 .1 .1 .1 .1 .0 in search needs)
     (λ c κs. search needs) (λ c κs. search needs)
-    returns-2
-    returns-3
+    (λ c. rw (found-long _ (found (c .before .before) ∙ c .enum-told .given .1)) (sym (no-node _ _ _ (omega arith))))
+    (λ c. rw (found-fault _ _ _ (found (c .before .before) ∙ c .enum-told2 .given .1)) (sym (no-node _ _ _ (omega arith))))
     returns-4)
