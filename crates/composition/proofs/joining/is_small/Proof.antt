@@ -12,21 +12,6 @@ use Rattle.composition.specs.Refinement.{smallCounts}
 use Rattle.composition.proofs.joining.is_small.Statement.{statement}
 use Rattle.composition.proofs.joining.is_small.Tie as tie
 
-<<<<<<< HEAD
-returns : tie.Need-returns
-unfolding smallCounts
-returns c =
-    let first = c .before .before .before in
-    let a = first .before .before .before .before .before .args in
-    let statements : a .both .first .statements + a .both .second .statements + 1 ≡ 1 + a .both .first .statements + a .both .second .statements = omega arith in
-    let levels : first .higher .result + 1 ≡ suc (max (a .both .first .levels) (a .both .second .levels)) = omega (arith, first .higher .ensures) in
-    let nodes : a .f .nodes + a .g .nodes + 3 ≡ 3 + a .f .nodes + a .g .nodes = omega arith in
-    let depth : c .higher2 .result + 2 ≡ suc (suc (max (a .f .levels) (a .g .levels))) = omega (arith, c .higher2 .ensures) in
-    λ i. leb (statements i) mostStatements && leb (levels i) mostStatementLevels && leb (nodes i) mostNodes && leb (depth i) mostNodeLevels
-    && leb (a .sets) mostTables && leb (a .relations) mostTables
-
-=======
->>>>>>> short-c
 pub is-small-spec : {M : Type 1} → statement M
 unfolding smallCounts
 is-small-spec =
@@ -38,4 +23,5 @@ is-small-spec =
       let levels : first .higher .result + 1 ≡ suc (max (a .both .first .levels) (a .both .second .levels)) = omega (arith, first .higher .ensures) in
       let nodes : a .f .nodes + a .g .nodes + 3 ≡ 3 + a .f .nodes + a .g .nodes = omega arith in
       let depth : c .higher2 .result + 2 ≡ suc (suc (max (a .f .levels) (a .g .levels))) = omega (arith, c .higher2 .ensures) in
-      λ i. leb (statements i) 63 && leb (levels i) 16 && leb (nodes i) 127 && leb (depth i) 24 && leb (a .sets) 16 && leb (a .relations) 16))
+      λ i. leb (statements i) mostStatements && leb (levels i) mostStatementLevels && leb (nodes i) mostNodes && leb (depth i) mostNodeLevels
+      && leb (a .sets) mostTables && leb (a .relations) mostTables))
