@@ -17,37 +17,25 @@ Inv-loop out₀ at text n k₀ out k =
 abbrev μ-loop : tie.MeasureT-loop
 μ-loop out₀ at text n k₀ out k = n - k
 
-loop-holds : tie.Need-loop-holds Inv-loop μ-loop
-loop-holds c =
-    let a = c .before .before .before .args in
-    (omega arith, c .fitting .ensures, refl, paste-zero (a .out .now) (a .at) (a .text .now))
-
-loop-again : tie.Need-loop-again Inv-loop μ-loop
-loop-again c =
-    let a = c .before .before .before .before .before .before .args in
-    let l = c .before .before .loop in (
-      omega arith,
-      l .inv .1,
-      simp length-set (l .inv .2),
-      rw (add-one, l .inv .3) (paste-suc (a .out .now) (a .at) (a .text .now) (l .k) 0 (omega arith) (omega arith)),
-    )
-
-returns : tie.Need-returns Inv-loop μ-loop
-unfolding fitting textIn textEnd
-returns c =
-    let l = c .before .loop in
-    let all : l .k ≡ c .before .before .fitting .result = omega arith in
-    rw (← c .before .before .fitting .ensures) (refl, rw (l .inv .3, all))
-
 pub put-spec : {M : Type 1} → statement M
+unfolding fitting textEnd textIn
 put-spec =
     tie.close
     (tie.spec
     Inv-loop
     μ-loop
     (λ c κs. search needs)
-    loop-holds
+    (λ c. let a = c .before .before .before .args in
+      (omega arith, c .fitting .ensures, refl, paste-zero (a .out .now) (a .at) (a .text .now)))
     (λ c. search needs) (λ c. search needs) (λ c. search needs) (λ c. search needs) (λ c. search needs)
-    loop-again
+    (λ c. let a = c .before .before .before .before .before .before .args in
+      let l = c .before .before .loop in (
+        omega arith,
+        l .inv .1,
+        simp length-set (l .inv .2),
+        rw (add-one, l .inv .3) (paste-suc (a .out .now) (a .at) (a .text .now) (l .k) 0 (omega arith) (omega arith)),
+      ))
     (λ c. search needs) (λ c. search needs)
-    returns)
+    (λ c. let l = c .before .loop in
+      let all : l .k ≡ c .before .before .fitting .result = omega arith in
+      rw (← c .before .before .fitting .ensures) (refl, rw (l .inv .3, all))))
