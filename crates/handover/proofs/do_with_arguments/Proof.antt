@@ -11,20 +11,11 @@ array-share-prefix-handler c =
     let r = c .before .before .before .before .before .before .before .argument in
     omega (arith, r .ensures, r .kept .1 .0)
 
-slice-aggregate-do-with-files : tie.Need-slice-aggregate-do-with-files
-slice-aggregate-do-with-files c = sym (length-take-le _ _ (array-share-prefix-handler (c .before)))
-
 array-share-prefix-proof : tie.Need-array-share-prefix-proof
 array-share-prefix-proof c = let r = c .before .before .before .before .before .argument2 in omega (arith, r .ensures, r .kept .1 .0)
 
-slice-aggregate-do-with-files-2 : tie.Need-slice-aggregate-do-with-files-2
-slice-aggregate-do-with-files-2 c = sym (length-take-le _ _ (array-share-prefix-proof (c .before)))
-
 array-share-prefix-out : tie.Need-array-share-prefix-out
 array-share-prefix-out c = let r = c .before .before .before .argument3 in omega (arith, r .ensures, r .kept .1 .0)
-
-slice-aggregate-do-with-files-3 : tie.Need-slice-aggregate-do-with-files-3
-slice-aggregate-do-with-files-3 c = sym (length-take-le _ _ (array-share-prefix-out (c .before)))
 
 pub do-with-arguments-spec : {M : Type 1} → statement M
 do-with-arguments-spec =
@@ -33,9 +24,9 @@ do-with-arguments-spec =
     (λ c. search needs) (λ c κs. search needs) (λ c. search needs) (λ c. search needs) (λ c κs. search needs) (λ c. omega arith)
     (λ c. search needs) (λ c κs. search needs)
     array-share-prefix-handler
-    slice-aggregate-do-with-files
+    (λ c. sym (length-take-le _ _ (array-share-prefix-handler (c .before))))
     array-share-prefix-proof
-    slice-aggregate-do-with-files-2
+    (λ c. sym (length-take-le _ _ (array-share-prefix-proof (c .before))))
     array-share-prefix-out
-    slice-aggregate-do-with-files-3
+    (λ c. sym (length-take-le _ _ (array-share-prefix-out (c .before))))
     (λ c κs. search needs) (λ c. search needs))

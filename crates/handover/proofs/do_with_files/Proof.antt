@@ -13,16 +13,10 @@ array-share-prefix-handler c =
     let r = n .before .before .before .read-file in
     omega (arith, ap amount (n .n .given .1), r .ensures, r .kept .1 .0)
 
-slice-aggregate-handler : tie.Need-slice-aggregate-handler
-slice-aggregate-handler c = sym (length-take-le _ _ (array-share-prefix-handler (c .before)))
-
 array-share-prefix-proof : tie.Need-array-share-prefix-proof
 array-share-prefix-proof c =
     let r = c .before .before .before .before .before .read-file2 in
     omega (arith, ap amount (c .before .before .m .given .1), r .ensures, r .kept .1 .0)
-
-slice-aggregate-proof : tie.Need-slice-aggregate-proof
-slice-aggregate-proof c = sym (length-take-le _ _ (array-share-prefix-proof (c .before)))
 
 pub do-with-files-spec : {M : Type 1} → statement M
 do-with-files-spec =
@@ -31,8 +25,8 @@ do-with-files-spec =
     (λ c. search needs) (λ c κs. search needs) (λ c. search needs) (λ c. search needs) (λ c. search needs) (λ c. search needs)
     (λ c κs. search needs) (λ c. search needs) (λ c. search needs) (λ c. search needs)
     array-share-prefix-handler
-    slice-aggregate-handler
+    (λ c. sym (length-take-le _ _ (array-share-prefix-handler (c .before))))
     array-share-prefix-proof
-    slice-aggregate-proof
+    (λ c. sym (length-take-le _ _ (array-share-prefix-proof (c .before))))
     (λ c. search needs) (λ c κs. search needs) (λ c. search needs) (λ c κs. search needs) (λ c. search needs) (λ c κs. search needs)
     (λ c. search needs) (λ c. search needs) (λ c. search needs))

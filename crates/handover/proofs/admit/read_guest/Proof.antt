@@ -6,14 +6,6 @@ use Rattle.handover.specs.Reading.{amount}
 use Rattle.handover.proofs.admit.read_guest.Statement.{statement}
 use Rattle.handover.proofs.admit.read_guest.Tie as tie
 
-returns-4 : tie.Need-returns-4
-returns-4 c =
-    let m = c .before in
-    let n = m .before .before .before .before .before .before .before in (
-      omega (arith, ap amount (n .n .given .1), n .before .before .before .before .read-argument .ensures),
-      omega (arith, ap amount (m .m .given .1), m .before .before .before .before .read-argument2 .ensures),
-    )
-
 pub read-guest-spec : {M : Type 1} → statement M
 read-guest-spec =
     tie.close
@@ -22,4 +14,8 @@ read-guest-spec =
     (λ c. search needs) (λ c. search needs) (λ c. search needs) (λ c. search needs) (λ c. search needs) (λ c κs. search needs)
     (λ c. search needs) (λ c. search needs) (λ c. search needs) (λ c. search needs) (λ c. search needs) (λ c. search needs)
     (λ c. search needs)
-    returns-4)
+    (λ c. let m = c .before in
+      let n = m .before .before .before .before .before .before .before in (
+        omega (arith, ap amount (n .n .given .1), n .before .before .before .before .read-argument .ensures),
+        omega (arith, ap amount (m .m .given .1), m .before .before .before .before .read-argument2 .ensures),
+      )))

@@ -4,18 +4,12 @@ use Rattle.report.proofs.Lines.{line-within}
 use Rattle.handover.proofs.admit.write_outcome.Statement.{statement}
 use Rattle.handover.proofs.admit.write_outcome.Tie as tie
 
-returns : tie.Need-returns
-returns c = rw (c .before .before .write-slot .ensures .0) (line-within _ _)
-
-returns-2 : tie.Need-returns-2
-returns-2 c = rw (c .before .before .write-turned .ensures .0) (line-within _ _)
-
 pub write-outcome-spec : {M : Type 1} → statement M
 write-outcome-spec =
     tie.close
     (tie.spec
     (λ c κs. search needs) (λ c. search needs) (λ c κs. search needs) (λ c κs. search needs) (λ c. search needs) (λ c κs. search needs)
     (λ c. search needs)
-    returns
+    (λ c. rw (c .before .before .write-slot .ensures .0) (line-within _ _))
     (λ c. search needs)
-    returns-2)
+    (λ c. rw (c .before .before .write-turned .ensures .0) (line-within _ _)))

@@ -33,42 +33,26 @@ whole : (c : tie.At-loop Inv-loop μ-loop) → numberIn (c .before .before .befo
 unfolding numberIn
 whole c = rw (ne-eqb (length (c .before .before .before .args .text .now)) 0 (λ e. omega arith)) (sym (c .loop .inv .1))
 
-returns : tie.Need-returns Inv-loop μ-loop
-unfolding numberIn
-returns c = rw (eq-eqb (length (c .before .before .args .text .now)) 0 (omega arith))
-
-returns-2 : tie.Need-returns-2 Inv-loop μ-loop
-returns-2 c =
-    let d = c .before .before in
-    let l = d .before .before .before in
-    no-more (l .before .before .before .args .text .now) (l .loop .i) (l .loop .value) (omega arith) (sym (d .with-digit .ensures) ∙ c .enum-told .given .1)
-    ∙ sym (whole l)
-
-loop-again : tie.Need-loop-again Inv-loop μ-loop
-loop-again c =
-    let d = c .before .before .before in
-    let l = d .before .before .before in (
-      search needs,
-      one-more (l .before .before .before .args .text .now) (l .loop .i) (l .loop .value) (omega arith) _ (sym (d .with-digit .ensures) ∙ c .before .next .given .1)
-          ∙ l .loop .inv .1,
-    )
-
-returns-3 : tie.Need-returns-3 Inv-loop μ-loop
-unfolding numberFrom
-returns-3 c =
-    let l = c .before in
-    sym (whole l ∙ ap (numberFrom (l .loop .value)) (drop-of-length-le (l .before .before .before .args .text .now) {i = l .loop .i} (omega arith)))
-
 pub number-in-spec : {M : Type 1} → statement M
+unfolding numberFrom numberIn
 number-in-spec =
     tie.close
     (tie.spec
     Inv-loop
     μ-loop
-    returns
+    (λ c. rw (eq-eqb (length (c .before .before .args .text .now)) 0 (omega arith)))
     (λ c. (search needs, refl))
     (λ c. search needs) (λ c κs. search needs) (λ c. search needs) (λ c. search needs)
-    returns-2
+    (λ c. let d = c .before .before in
+      let l = d .before .before .before in
+      no-more (l .before .before .before .args .text .now) (l .loop .i) (l .loop .value) (omega arith) (sym (d .with-digit .ensures) ∙ c .enum-told .given .1)
+      ∙ sym (whole l))
     (λ c. search needs) (λ c. search needs)
-    loop-again
-    returns-3)
+    (λ c. let d = c .before .before .before in
+      let l = d .before .before .before in (
+        search needs,
+        one-more (l .before .before .before .args .text .now) (l .loop .i) (l .loop .value) (omega arith) _ (sym (d .with-digit .ensures) ∙ c .before .next .given .1)
+            ∙ l .loop .inv .1,
+      ))
+    (λ c. let l = c .before in
+      sym (whole l ∙ ap (numberFrom (l .loop .value)) (drop-of-length-le (l .before .before .before .args .text .now) {i = l .loop .i} (omega arith)))))

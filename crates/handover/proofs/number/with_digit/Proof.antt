@@ -17,32 +17,16 @@ of-digit : (n byte : ℕ) → 48 ≤ byte → byte ≤ 57
 unfolding withDigit
 of-digit n byte least most = rw (le-ltb byte 48 least, le-ltb 57 byte most)
 
-returns : tie.Need-returns
-unfolding withDigit
-returns c = rw (lt-ltb (c .before .args .byte) 48 (omega arith))
-
-returns-2 : tie.Need-returns-2
-unfolding withDigit
-returns-2 c =
-    let byte = c .before .before .args .byte in rw (le-ltb byte 48 (omega arith), lt-ltb 57 byte (omega arith))
-
-returns-3 : tie.Need-returns-3
-returns-3 c =
-    let a = c .before .before .before .args in
-    rw (of-digit (a .value) (a .byte) (omega arith) (omega arith), lt-ltb 4294967295 (a .value * 10 + (a .byte - 48)) (omega arith))
-
-returns-4 : tie.Need-returns-4
-returns-4 c =
-    let a = c .before .before .before .args in
-    rw (of-digit (a .value) (a .byte) (omega arith) (omega arith), le-ltb 4294967295 (a .value * 10 + (a .byte - 48)) (omega arith))
-
 pub with-digit-spec : {M : Type 1} → statement M
+unfolding withDigit
 with-digit-spec =
     tie.close
     (tie.spec
-    returns
-    returns-2
+    (λ c. rw (lt-ltb (c .before .args .byte) 48 (omega arith)))
+    (λ c. let byte = c .before .before .args .byte in rw (le-ltb byte 48 (omega arith), lt-ltb 57 byte (omega arith)))
     (λ c. search needs) (λ c. search needs) (λ c. search needs)
-    returns-3
+    (λ c. let a = c .before .before .before .args in
+      rw (of-digit (a .value) (a .byte) (omega arith) (omega arith), lt-ltb 4294967295 (a .value * 10 + (a .byte - 48)) (omega arith)))
     (λ c. search needs)
-    returns-4)
+    (λ c. let a = c .before .before .before .args in
+      rw (of-digit (a .value) (a .byte) (omega arith) (omega arith), le-ltb 4294967295 (a .value * 10 + (a .byte - 48)) (omega arith))))
