@@ -26,9 +26,11 @@ accepted-is-sound hb pb mode words = record {
       let read = read-holds hb pb x (a .read) .handler-read in
       let kinds = stmt-fits (x .statement-bit) (x .statement) (known-handler hb (x .sizes) (x .statement-bit) (x .statement) read .fits) in (
         x,
-        (a .read,
-        subst (Promise (machineOf (x .sizes)) (x .statement) (rootSpec pb mode x)) (sym (a .number))
-            (soundness (tablesIn pb mode x) (x .derivation) (x .statement) 0 (a .unbroken) kinds)),
+        (
+          a .read,
+          subst (Promise (machineOf (x .sizes)) (x .statement) (rootSpec pb mode x)) (sym (a .number))
+              (soundness (tablesIn pb mode x) (x .derivation) (x .statement) 0 (a .unbroken) kinds),
+        ),
       );
 }
 

@@ -61,15 +61,6 @@ module _ (n : ℕ) (a b : Spec) (x y : Derivation) (f g : Form) (in-f : NodesHel
   abbrev D : Derivation
   D = joined n a b x y
 
-  pub joined-width : (S T : List ℕ) → widthOf (fileParts n S T (numbered D))
-      ≡ 10 + n * length S + n * n * length T
-      + (57 + widthOf (heldIn partsOf (take (min (f .head .nodes) mostNodes) (f .nodes))) + widthOf (heldIn partsOf (take (min (g .head .nodes) mostNodes) (g .nodes))))
-  unfolding numbered joined
-  joined-width S T =
-      let bits : nodeBits (numbered D) ≡ nodeBits D = nodeBits-rename _ _ D in
-      width-file n S T (numbered D)
-      ∙ ap (λ w. 10 + n * length S + n * n * length T + w) (omega (arith, bits, width-held x f in-f, width-held y g in-g))
-
   module _ (few : FewTables D) (m : SetNumbers) (k : RelationNumbers) (sets : ResultSets n a b x y m) (relations : ResultRelations n a b x y k)
       (room-sets : m .count ≤ mostTables) (room-relations : k .right .count ≤ mostTables) where
     pub joined-parts : fileParts n (setsIn D) (relationsIn D) (numbered D)

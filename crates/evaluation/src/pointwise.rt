@@ -121,7 +121,11 @@ pub(crate) fn compared(n: u32, o: u32, left: Values, right: Values) -> StateSet
 {
     let mut found = StateSet::empty();
     for s in 0..n {
-        found = with_state(found, s, compares(o, left.integers[s as usize], right.integers[s as usize]));
+        found = with_state(
+            found,
+            s,
+            compares(o, left.integers[s as usize], right.integers[s as usize]),
+        );
     }
     found
 }

@@ -123,24 +123,8 @@ fn put_text(out: &mut [u8], at: usize, exprs: &[u32], j: u32, s: Statement) -> u
         }
         SEQUENCE => put_parts(out, at, b"sequence of statements ", body, s.after),
         PARALLEL => put_parts(out, at, b"parallel of statements ", body, s.after),
-        IF => put_test(
-            out,
-            at,
-            exprs,
-            expr,
-            b"if ",
-            b" then statement ",
-            body,
-        ),
-        _ => put_test(
-            out,
-            at,
-            exprs,
-            expr,
-            b"while ",
-            b" do statement ",
-            body,
-        ),
+        IF => put_test(out, at, exprs, expr, b"if ", b" then statement ", body),
+        _ => put_test(out, at, exprs, expr, b"while ", b" do statement ", body),
     }
 }
 

@@ -181,9 +181,9 @@ module _ (bytes : List ℕ) (count levels before at i : ℕ) (more : 0 < levels)
           let begun = rw (was, add-one before, known .2) at first in
           let ended : table₃ ≡ sets table₂ so-far (statementWords so-far (at + 3 + stmtWidth l) (i + stmtTerms l) r) = rw (left .ends, known .2) at (f .0) in (
             two-filled table₀ table₁ table₂ table₃ before so-far _ words _ long (begun .0) own ended
-            ∙ ap (sets table₀ before) (sym (pair-words (eqb code 2) code before at i so-far l r refl (known .3) (known .4) (omega arith))),
+                ∙ ap (sets table₀ before) (sym (pair-words (eqb code 2) code before at i so-far l r refl (known .3) (known .4) (omega arith))),
             both-filled exprs₀ exprs₁ exprs₂ i (i + stmtTerms l) (handlerTerms i l) _ (omega (arith, length-handlerTerms i l)) (begun .1) (f .1)
-            ∙ ap (sets exprs₀ i) (pair-exprs (eqb code 2) i l r),
+                ∙ ap (sets exprs₀ i) (pair-exprs (eqb code 2) i l r),
           )
 
   pub test-filled : (code next : ℕ) → stmtHead bytes count (levels - 1) before at ≡ Test code next
@@ -201,7 +201,7 @@ module _ (bytes : List ℕ) (count levels before at i : ℕ) (more : 0 < levels)
       let stored = rw (was, add-one before, tested .ends, tested .counted, known .2) at second in
       rw (stmt-step bytes count levels before at _ more head, ← add-one before, test, was) (
         one-filled table₀ table₁ table₂ before _ words (stored .0) own
-        ∙ ap (sets table₀ before) (sym (test-words (eqb code 4) code before at i after e b refl (known .3) (known .4) (omega arith))),
+            ∙ ap (sets table₀ before) (sym (test-words (eqb code 4) code before at i after e b refl (known .3) (known .4) (omega arith))),
         both-filled exprs₀ exprs₁ exprs₂ i (i + exprNodes e) (termWords i e) _ (omega (arith, length-termWords i e)) (rw test at first) (stored .1)
-        ∙ ap (sets exprs₀ i) (test-exprs (eqb code 4) i e b),
+            ∙ ap (sets exprs₀ i) (test-exprs (eqb code 4) i e b),
       )

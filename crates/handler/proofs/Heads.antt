@@ -60,14 +60,16 @@ module _ (s : List ℕ) where
       by-test (Upto (suc k)) (ltb capacity (product sizes * size)) _ _ (λ e here. fault-at s 10 18 13 refl at (u .1 here)) (λ few.
       let range = neither (ltb size 2) (ltb 16 size) in-range in
       let least : 2 ≤ size = ltb-false size 2 (range .0) in
-      let most : size ≤ 16 = ltb-false 16 size (range .1) in
-      (record {
-        counted = simp length-append (omega (arith, u .0 .counted));
-        starts = omega arith;
-        least = rw (product-snoc sizes size) (omega (arith, mul-le-mul-left (product sizes) least));
-        most = rw (product-snoc sizes size) (ltb-false capacity (product sizes * size) few);
-        each = each-snoc (λ x. (1 ≤ x) × (x ≤ 16)) sizes size (omega arith) (omega arith) (u .0 .each);
-      }, λ here. omega arith))))
+      let most : size ≤ 16 = ltb-false 16 size (range .1) in (
+        record {
+          counted = simp length-append (omega (arith, u .0 .counted));
+          starts = omega arith;
+          least = rw (product-snoc sizes size) (omega (arith, mul-le-mul-left (product sizes) least));
+          most = rw (product-snoc sizes size) (ltb-false capacity (product sizes * size) few);
+          each = each-snoc (λ x. (1 ≤ x) × (x ≤ 16)) sizes size (omega arith) (omega arith) (u .0 .each);
+        },
+        λ here. omega arith,
+      ))))
 
   upto : (k : ℕ) → Upto k (sizesRead s k)
   unfolding sizesRead

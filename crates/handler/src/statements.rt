@@ -1,8 +1,8 @@
 // Statements: reading a statement's head, and the summary of a whole statement.
 use crate::ASSIGNMENT;
 use crate::IF;
-use crate::MOST_STATEMENTS;
 use crate::MOST_STATEMENT_LEVELS;
+use crate::MOST_STATEMENTS;
 use crate::NIL;
 use crate::PARALLEL;
 use crate::StmtHead;

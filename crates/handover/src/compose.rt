@@ -7,11 +7,11 @@ use super::argument;
 use super::print_front;
 use super::read_argument;
 use super::save::save_both;
-use pair::MOST_HANDLER_BYTES;
-use pair::MOST_PROOF_BYTES;
 use checker::Verdict;
 use checker::WORK_WORDS;
 use composition::Composed;
+use pair::MOST_HANDLER_BYTES;
+use pair::MOST_PROOF_BYTES;
 
 // The arguments that name the first of the files to be read and of those to be written.
 const FIRST_READ: usize = 2;

@@ -59,7 +59,13 @@ pub extern "C" fn handover_root(handler: &[u8], proof: &[u8]) -> u64
 // Where a refusal's number with its place is shown: the file, 0 the handler file and 1 the proof file, × 2 ^ 32, and the index of the first
 // byte, which is the file's length where none of its bytes are shown. The kind of the place is 0 for a bit and 1 for a node.
 #[no_mangle]
-pub extern "C" fn handover_view(handler: &[u8], proof: &[u8], number: u32, kind: u32, place: u64) -> u64
+pub extern "C" fn handover_view(
+    handler: &[u8],
+    proof: &[u8],
+    number: u32,
+    kind: u32,
+    place: u64,
+) -> u64
     ensures { λ r. ⌜ r ≡ viewOf (now (handler .entry)) (now (proof .entry)) number kind place ⌝ }
 {
     viewer::view_number(handler, proof, number, kind, place)

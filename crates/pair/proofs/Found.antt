@@ -51,7 +51,13 @@ over pb (handler sizes at S) w f = by (Proofs.readProof pb (product sizes))
     by : (r : Proofs.ProofRead) → fileOver w (headOf sizes) (statementTable at S) r ≡ pairFile (onProof sizes at S r)
     by (Proofs.refused k place) = refl
     by (Proofs.proof sets relations root d) = let same : handlerSummary (record {
-      sizes = sizes; statement-bit = at; statement = S; sets = sets; relations = relations; root-bit = root; derivation = d;
+      sizes = sizes;
+      statement-bit = at;
+      statement = S;
+      sets = sets;
+      relations = relations;
+      root-bit = root;
+      derivation = d;
     }) ≡ w = cc in rw same
 
 pub kept : (pb : List ℕ) (r : HandlerRead) (file : HandlerFile) (w : HandlerSummary) → file ≡ handlerFile r → file .found ≡ HandlerFound.Handler w

@@ -80,29 +80,29 @@ admit-spec =
     (tie.spec
     (λ c κs. search needs)
     (λ c. let a = c .before .before .before .before .before .args in
-      turned _ _ _ _ _ _ _ _ refl (no-such-place (a .frame) (a .place) (a .ticks) (lt-ltb _ _ (c .before .if1 .taken))) (c .turned-away .ensures))
+    turned _ _ _ _ _ _ _ _ refl (no-such-place (a .frame) (a .place) (a .ticks) (lt-ltb _ _ (c .before .if1 .taken))) (c .turned-away .ensures))
     (λ c κs. search needs) (λ c κs. search needs)
     (λ c. let a = c .before .before .before .before .before .before .before .args in
-      let there = le-ltb _ _ (c .before .before .before .if1 .left) in
-      turned _ _ _ _ _ _ _ _ refl (taken (a .frame) (a .place) (a .ticks) there (sym (c .before .before .holds-from .ensures) ∙ c .before .if2 .taken))
-      (c .turned-away2 .ensures))
+    let there = le-ltb _ _ (c .before .before .before .if1 .left) in
+    turned _ _ _ _ _ _ _ _ refl (taken (a .frame) (a .place) (a .ticks) there (sym (c .before .before .holds-from .ensures) ∙ c .before .if2 .taken))
+    (c .turned-away2 .ensures))
     (λ c κs. search needs) (λ c. search needs) (λ c. search needs) (λ c κs. search needs)
     (λ c. let l = c .before .before .before in
-      let a = l .before .before .before .before .before .before .before .args in
-      let ill = found-malformed (wellFormed (a .frame)) _ _ (l .laid .ensures) (c .before .enum-told .given .1) in
-      turned _ _ _ _ _ _ _ _ refl (malformed (a .frame) (a .place) (a .ticks) (there l) (free l) ill) (c .turned-away3 .ensures))
+    let a = l .before .before .before .before .before .before .before .args in
+    let ill = found-malformed (wellFormed (a .frame)) _ _ (l .laid .ensures) (c .before .enum-told .given .1) in
+    turned _ _ _ _ _ _ _ _ refl (malformed (a .frame) (a .place) (a .ticks) (there l) (free l) ill) (c .turned-away3 .ensures))
     (λ c κs. search needs)
     (λ c. let k = c .before .before in
-      let l = k .before .before .before in
-      let a = start l .args in
-      turned _ _ _ _ _ _ _ _ refl (wrong-ticks (a .frame) (a .place) (a .ticks) (there l) (free l) (found k .0) (c .before .if3 .taken)) (c .turned-away4 .ensures))
+    let l = k .before .before .before in
+    let a = start l .args in
+    turned _ _ _ _ _ _ _ _ refl (wrong-ticks (a .frame) (a .place) (a .ticks) (there l) (free l) (found k .0) (c .before .if3 .taken)) (c .turned-away4 .ensures))
     (λ c κs. search needs) (λ c κs. search needs) (λ c. search needs) (λ c κs. search needs) (λ c. search needs) (λ c. search needs)
     (λ c. let few : c .before .steps .given .0 .0 < 2 ^ 32 = search needs in
-      let ticks : begun (c .before .before .before .before .before) .args .ticks < 2 ^ 32 = search needs in
-      omega (arith, product-fits few ticks))
+    let ticks : begun (c .before .before .before .before .before) .args .ticks < 2 ^ 32 = search needs in
+    omega (arith, product-fits few ticks))
     (λ c κs. let k = c .before .before .before .before .before .before .before .before .before in
-      let l = k .before .before .before in
-      (found k .0, free l, omega (arith, l .before .before .before .if1 .left), found k .1))
+    let l = k .before .before .before in
+    (found k .0, free l, omega (arith, l .before .before .before .if1 .left), found k .1))
     (λ c. search needs)
     (λ c. decided (c .before .before .before .before .before .before) _ _ (c .before .before .fault .given .1) (c .turned-away5 .ensures))
     (λ c. search needs)

@@ -17,8 +17,8 @@ last-slot-spec =
     tie.close
     (tie.spec (λ c. search needs) (λ c. search needs)
     (λ c. let f = c .before .before .before .before .args .frame in
-      let none : 0 ≡ f .count - 1 = omega arith in
-      ap (λ i. getD (f .slots) i noSlot) none)
+    let none : 0 ≡ f .count - 1 = omega arith in
+    ap (λ i. getD (f .slots) i noSlot) none)
     (λ c. let s = c .before .before .before .before in
-      sym (List·getD-eq-default (s .args .frame .slots) noSlot {n = s .args .frame .count - 1} (omega (arith, full s))))
+    sym (List·getD-eq-default (s .args .frame .slots) noSlot {n = s .args .frame .count - 1} (omega (arith, full s))))
     (λ c. search needs) (λ c. search needs) (λ c. search needs) (λ c. search needs))

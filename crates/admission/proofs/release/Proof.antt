@@ -32,19 +32,19 @@ release-spec =
     (tie.spec
     (λ c κs. search needs)
     (λ c. let a = c .before .before .args in
-      c .turned-away .ensures ∙ sym (not-released (a .frame) (a .place) _ (no-such-guest (a .frame) (a .place) (lt-ltb _ _ (c .before .if1 .taken)))))
+    c .turned-away .ensures ∙ sym (not-released (a .frame) (a .place) _ (no-such-guest (a .frame) (a .place) (lt-ltb _ _ (c .before .if1 .taken)))))
     (λ c κs. search needs) (λ c κs. search needs)
     (λ c. let a = c .before .before .before .before .args in
-      let there = le-ltb _ _ (c .before .before .before .if1 .left) in
-      let free = sym (c .before .before .holds-from .ensures) ∙ not-true _ (c .before .if2 .taken) in
-      c .turned-away2 .ensures ∙ sym (not-released (a .frame) (a .place) _ (not-taken (a .frame) (a .place) there free)))
+    let there = le-ltb _ _ (c .before .before .before .if1 .left) in
+    let free = sym (c .before .before .holds-from .ensures) ∙ not-true _ (c .before .if2 .taken) in
+    c .turned-away2 .ensures ∙ sym (not-released (a .frame) (a .place) _ (not-taken (a .frame) (a .place) there free)))
     (λ c κs. search needs) (λ c. search needs) (λ c. search needs) (λ c κs. search needs)
     (λ c. let l = c .before .before .before in
-      let a = l .before .before .before .before .args in
-      let ill = found-malformed (wellFormed (a .frame)) _ _ (l .laid .ensures) (c .before .enum-told .given .1) in
-      c .turned-away3 .ensures ∙ sym (not-released (a .frame) (a .place) _ (ill-formed (a .frame) (a .place) (there l) (held-there l) ill)))
+    let a = l .before .before .before .before .args in
+    let ill = found-malformed (wellFormed (a .frame)) _ _ (l .laid .ensures) (c .before .enum-told .given .1) in
+    c .turned-away3 .ensures ∙ sym (not-released (a .frame) (a .place) _ (ill-formed (a .frame) (a .place) (there l) (held-there l) ill)))
     (λ c κs. (well _ (well-formed c) .few-slots, well _ (well-formed c) .within))
     (λ c. let l = c .before .before .before .before in
-      let a = l .before .before .before .before .args in
-      ap (λ (g : Frame). record { frame = g; answer = Done }) (c .laid-without .ensures)
-      ∙ sym (gap-closed (a .frame) (a .place) (may-go (a .frame) (a .place) (there l) (held-there l) (well-formed (c .before))))))
+    let a = l .before .before .before .before .args in
+    ap (λ (g : Frame). record { frame = g; answer = Done }) (c .laid-without .ensures)
+    ∙ sym (gap-closed (a .frame) (a .place) (may-go (a .frame) (a .place) (there l) (held-there l) (well-formed (c .before))))))

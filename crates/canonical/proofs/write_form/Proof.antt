@@ -62,7 +62,7 @@ returns-3 c =
     let f = read g in
     let a = start (both g) .args in
     let is : form (formOf (both g .read-pair .result .head .states) (byMembers (a .proof .now) (both g .read-pair .result .head .states) (g .found2 .given .0 .0 .proof .sets) (f .held .derivation)))
-        ≡ canonical (a .handler .now) (a .proof .now) =
+    ≡ canonical (a .handler .now) (a .proof .now) =
     (λ j. form (formOf (states g j) (byMembers (a .proof .now) (states g j) (f .summary j .proof .sets) (f .held .derivation))))
     ∙ sym (ap (formIn (a .proof .now)) (f .read)) in
     (w .0 (lent g) ∙ ap (λ o. outcome o (length (a .out .now))) is, w .1 (lent g) ∙ ap (λ o. outAfter o (a .out .now)) is)
@@ -76,12 +76,12 @@ write-form-spec =
     (λ c. search needs) (λ c. search needs)
     (λ c κs. lent (pairAt (c .before)))
     (λ c. let r = c .before .before .before in
-      let a = start r .args in
-      let answer = turned-away _ _ _ (a .out .now) (ap (formIn (a .proof .now)) (found-long _ (found r ∙ c .before .enum-told .given .1))) in
-      (c .refused .ensures ∙ answer .0, answer .1))
+    let a = start r .args in
+    let answer = turned-away _ _ _ (a .out .now) (ap (formIn (a .proof .now)) (found-long _ (found r ∙ c .before .enum-told .given .1))) in
+    (c .refused .ensures ∙ answer .0, answer .1))
     (λ c. let r = c .before .before .before .before in
-      let a = start r .args in
-      let answer = turned-away _ _ _ (a .out .now) (ap (formIn (a .proof .now)) (found-fault _ _ _ (found r ∙ c .before .before .found .given .1))) in
-      (c .refused2 .ensures ∙ answer .0, answer .1))
+    let a = start r .args in
+    let answer = turned-away _ _ _ (a .out .now) (ap (formIn (a .proof .now)) (found-fault _ _ _ (found r ∙ c .before .before .found .given .1))) in
+    (c .refused2 .ensures ∙ answer .0, answer .1))
     (λ c. search needs)
     returns-3)

@@ -69,32 +69,31 @@ write-read-spec =
     (tie.spec
     (λ c. search needs) (λ c κs. search needs)
     (λ c κs. let x = start c .pre in
-      (states-most _ _ _ _ _ _ (x .read), numbers c x .of-sets .most, numbers c x .of-relations .most))
+    (states-most _ _ _ _ _ _ (x .read), numbers c x .of-sets .most, numbers c x .of-relations .most))
     (λ c. search needs) (λ c κs. search needs)
     (λ c. let f = c .before .before in
-      let out = start (counted f) .args .out .now in
-      (λ x. c .refused .ensures ∙ no-room _ out _ (long f x) (c .before .if1 .taken) .0, λ x. no-room _ out _ (long f x) (c .before .if1 .taken) .1))
+    let out = start (counted f) .args .out .now in
+    (λ x. c .refused .ensures ∙ no-room _ out _ (long f x) (c .before .if1 .taken) .0, λ x. no-room _ out _ (long f x) (c .before .if1 .taken) .1))
     (λ c κs. search needs) (λ c. search needs)
     (λ c κs. let f = c .before .before .before .before .before .before .before in
-      let s = start (counted f) in
-      let x = s .pre in
-      let shown = read-known _ _ _ _ _ _ (x .read) in
-      let same : length (c .before .before .before .before .clear .last .0) ≡ length (s .args .out .now) = search needs in
-      let width = ap widthOf (parts (counted f) x) ∙ sym (bits f x) in
-      let enough = c .before .before .before .before .before .before .if1 .left in (
-        (states-least _ _ _ _ _ _ (x .read), states-most _ _ _ _ _ _ (x .read), shown .sets-most, numbers (counted f) x .of-sets .most, numbers (counted f) x .of-relations .most),
-        (rw width (omega arith), rw width (omega (arith, f .form-bits .ensures .1))),
-      ))
+    let s = start (counted f) in
+    let x = s .pre in
+    let shown = read-known _ _ _ _ _ _ (x .read) in
+    let same : length (c .before .before .before .before .clear .last .0) ≡ length (s .args .out .now) = search needs in
+    let width = ap widthOf (parts (counted f) x) ∙ sym (bits f x) in
+    let enough = c .before .before .before .before .before .before .if1 .left in (
+      (states-least _ _ _ _ _ _ (x .read), states-most _ _ _ _ _ _ (x .read), shown .sets-most, numbers (counted f) x .of-sets .most, numbers (counted f) x .of-relations .most),
+      (rw width (omega arith), rw width (omega (arith, f .form-bits .ensures .1))),
+    ))
     (λ c. search needs) (λ c. search needs)
     (λ c. let f = c .before .before .before .before .before .before .before .before .before .before in
-      let s = start (counted f) in
-      let a = s .args in
-      let enough = c .before .before .before .before .before .before .before .before .before .if1 .left in
-      let cleared = c .before .before .before .before .before .before .before .clear .ensures ∙ cleared-within (a .out .now) _ enough in
-      (
-        λ x. with-room _ (a .out .now) _ (long f x) enough .0,
-        λ x. c .before .before .write-fields .ensures
-            ∙ ap₂ (λ o ws. putParts o 0 (partsIn (a .proof .now) (a .n) (a .head .sets) (counted f .number .result) ws)) cleared (words s x)
-            ∙ form-put _ _ _ _ _ (x .d) (x .read) _ (numbers (counted f) x) _ (drop ((f .form-bits .result + 7) / 8) (a .out .now)) (long f x)
-            ∙ with-room _ (a .out .now) _ (long f x) enough .1,
-      )))
+    let s = start (counted f) in
+    let a = s .args in
+    let enough = c .before .before .before .before .before .before .before .before .before .if1 .left in
+    let cleared = c .before .before .before .before .before .before .before .clear .ensures ∙ cleared-within (a .out .now) _ enough in (
+      λ x. with-room _ (a .out .now) _ (long f x) enough .0,
+      λ x. c .before .before .write-fields .ensures
+          ∙ ap₂ (λ o ws. putParts o 0 (partsIn (a .proof .now) (a .n) (a .head .sets) (counted f .number .result) ws)) cleared (words s x)
+          ∙ form-put _ _ _ _ _ (x .d) (x .read) _ (numbers (counted f) x) _ (drop ((f .form-bits .result + 7) / 8) (a .out .now)) (long f x)
+          ∙ with-room _ (a .out .now) _ (long f x) enough .1,
+    )))

@@ -44,35 +44,35 @@ compose-checked-spec =
     tie.close
     (tie.spec (λ c κs. search needs) (λ c κs. search needs) (λ c. search needs) (λ c. search needs) (λ c κs. search needs) (λ c. search needs) (λ c. search needs)
     (λ c κs. let two = c .before .before .before .before .before .before .before in
-      let one = firstCheck two in (
-        record { words = _; steps = _; accepted = sym (first-is one) ∙ two .before .before .before .steps .given .1 },
-        record { words = _; steps = _; accepted = sym (second-is two) ∙ c .before .before .before .more .given .1 },
-      ))
+    let one = firstCheck two in (
+      record { words = _; steps = _; accepted = sym (first-is one) ∙ two .before .before .before .steps .given .1 },
+      record { words = _; steps = _; accepted = sym (second-is two) ∙ c .before .before .before .more .given .1 },
+    ))
     (λ c. search needs)
     (λ c. let one = c .before .before .before .before .before in
-      let a = start one .args in
-      let p = start one .pre in
-      let e = first-refuses (a .h1 .now) (a .p1 .now) (a .h2 .now) (a .p2 .now) (length (a .work .now)) (p .0) (p .1) (p .2) _ (sym (first-is one) ∙ c .before .fault .given .1) in
-      let left = leaves-refused (a .hout .now) (a .pout .now) _ 1 _ e _ refl in
-      (left .0, (first-words one, left .1)))
+    let a = start one .args in
+    let p = start one .pre in
+    let e = first-refuses (a .h1 .now) (a .p1 .now) (a .h2 .now) (a .p2 .now) (length (a .work .now)) (p .0) (p .1) (p .2) _ (sym (first-is one) ∙ c .before .fault .given .1) in
+    let left = leaves-refused (a .hout .now) (a .pout .now) _ 1 _ e _ refl in
+    (left .0, (first-words one, left .1)))
     (λ c. search needs)
     (λ c. let two = c .before .before .before .before .before in
-      let one = firstCheck two in
-      let a = start one .args in
-      let p = start one .pre in
-      let e = second-refuses (a .h1 .now) (a .p1 .now) (a .h2 .now) (a .p2 .now) (length (a .work .now)) (p .0) (p .1) (p .2) _ _
-      (sym (first-is one) ∙ two .before .before .before .steps .given .1) (sym (second-is two) ∙ c .before .fault2 .given .1)
-      in
-      let left = leaves-refused (a .hout .now) (a .pout .now) _ 2 _ e _ refl in
-      (left .0, (second-words two, left .1)))
+    let one = firstCheck two in
+    let a = start one .args in
+    let p = start one .pre in
+    let e = second-refuses (a .h1 .now) (a .p1 .now) (a .h2 .now) (a .p2 .now) (length (a .work .now)) (p .0) (p .1) (p .2) _ _
+    (sym (first-is one) ∙ two .before .before .before .steps .given .1) (sym (second-is two) ∙ c .before .fault2 .given .1)
+    in
+    let left = leaves-refused (a .hout .now) (a .pout .now) _ 2 _ e _ refl in
+    (left .0, (second-words two, left .1)))
     (λ c. search needs) (λ c. search needs) (λ c. search needs)
     (λ c. let joined = c .before .before .before .before in
-      let two = joined .before .before .before .before .before .before .before .before in
-      let one = firstCheck two in
-      let a = start one .args in
-      let p = start one .pre in
-      let e = both-accept (a .h1 .now) (a .p1 .now) (a .h2 .now) (a .p2 .now) (length (a .work .now)) (p .0) (p .1) (p .2) _ _
-      (sym (first-is one) ∙ two .before .before .before .steps .given .1) (sym (second-is two) ∙ joined .before .before .before .before .more .given .1)
-      in
-      let left = leaves-same (a .hout .now) (a .pout .now) _ _ e _ _ _ (joined .compose-accepted .ensures) in
-      (left .0, (second-words two, left .1))))
+    let two = joined .before .before .before .before .before .before .before .before in
+    let one = firstCheck two in
+    let a = start one .args in
+    let p = start one .pre in
+    let e = both-accept (a .h1 .now) (a .p1 .now) (a .h2 .now) (a .p2 .now) (length (a .work .now)) (p .0) (p .1) (p .2) _ _
+    (sym (first-is one) ∙ two .before .before .before .steps .given .1) (sym (second-is two) ∙ joined .before .before .before .before .more .given .1)
+    in
+    let left = leaves-same (a .hout .now) (a .pout .now) _ _ e _ _ _ (joined .compose-accepted .ensures) in
+    (left .0, (second-words two, left .1))))

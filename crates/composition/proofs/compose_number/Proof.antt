@@ -14,8 +14,8 @@ compose-number-spec =
     (λ c κs. subst Small (sym (c .before .before .before .before .before .before .compose .ensures .0)) (answer-small _ _ _ _ _ _ _))
     (λ c. search needs) (λ c. search needs) (λ c. search needs)
     (λ c. let k = c .before .before .before .before .before .before .before .compose in
-      let a = c .before .before .before .before .before .before .before .before .before .before .before .before .before .before .before .before .before .before .args in
-      let number = c .number-of .ensures ∙ ap numberOf (k .ensures .0) in
-      let answer = ap ofNumber number ∙ number-decoded (a .h1 .now) (a .p1 .now) (a .h2 .now) (a .p2 .now) (a .work .now) (a .hout .now) (a .pout .now) in
-      let accepted = number-promised (a .h1 .now) (a .p1 .now) (a .h2 .now) (a .p2 .now) (a .work .now) (a .hout .now) (a .pout .now) _ _ _ (k .ensures .0) (k .ensures .1 .1 .1 .1) in
-      (number, (answer, (k .ensures .1 .0, (k .ensures .1 .1 .0, (k .ensures .1 .1 .1 .0, rw (c .number-of .ensures) accepted)))))))
+    let a = c .before .before .before .before .before .before .before .before .before .before .before .before .before .before .before .before .before .before .args in
+    let number = c .number-of .ensures ∙ ap numberOf (k .ensures .0) in
+    let answer = ap ofNumber number ∙ number-decoded (a .h1 .now) (a .p1 .now) (a .h2 .now) (a .p2 .now) (a .work .now) (a .hout .now) (a .pout .now) in
+    let accepted = number-promised (a .h1 .now) (a .p1 .now) (a .h2 .now) (a .p2 .now) (a .work .now) (a .hout .now) (a .pout .now) _ _ _ (k .ensures .0) (k .ensures .1 .1 .1 .1) in
+    (number, (answer, (k .ensures .1 .0, (k .ensures .1 .1 .0, (k .ensures .1 .1 .1 .0, rw (c .number-of .ensures) accepted)))))))

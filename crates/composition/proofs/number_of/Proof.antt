@@ -28,6 +28,6 @@ number-of-spec =
     (λ c. omega (arith, refused-small c .0))
     (λ c κs. search needs)
     (λ c. let s = refused-small (c .before) in
-      omega (arith, s .0, c .code-of .ensures, fault-below (c .before .before .answer2 .given .0 .1 .0) (s .2)))
+    omega (arith, s .0, c .code-of .ensures, fault-below (c .before .before .answer2 .given .0 .1 .0) (s .2)))
     (λ c. rw (c .before .before .before .before .answer .given .1))
     (λ c. rw (c .before .before .answer2 .given .1, c .code-of .ensures)))

@@ -53,13 +53,13 @@ pub +occurrences-walk-spec : {M : Type 1} → statement M
     (λ c. no-level _ _ _ _ (c .if1 .taken)) (λ c κs. search needs)
     (λ c. constant-occurs _ _ _ _ (more t (c .before)) (rw (c .before .before .term-at .ensures) at (c .if2 .taken))) (λ c κs. search needs)
     (λ c. let k = c .before .before .before .before in
-        variable-occurs _ _ _ _ (more t k) _ (rw (k .before .term-at .ensures) at (c .before .if3 .taken)) (rw (k .before .term-at .ensures) at (c .occurs-in .ensures)))
+    variable-occurs _ _ _ _ (more t k) _ (rw (k .before .term-at .ensures) at (c .before .if3 .taken)) (rw (k .before .term-at .ensures) at (c .occurs-in .ensures)))
     (λ c. search needs) (λ c. omega (arith, operation-inside _ _ (last t c)))
     (λ c κs. omega (arith, more t (c .before .before .before), c .before .before .before .before .before .before .before .pre))
     (λ c. search needs) (λ c. search needs)
     (λ c κs. omega (arith, more t (c .before .before .before .before .before), c .before .before .before .before .before .before .before .before .before .pre))
     (λ c. let k = c .before .before .before .before .before .before in
-        omega (arith, sum-small _ (k .before .before .before .before .pre .1) (more t k) _ _ (c .before .before .occurrences-walk .ensures .1) (c .occurrences-walk2 .ensures .1)))
+    omega (arith, sum-small _ (k .before .before .before .before .pre .1) (more t k) _ _ (c .before .before .occurrences-walk .ensures .1) (c .occurrences-walk2 .ensures .1)))
     (λ c. let k = c .before .before .before .before .before .before in
-        both-occur _ _ _ _ (more t k) (last t (c .before .before .before)) _ _ (c .before .before .occurrences-walk .ensures)
-        (rw (k .before .term-at .ensures) at (c .occurrences-walk2 .ensures)))
+    both-occur _ _ _ _ (more t k) (last t (c .before .before .before)) _ _ (c .before .before .occurrences-walk .ensures)
+    (rw (k .before .term-at .ensures) at (c .occurrences-walk2 .ensures)))

@@ -71,27 +71,27 @@ pub +values-walk-spec : {M : Type 1} → statement M
 +values-walk-spec = close μ-values-walk λ t. lts.spec (callees t) (now-at t) values-walk.Post
     (λ c κs. search needs) (λ c. walked-out _ _ _ _ _ (c .nothing .result) (c .before .if1 .taken) (c .nothing .ensures)) (λ c κs. search needs)
     (λ c κs. let a = c .before .before .before .before .before in
-        (a .pre .1 .0, c .if2 .taken, rw (c .before .before .term-at .ensures) (value-small (a .args .exprs .now) (a .args .i))))
+    (a .pre .1 .0, c .if2 .taken, rw (c .before .before .term-at .ensures) (value-small (a .args .exprs .now) (a .args .i))))
     (λ c. let k = c .before .before in
-        walked-leaf _ _ _ _ _ (more t k) _ (rw (k .before .term-at .ensures) at (c .leaf-row .ensures)))
+    walked-leaf _ _ _ _ _ (more t k) _ (rw (k .before .term-at .ensures) at (c .leaf-row .ensures)))
     (λ c. search needs) (λ c. omega (arith, operation-inside _ _ (last t c)))
     (λ c κs. omega (arith, more t (c .before), c .before .before .before .before .before .pre))
     (λ c. let k = c .before .before .before in
-        walked-left _ _ _ _ _ (more t (k .before)) (last t k) _ (c .before .before .values-walk .ensures) (c .if3 .taken))
+    walked-left _ _ _ _ _ (more t (k .before)) (last t k) _ (c .before .before .values-walk .ensures) (c .if3 .taken))
     (λ c. search needs) (λ c. search needs)
     (λ c κs. omega (arith, more t (c .before .before .before .before .before), c .before .before .before .before .before .before .before .before .before .pre))
     (λ c. let r = c .before .before in
-        let k = operation-of t r in
-        walked-right _ _ _ _ _ (more t (k .before)) (last t k) _ (r .before .before .before .before .values-walk .ensures) _ (second t r) (c .if4 .taken))
+    let k = operation-of t r in
+    walked-right _ _ _ _ _ (more t (k .before)) (last t k) _ (r .before .before .before .before .values-walk .ensures) _ (second t r) (c .if4 .taken))
     (λ c κs. let r = c .before .before in
-        let k = operation-of t r in
-        let a = start t k in (
-          rw (a .pre .1 .0) (states-most (a .args .head)),
-          c .before .before .before .before .if3 .left,
-          c .if4 .left,
-          operands-small _ _ _ _ _ (more t (k .before)) (last t k) _ (r .before .before .before .before .values-walk .ensures) _ (second t r) (a .pre .1 .1),
-        ))
+    let k = operation-of t r in
+    let a = start t k in (
+      rw (a .pre .1 .0) (states-most (a .args .head)),
+      c .before .before .before .before .if3 .left,
+      c .if4 .left,
+      operands-small _ _ _ _ _ (more t (k .before)) (last t k) _ (r .before .before .before .before .values-walk .ensures) _ (second t r) (a .pre .1 .1),
+    ))
     (λ c. let r = c .before .before .before in
-        let k = operation-of t r in
-        walked-both _ _ _ _ _ (more t (k .before)) (last t k) _ (r .before .before .before .before .values-walk .ensures) _ (second t r) _
-        (rw (k .before .before .term-at .ensures) at (c .apply-op .ensures)))
+    let k = operation-of t r in
+    walked-both _ _ _ _ _ (more t (k .before)) (last t k) _ (r .before .before .before .before .values-walk .ensures) _ (second t r) _
+    (rw (k .before .before .term-at .ensures) at (c .apply-op .ensures)))

@@ -24,5 +24,5 @@ agreeing-spec =
     (tie.spec (λ c κs. search needs) (λ c. known c .weighs) (λ c. known (c .before) .sized)
     (λ c κs. let k = known (c .before) in (k .few, k .weighs, k .light, k .short, mod-lt _ (k .sized))) (λ c κs. search needs)
     (λ c t. let k = c .before .before .before in
-        rw (asked (k .before .before) true (k .if1 .taken)) (c .states-with .ensures t))
+    rw (asked (k .before .before) true (k .if1 .taken)) (c .states-with .ensures t))
     (λ c t. let k = c .before .before .before in rw (asked k false (c .before .if1 .left)) (c .empty .ensures t)))

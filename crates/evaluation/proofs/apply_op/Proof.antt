@@ -31,20 +31,20 @@ apply-op-spec =
     tie.close
     (tie.spec (λ c κs. search needs) (λ c κs. search needs) (λ c κs. search needs)
     (λ c. let made = c .of-integers .ensures in
-        let a = c .before .before .before .before .before .before .args in
-        let left : a .left .kind ≡ integersKind = c .before .if2 .taken in
-        let right : a .right .kind ≡ integersKind = sym (c .before .before .before .if1 .taken) ∙ left in
-        λ s l. (made s l .0 ∙ rw (left, right), made s l .1))
+    let a = c .before .before .before .before .before .before .args in
+    let left : a .left .kind ≡ integersKind = c .before .if2 .taken in
+    let right : a .right .kind ≡ integersKind = sym (c .before .before .before .if1 .taken) ∙ left in
+    λ s l. (made s l .0 ∙ rw (left, right), made s l .1))
     (λ c. let made = c .of-truths .ensures in
-        let a = c .before .before .before .before .before .before .args in
-        let left : a .left .kind ≡ truthsKind = omega arith in
-        let right : a .right .kind ≡ truthsKind = sym (c .before .before .before .if1 .taken) ∙ left in
-        λ s l. (made s l .0 ∙ rw (left, right), made s l .1))
+    let a = c .before .before .before .before .before .before .args in
+    let left : a .left .kind ≡ truthsKind = omega arith in
+    let right : a .right .kind ≡ truthsKind = sym (c .before .before .before .if1 .taken) ∙ left in
+    λ s l. (made s l .0 ∙ rw (left, right), made s l .1))
     (λ c. let made = c .nothing .ensures in
-        let k = c .before .before .before .before in
-        let a = k .args in
-        λ s l. (
-          rw (made .0) (mixed-kinds (a .o) (a .left .kind) (a .right .kind) (integerIn (a .left) s) (integerIn (a .right) s)
-              (has (a .left .truths) s) (has (a .right .truths) s) (c .before .if1 .left) (k .pre .1) (k .pre .2)),
-          rw (made .1 s) (omega arith),
-        )))
+    let k = c .before .before .before .before in
+    let a = k .args in
+    λ s l. (
+      rw (made .0) (mixed-kinds (a .o) (a .left .kind) (a .right .kind) (integerIn (a .left) s) (integerIn (a .right) s)
+          (has (a .left .truths) s) (has (a .right .truths) s) (c .before .if1 .left) (k .pre .1) (k .pre .2)),
+      rw (made .1 s) (omega arith),
+    )))

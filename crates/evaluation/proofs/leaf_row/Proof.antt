@@ -22,20 +22,20 @@ leaf-row-spec =
     tie.close
     (tie.spec (λ c κs. search needs) (λ c κs. search needs)
     (λ c a b. let s = c .before .before .before .before in
-        let made = c .integers-of .ensures in
-        let value = c .before .signed-of in
-        integer-row (s .args .n) (machineIn (s .args .head)) (s .args .term) (c .integers-of .result) a b (most s) (c .before .before .if1 .taken) (s .pre .2)
-        (made .0, made .1 ∙ ap (λ z. replicate capacity z) (toZ-ofZ {w = w64} {z = value .result} (sfits-of (value .ok)) ∙ value .ensures)))
+    let made = c .integers-of .ensures in
+    let value = c .before .signed-of in
+    integer-row (s .args .n) (machineIn (s .args .head)) (s .args .term) (c .integers-of .result) a b (most s) (c .before .before .if1 .taken) (s .pre .2)
+    (made .0, made .1 ∙ ap (λ z. replicate capacity z) (toZ-ofZ {w = w64} {z = value .result} (sfits-of (value .ok)) ∙ value .ensures)))
     (λ c κs. search needs) (λ c κs. search needs)
     (λ c a b. let s = c .before .before .before .before .before .before .before in
-        truth-row (s .args .n) (machineIn (s .args .head)) (s .args .term) (c .truths-of .result) a b (c .before .always .result) (most s)
-        (c .before .before .before .if2 .taken) (c .before .always .ensures) (c .truths-of .ensures))
+    truth-row (s .args .n) (machineIn (s .args .head)) (s .args .term) (c .truths-of .result) a b (c .before .always .result) (most s)
+    (c .before .before .before .if2 .taken) (c .before .always .ensures) (c .truths-of .ensures))
     (λ c κs. search needs)
     (λ c κs. let known = small _ (ap isSmall (c .variable-of .ensures) ∙ variable-small _ _) in
-        (most (c .before .before .before .before .before), known .weighs, known .sized))
+    (most (c .before .before .before .before .before), known .weighs, known .sized))
     (λ c κs. search needs)
     (λ c a b. let s = c .before .before .before .before .before .before .before in
-        let is : s .args .term .tag ≡ 2 = omega (arith, s .pre, c .before .before .before .if2 .left, c .before .before .before .before .before .if1 .left) in
-        variable-row (s .args .n) (machineIn (s .args .head)) (s .args .term) (c .integers-of2 .result) a b (c .before .variable-row .result) is
-        (variable-values _ _ _ _ (c .before .variable-row .result) (c .before .before .variable-of .ensures) (s .pre .0) (c .before .variable-row .ensures))
-        (c .integers-of2 .ensures)))
+    let is : s .args .term .tag ≡ 2 = omega (arith, s .pre, c .before .before .before .if2 .left, c .before .before .before .before .before .if1 .left) in
+    variable-row (s .args .n) (machineIn (s .args .head)) (s .args .term) (c .integers-of2 .result) a b (c .before .variable-row .result) is
+    (variable-values _ _ _ _ (c .before .variable-row .result) (c .before .before .variable-of .ensures) (s .pre .0) (c .before .variable-row .ensures))
+    (c .integers-of2 .ensures)))

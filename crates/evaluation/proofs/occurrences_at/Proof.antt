@@ -14,6 +14,6 @@ occurrences-at-spec =
     tie.close
     (tie.spec
     (λ c. let a = c .before .before .args in
-        let e = exprIn (a .exprs .now) (a .expr) in
-        sym (ap (λ m. occurrences (inMask m) e) (c .if1 .taken) ∙ none-occur e))
+    let e = exprIn (a .exprs .now) (a .expr) in
+    sym (ap (λ m. occurrences (inMask m) e) (c .if1 .taken) ∙ none-occur e))
     (λ c κs. search needs) (λ c. c .occurrences-walk .ensures .0))

@@ -20,5 +20,5 @@ occurs-in-spec =
     tie.close
     (tie.spec
     (λ c. let a = c .before .args in
-        rw (div-eq-of-lt {n = a .mask} {m = 2 ^ a .v} (omega (arith, pow-mono {i = 32} {j = a .v} (c .if1 .taken)))))
+    rw (div-eq-of-lt {n = a .mask} {m = 2 ^ a .v} (omega (arith, pow-mono {i = 32} {j = a .v} (c .if1 .taken)))))
     (λ c. search needs) (λ c. binary _ (omega arith)))

@@ -14,12 +14,12 @@ of-integers-spec =
     tie.close
     (tie.spec (λ c κs. search needs) (λ c κs. search needs) (λ c κs. search needs) (λ c κs. search needs) (λ c κs. search needs)
     (λ c. let made = c .integers-of .ensures in
-        λ s l. rw (made .0, made .1) (c .before .sum-row .ensures s l))
+    λ s l. rw (made .0, made .1) (c .before .sum-row .ensures s l))
     (λ c. let made = c .truths-of .ensures in
-        λ s l. (rw (made .0, made .1) (c .before .compared .ensures s l), rw (made .2 s) (omega arith)))
+    λ s l. (rw (made .0, made .1) (c .before .compared .ensures s l), rw (made .2 s) (omega arith)))
     (λ c. let made = c .nothing .ensures in
-        let a = c .before .before .before .args in
-        λ s l. (
-          rw (made .0) (sym (List·getD-eq-default (ofIntegers (integerIn (a .left) s) (integerIn (a .right) s)) none {n = a .o} (omega arith))),
-          rw (made .1 s) (omega arith),
-        )))
+    let a = c .before .before .before .args in
+    λ s l. (
+      rw (made .0) (sym (List·getD-eq-default (ofIntegers (integerIn (a .left) s) (integerIn (a .right) s)) none {n = a .o} (omega arith))),
+      rw (made .1 s) (omega arith),
+    )))

@@ -26,9 +26,9 @@ of-truths-spec =
     tie.close
     (tie.spec (λ c κs. search needs) (λ c κs. search needs) (λ c κs. search needs) (λ c κs. search needs) (λ c κs. search needs)
     (λ c. let made = c .truths-of .ensures in
-        λ s l. (rw (made .0, made .1, c .before .before .match .keys1) (ap (λ b. some (truth b)) (c .before .meet .ensures s)), rw (made .2 s) (omega arith)))
+    λ s l. (rw (made .0, made .1, c .before .before .match .keys1) (ap (λ b. some (truth b)) (c .before .meet .ensures s)), rw (made .2 s) (omega arith)))
     (λ c. let made = c .truths-of2 .ensures in
-        λ s l. (rw (made .0, made .1, c .before .before .match .keys2) (ap (λ b. some (truth b)) (c .before .join .ensures s)), rw (made .2 s) (omega arith)))
+    λ s l. (rw (made .0, made .1, c .before .before .match .keys2) (ap (λ b. some (truth b)) (c .before .join .ensures s)), rw (made .2 s) (omega arith)))
     (λ c. let a = c .before .before .before .before .args in
-        let made = c .nothing .ensures in
-        λ s l. (rw (made .0) (sym (no-row (has (a .left .truths) s) (has (a .right .truths) s) (a .o) (c .before .match .rest .0 .1) (c .before .match .rest .1))), rw (made .1 s) (omega arith))))
+    let made = c .nothing .ensures in
+    λ s l. (rw (made .0) (sym (no-row (has (a .left .truths) s) (has (a .right .truths) s) (a .o) (c .before .match .rest .0 .1) (c .before .match .rest .1))), rw (made .1 s) (omega arith))))

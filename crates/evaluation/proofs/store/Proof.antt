@@ -41,11 +41,11 @@ store-spec =
     tie.close
     (tie.spec
     (λ c. let x = c .args .x in
-        rw (held c) (tt, fits-below {n = capacity} tt (omega (arith, small x (c .pre .0), mod-lt (c .args .s / x .weight) (small x (c .pre .0) .sized)))))
+    rw (held c) (tt, fits-below {n = capacity} tt (omega (arith, small x (c .pre .0), mod-lt (c .args .s / x .weight) (small x (c .pre .0) .sized)))))
     (λ c. rw (held (c .before)) (omega (arith, taken (c .before .args .x) (c .before .args .s))))
     (λ c. rw (held (c .before)) (taken (c .before .args .x) (c .before .args .s)))
     (λ c κs. let a = c .before in
-        let known = small (a .args .x) (a .pre .0) in
-        (known .sized, known .short, rw (toZ-ofZ (a .fits .z)) (a .pre .3)))
+    let known = small (a .args .x) (a .pre .0) in
+    (known .sized, known .short, rw (toZ-ofZ (a .fits .z)) (a .pre .3)))
     (λ c. omega (arith, added c)) (λ c. omega (arith, added c))
     (λ c. let a = c .before .before .before in rw (held a, c .before .wrapped .ensures, toZ-ofZ (a .fits .z))))

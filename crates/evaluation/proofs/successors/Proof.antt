@@ -85,43 +85,43 @@ successors-spec =
     tie.close
     (tie.spec Inv-loop μ-loop (λ c κs. search needs)
     (λ c. let known = c .before .before .values-at .ensures in
-        let none = rows-none (λ s t. false) .rest in
-        filled _ _ _ _ known _ _ (λ s l t. none s zero-le t ∙ nowhere _ _ _ _ known _ (c .if1 .taken) s l t) (λ s l. none s zero-le))
+    let none = rows-none (λ s t. false) .rest in
+    filled _ _ _ _ known _ _ (λ s l t. none s zero-le t ∙ nowhere _ _ _ _ known _ (c .if1 .taken) s l t) (λ s l. none s zero-le))
     (λ c κs. search needs) (λ c κs. let known = small _ (small-variable c) in (known .few, known .weighs, known .sized))
     (λ c. (omega arith, rows-none _)) (λ c. search needs) (λ c. search needs)
     (λ c. omega (arith, small _ (small-variable (c .before .before .before)))) (λ c. search needs) (λ c. search needs)
     (λ c. omega (arith, small _ (small-variable (c .before .before .before .before))))
     (λ c κs. let l = c .before .before .before in
-        let s = l .loop .s in
-        let x = l .before .before .variable-of in
-        let present = l .before .variable-row in
-        let row = l .before .before .before .before .before .before .values-at in
-        let all : x .result .states ≡ machineIn (l .before .before .before .before .before .before .before .before .args .head) .states
-        = ap (λ y. y .states) (x .ensures) ∙ variable-states _ _ in
-        let h = small-variable (l .before .before) in (
-          h,
-          omega (arith, small _ h),
-          toZ-ofZ {w = w64} {z = getD (present .result) s (pos 0)} (sfits-of (c .before .store-arg .given)) ∙ present .ensures s (omega arith),
-          rw (toZ-ofZ {w = w64} {z = getD (row .result .integers) s (pos 0)} (sfits-of (c .store-arg2 .given)))
-              (row .ensures .small s (rw (← all) (omega arith))),
-        ))
+    let s = l .loop .s in
+    let x = l .before .before .variable-of in
+    let present = l .before .variable-row in
+    let row = l .before .before .before .before .before .before .values-at in
+    let all : x .result .states ≡ machineIn (l .before .before .before .before .before .before .before .before .args .head) .states
+    = ap (λ y. y .states) (x .ensures) ∙ variable-states _ _ in
+    let h = small-variable (l .before .before) in (
+      h,
+      omega (arith, small _ h),
+      toZ-ofZ {w = w64} {z = getD (present .result) s (pos 0)} (sfits-of (c .before .store-arg .given)) ∙ present .ensures s (omega arith),
+      rw (toZ-ofZ {w = w64} {z = getD (row .result .integers) s (pos 0)} (sfits-of (c .store-arg2 .given)))
+          (row .ensures .small s (rw (← all) (omega arith))),
+    ))
     (λ c. search needs) (λ c. search needs) (λ c. search needs) (λ c κs. search needs) (λ c. search needs) (λ c. search needs)
     (λ c. let d = c .before .before .before .before in
-        let l = d .before .before .before .before in
-        let x = l .before .before .variable-of .result in
-        let integers = l .before .before .before .before .before .before .values-at .result .integers in
-        let same = toZ-ofZ {w = w64} {z = getD integers (l .loop .s) (pos 0)} (sfits-of (d .before .store-arg2 .given)) in (
-          omega arith,
-          rw (c .before .put-entry .ensures)
-              (rows-more (ends x integers) (l .loop .s) _ _ (omega (arith, small x (small-variable (l .before .before))))
-              (λ t. c .before .before .single .ensures t ∙ ap (λ e. ltb t capacity && eqb e t) (d .store .ensures ∙ ap (storedBy x (l .loop .s)) same))
-              (l .loop .inv .1)),
-        ))
+    let l = d .before .before .before .before in
+    let x = l .before .before .variable-of .result in
+    let integers = l .before .before .before .before .before .before .values-at .result .integers in
+    let same = toZ-ofZ {w = w64} {z = getD integers (l .loop .s) (pos 0)} (sfits-of (d .before .store-arg2 .given)) in (
+      omega arith,
+      rw (c .before .put-entry .ensures)
+          (rows-more (ends x integers) (l .loop .s) _ _ (omega (arith, small x (small-variable (l .before .before))))
+          (λ t. c .before .before .single .ensures t ∙ ap (λ e. ltb t capacity && eqb e t) (d .store .ensures ∙ ap (storedBy x (l .loop .s)) same))
+          (l .loop .inv .1)),
+    ))
     (λ c. let l = c .before .loop in
-        let x = c .before .before .before .variable-of in
-        let k = c .before .before .before .before .before in
-        let known = k .before .before .values-at .ensures in
-        let head = k .before .before .before .before .args .head in
-        let all : machineIn head .states ≡ l .s = sym (variable-states head _) ∙ ap (λ y. y .states) (sym (x .ensures)) ∙ omega arith in
-        filled _ _ _ _ known _ (l .rows)
-        (λ s h t. l .inv .1 .hold s (omega arith) t ∙ stores _ _ _ _ known _ (k .if1 .left) _ (x .ensures) s h t) (λ s h. l .inv .1 .rest s (omega arith))))
+    let x = c .before .before .before .variable-of in
+    let k = c .before .before .before .before .before in
+    let known = k .before .before .values-at .ensures in
+    let head = k .before .before .before .before .args .head in
+    let all : machineIn head .states ≡ l .s = sym (variable-states head _) ∙ ap (λ y. y .states) (sym (x .ensures)) ∙ omega arith in
+    filled _ _ _ _ known _ (l .rows)
+    (λ s h t. l .inv .1 .hold s (omega arith) t ∙ stores _ _ _ _ known _ (k .if1 .left) _ (x .ensures) s h t) (λ s h. l .inv .1 .rest s (omega arith))))

@@ -64,12 +64,12 @@ truths-at-spec =
     tie.close
     (tie.spec (λ c κs. search needs) (λ c κs. search needs)
     (λ c. let none = none-true _ _ _ _ (c .before .before .before .values-at .ensures) (c .before .if1 .taken) in
-        (λ s. c .empty .ensures s ∙ none true s, λ s. c .empty .ensures s ∙ none false s))
+    (λ s. c .empty .ensures s ∙ none true s, λ s. c .empty .ensures s ∙ none false s))
     (λ c κs. search needs) (λ c κs. search needs) (λ c κs. search needs) (λ c κs. search needs)
     (λ c. let l = c .before .before .before in
-        let k = l .before .before in
-        let known = k .before .before .values-at in
-        let all = l .before .states-in .ensures in (
-          λ s. rw (c .before .meet .ensures s, l .below .ensures s) (held _ _ _ _ (known .ensures) (k .if1 .left) s _ all),
-          λ s. rw (c .narrow .ensures s, l .below .ensures s) (failed _ _ _ _ (known .ensures) (k .if1 .left) s _ all),
-        )))
+    let k = l .before .before in
+    let known = k .before .before .values-at in
+    let all = l .before .states-in .ensures in (
+      λ s. rw (c .before .meet .ensures s, l .below .ensures s) (held _ _ _ _ (known .ensures) (k .if1 .left) s _ all),
+      λ s. rw (c .narrow .ensures s, l .below .ensures s) (failed _ _ _ _ (known .ensures) (k .if1 .left) s _ all),
+    )))

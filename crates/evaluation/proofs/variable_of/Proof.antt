@@ -11,5 +11,5 @@ variable-of-spec =
     tie.close
     (tie.spec (λ c κs. search needs) (λ c κs. sym (c .before .is-head .ensures) ∙ c .if1 .taken) (λ c κs. search needs)
     (λ c. let k = c .before .before in
-        rw (c .before .weight-of .ensures, c .size-of .ensures, sym (k .before .is-head .ensures) ∙ k .if1 .taken))
+    rw (c .before .weight-of .ensures, c .size-of .ensures, sym (k .before .is-head .ensures) ∙ k .if1 .taken))
     (λ c. rw (sym (c .before .is-head .ensures) ∙ c .if1 .left)))

@@ -32,8 +32,8 @@ weight-of-spec =
     (λ c. let head = c .before .before .args .head in (omega arith, omega arith, sym (none-later head (head .count) (omega arith))))
     (λ c. search needs) (λ c. search needs) (λ c κs. search needs)
     (λ c. let a = c .before .before .before .before .before .args in
-        let known = known-head (a .head) (c .before .before .before .before .before .pre) in
-        omega (arith, one-more c, known, later-sizes (sizesIn (a .head)) (c .before .before .loop .later - 1) (known .least)))
+    let known = known-head (a .head) (c .before .before .before .before .before .pre) in
+    omega (arith, one-more c, known, later-sizes (sizesIn (a .head)) (c .before .before .loop .later - 1) (known .least)))
     (λ c. search needs) (λ c. (omega arith, omega arith, one-more c))
     (λ c.
-        let done : c .before .loop .later ≡ suc (c .before .before .before .before .args .v) = omega arith in rw done at (c .before .loop .inv .2)))
+    let done : c .before .loop .later ≡ suc (c .before .before .before .before .args .v) = omega arith in rw done at (c .before .loop .inv .2)))

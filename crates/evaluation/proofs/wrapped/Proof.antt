@@ -11,8 +11,8 @@ wrapped-spec =
     tie.close
     (tie.spec (λ c κs. search needs)
     (λ c κs. let start = c .before .before in
-        (start .pre .0, start .pre .1, ltb-true _ _ (sym (c .before .is-short .ensures) ∙ c .if1 .taken)))
+    (start .pre .0, start .pre .1, ltb-true _ _ (sym (c .before .is-short .ensures) ∙ c .if1 .taken)))
     (λ c κs. let start = c .before .before in
-        rw (toZ-ofZ (start .fits .z)) (start .pre))
+    rw (toZ-ofZ (start .fits .z)) (start .pre))
     (λ c. rw (toZ-ofZ (c .before .before .before .fits .z)) at (c .wrapped-short .ensures))
     (λ c. rw (toZ-ofZ (c .before .before .before .fits .z)) at (c .wrapped-long .ensures)))

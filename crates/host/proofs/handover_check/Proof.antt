@@ -31,9 +31,17 @@ returns c =
     let v = answer (a .handler .now) (a .proof .now) rows (length (a .work .now)) .verdict in
     let checked : k .check .result ≡ v = told k .0 in
     let number = c .code-of .ensures ∙ ap codeOf checked in
-    let verdict : decoded (c .code-of .result) ≡ withoutStates v = ap decoded number ∙ answer-decoded _ _ _ _ in
-    (number, (verdict, (told k .1 .0, subst (AcceptedIsSound (a .handler .now) (a .proof .now) rows) (sym verdict)
-    (accepted-alike _ _ _ v (subst (AcceptedIsSound (a .handler .now) (a .proof .now) rows) checked (told k .1 .1))))))
+    let verdict : decoded (c .code-of .result) ≡ withoutStates v = ap decoded number ∙ answer-decoded _ _ _ _ in (
+      number,
+      (
+        verdict,
+        (
+          told k .1 .0,
+          subst (AcceptedIsSound (a .handler .now) (a .proof .now) rows) (sym verdict)
+              (accepted-alike _ _ _ v (subst (AcceptedIsSound (a .handler .now) (a .proof .now) rows) checked (told k .1 .1))),
+        ),
+      ),
+    )
 
 pub handover-check-spec : {M : Type 1} → statement M
 handover-check-spec = tie.close (tie.spec (λ c κs. search needs) (λ c κs. search needs) (λ c κs. search needs) (λ c. search needs) returns)

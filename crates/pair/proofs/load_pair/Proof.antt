@@ -48,10 +48,12 @@ returns-3 c =
     let x = f .held in
     let states-are = ap (λ y. y .head .states) (r .read-files .ensures .0) ∙ ap (λ y. pairFile y .head .states) (f .read) in (
       r .read-files .ensures .0,
-      (r .read-files .ensures .1,
-      rw (f .read) (c .before .before .fill-by .ensures
-          ∙ (λ j. written (wordLimited (a .mode .arrangement) (a .proof .now) (states-are j) (f .summary j .proof .sets) (f .summary j .proof .relations)) (a .work .now))
-          ∙ in-limits (a .handler .now) (a .proof .now) x (read-holds (a .handler .now) (a .proof .now) x (f .read)) (a .mode .arrangement) (a .work .now))),
+      (
+        r .read-files .ensures .1,
+        rw (f .read) (c .before .before .fill-by .ensures
+            ∙ (λ j. written (wordLimited (a .mode .arrangement) (a .proof .now) (states-are j) (f .summary j .proof .sets) (f .summary j .proof .relations)) (a .work .now))
+            ∙ in-limits (a .handler .now) (a .proof .now) x (read-holds (a .handler .now) (a .proof .now) x (f .read)) (a .mode .arrangement) (a .work .now)),
+      ),
     )
 
 pub load-pair-spec : {M : Type 1} → statement M

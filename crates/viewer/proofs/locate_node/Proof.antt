@@ -14,7 +14,7 @@ locate-node-spec =
     (λ c. search needs) (λ c κs. search needs) (λ c κs. search needs)
     (λ c. search needs) (λ c κs. search needs) (λ c. search needs) (λ c κs. search needs) (λ c. search needs) (λ c κs. search needs)
     (λ c. let t = c .before .before in
-      rw (sym (t .before .before .place-of .ensures) ∙ t .enum-told .given .1, ← c .before .node-byte .ensures) (c .from .ensures))
+    rw (sym (t .before .before .place-of .ensures) ∙ t .enum-told .given .1, ← c .before .node-byte .ensures) (c .from .ensures))
     (λ c. let t = c .before in rw (sym (t .before .before .place-of .ensures) ∙ t .enum-told2 .given .1) (c .nothing-of .ensures))
     (λ c. let t = c .before in rw (sym (t .before .before .place-of .ensures) ∙ t .enum-told3 .given .1) (c .nothing-of2 .ensures))
     (λ c. let t = c .before in rw (sym (t .before .before .place-of .ensures) ∙ t .enum-told4 .given .1) (c .nothing-of3 .ensures)))

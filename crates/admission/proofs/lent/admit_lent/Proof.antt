@@ -41,9 +41,9 @@ admit-lent-spec =
     (λ c κs done. well-whole _ (admitted-well _ _ _ _ (sym (ap (λ o. isDone (o .answer)) (outcome (c .before .before .before))) ∙ done)))
     (λ c. search needs) (λ c. search needs)
     (λ c. let answered = c .before .before .answered .ensures in
-      let k = c .before .before .before .before .before .before in
-      let read = k .before .before .frame-in .ensures in
-      let o = outcome k in
-      let number = answered .0 ∙ ap (λ o. codeOf (asVerdict (o .answer))) o in
-      let verdict = ap decoded number ∙ decoded-back _ (admit-coded _ _ _ _ _ _ .0) in
-      (number, (verdict, (rw (← o) (answered .1), (rw (← read) (k .admit .ensures .1 .0), served (c .before .before)))))))
+    let k = c .before .before .before .before .before .before in
+    let read = k .before .before .frame-in .ensures in
+    let o = outcome k in
+    let number = answered .0 ∙ ap (λ o. codeOf (asVerdict (o .answer))) o in
+    let verdict = ap decoded number ∙ decoded-back _ (admit-coded _ _ _ _ _ _ .0) in
+    (number, (verdict, (rw (← o) (answered .1), (rw (← read) (k .admit .ensures .1 .0), served (c .before .before)))))))

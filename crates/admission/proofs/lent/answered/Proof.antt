@@ -11,13 +11,13 @@ pub answered-spec : {M : Type 1} → statement M
 answered-spec =
     tie.close (tie.spec (λ c κs. search needs)
     (λ c κs. let d = c .before .before .before in
-      d .before .before .pre (sym (d .is-done .ensures) ∙ c .before .before .if1 .taken))
+    d .before .before .pre (sym (d .is-done .ensures) ∙ c .before .before .if1 .taken))
     (λ c κs. search needs) (λ c κs. search needs)
     (λ c. ⊎-elim (λ w. ap length (w .6) ∙ w .4 .given) (λ w. ap length (w .1)) (c .before .before .if1 .came))
     (λ c. let d = c .before .before .before in (
-        c .code-of .ensures ∙ ap codeOf (c .before .verdict-of .ensures),
-        ⊎-elim
-            (λ w. rw (sym (d .is-done .ensures) ∙ w .0 .taken) (w .6 ∙ w .3 .ensures))
-            (λ w. rw (sym (d .is-done .ensures) ∙ w .0 .left) (w .1))
-            (c .before .before .if1 .came),
-      )))
+      c .code-of .ensures ∙ ap codeOf (c .before .verdict-of .ensures),
+      ⊎-elim
+          (λ w. rw (sym (d .is-done .ensures) ∙ w .0 .taken) (w .6 ∙ w .3 .ensures))
+          (λ w. rw (sym (d .is-done .ensures) ∙ w .0 .left) (w .1))
+          (c .before .before .if1 .came),
+    )))

@@ -12,9 +12,9 @@ frame-in-spec =
     tie.close
     (tie.spec (λ c κs. search needs) (λ c κs. search needs) (λ c κs. search needs)
     (λ c. let n = c .before .before in
-      rw (eq-eqb (length (n .before .before .before .args .numbers .now)) 50 (c .before .if1 .taken))
-      (rw (n .before .slots-in .ensures, n .number-at .ensures, c .number-at2 .ensures)))
+    rw (eq-eqb (length (n .before .before .before .args .numbers .now)) 50 (c .before .if1 .taken))
+    (rw (n .before .slots-in .ensures, n .number-at .ensures, c .number-at2 .ensures)))
     (λ c κs. search needs)
     (λ c. let n = c .before .before in
-      rw (ne-eqb (length (n .before .before .before .args .numbers .now)) 50 (c .before .if1 .left))
-      (rw (n .before .slots-in .ensures, c .in-full .ensures, n .number-at .ensures))))
+    rw (ne-eqb (length (n .before .before .before .args .numbers .now)) 50 (c .before .if1 .left))
+    (rw (n .before .slots-in .ensures, c .in-full .ensures, n .number-at .ensures))))

@@ -30,19 +30,19 @@ put-frame-spec =
     tie.close
     (tie.spec Inv-loop μ-loop (λ c. search needs) (λ c. simp length-set (omega arith))
     (λ c. let a = c .before .args in
-      (omega arith, simp length-set (omega arith), take-sets (a .t2 .length ∷ a .t2 .count ∷ []) (a .numbers .now) 0 (omega arith)))
+    (omega arith, simp length-set (omega arith), take-sets (a .t2 .length ∷ a .t2 .count ∷ []) (a .numbers .now) 0 (omega arith)))
     (λ c. search needs) (λ c. search needs)
     (λ c κs. search needs) (λ c. search needs) (λ c. search needs)
     (λ c. let l = c .before .before .before .before .before .before in
-      let long = all-slots (l .before .before) in (
-        omega arith,
-        c .before .numbers .given ∙ l .loop .inv .1,
-        rw (c .before .before .put-slot .ensures)
-            (numbers-next _ _ (l .before .before .args .t2 .slots) (l .loop .numbers) (l .loop .i) (omega arith) (omega arith) (l .loop .inv .2)),
-      ))
+    let long = all-slots (l .before .before) in (
+      omega arith,
+      c .before .numbers .given ∙ l .loop .inv .1,
+      rw (c .before .before .put-slot .ensures)
+          (numbers-next _ _ (l .before .before .args .t2 .slots) (l .loop .numbers) (l .loop .i) (omega arith) (omega arith) (l .loop .inv .2)),
+    ))
     (λ c. omega arith)
     (λ c. let l = c .before .loop in
-      let a = c .before .before .before .args in
-      let all : l .i ≡ places = omega arith in
-      let long = all-slots (c .before .before .before) in
-      sym (take-all 50 (l .numbers) (omega arith)) ∙ (rw all at (l .inv .2)) ∙ rw (take-all 16 (a .t2 .slots) (omega arith))))
+    let a = c .before .before .before .args in
+    let all : l .i ≡ places = omega arith in
+    let long = all-slots (c .before .before .before) in
+    sym (take-all 50 (l .numbers) (omega arith)) ∙ (rw all at (l .inv .2)) ∙ rw (take-all 16 (a .t2 .slots) (omega arith))))

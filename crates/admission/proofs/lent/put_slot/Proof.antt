@@ -16,5 +16,5 @@ put-slot-spec =
     (tie.spec (λ c. search needs) (λ c. search needs) (λ c. search needs) (λ c. search needs) (λ c. search needs) (λ c. search needs)
     (λ c. simp length-set (omega arith)) (λ c. search needs) (λ c. search needs) (λ c. simp length-set (omega arith)) (λ c. search needs)
     (λ c. let at = 2 + 3 * c .args .i in
-      let two : at + 2 ≡ suc (suc at) = omega arith in
-      rw (add-one, two)))
+    let two : at + 2 ≡ suc (suc at) = omega arith in
+    rw (add-one, two)))

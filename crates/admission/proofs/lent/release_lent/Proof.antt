@@ -21,6 +21,6 @@ release-lent-spec =
     (λ c κs done. well-whole _ (released-well _ _ (sym (ap (λ o. isDone (o .answer)) (outcome (c .before))) ∙ done)))
     (λ c. search needs)
     (λ c. let answered = c .before .before .answered .ensures in
-      let o = outcome (c .before .before .before .before) in
-      let number = answered .0 ∙ ap (λ o. codeOf (asVerdict (o .answer))) o in
-      (number, (ap decoded number ∙ decoded-back _ (released-coded _ _ .0), rw (← o) (answered .1)))))
+    let o = outcome (c .before .before .before .before) in
+    let number = answered .0 ∙ ap (λ o. codeOf (asVerdict (o .answer))) o in
+    (number, (ap decoded number ∙ decoded-back _ (released-coded _ _ .0), rw (← o) (answered .1)))))

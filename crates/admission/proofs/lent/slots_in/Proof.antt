@@ -24,10 +24,10 @@ slots-in-spec =
     (tie.spec Inv-loop μ-loop (λ c. (omega arith, refl, refl)) (λ c κs. search needs) (λ c. search needs) (λ c. search needs) (λ c. search needs)
     (λ c. search needs)
     (λ c. let l = c .before .before .loop in (
-        omega arith,
-        length-set (l .slots) (l .i) (c .slot-in .result) ∙ l .inv .1,
-        rw (add-one, take-suc-set (l .slots) (l .i) _ (omega arith), l .inv .2, c .slot-in .ensures),
-      ))
+      omega arith,
+      length-set (l .slots) (l .i) (c .slot-in .result) ∙ l .inv .1,
+      rw (add-one, take-suc-set (l .slots) (l .i) _ (omega arith), l .inv .2, c .slot-in .ensures),
+    ))
     (λ c. let l = c .before .loop in
-      let all : l .i ≡ places = omega arith in
-      sym (take-all places (l .slots) (omega arith)) ∙ rw all at (l .inv .2)))
+    let all : l .i ≡ places = omega arith in
+    sym (take-all places (l .slots) (omega arith)) ∙ rw all at (l .inv .2)))

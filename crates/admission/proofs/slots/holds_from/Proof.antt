@@ -39,12 +39,12 @@ holds-from-spec =
     (λ c. (omega arith, refl))
     (λ c. search needs) (λ c. search needs) (λ c. search needs)
     (λ c. let l = c .before .before in
-      let a = l .before .before .before .args in
-      sym (holds-here (a .frame .slots) (l .before .shown .result) (l .loop .i) _ (omega arith) (omega (arith, full (l .before .before .before))) _ (c .if1 .taken)) ∙ left l)
+    let a = l .before .before .before .args in
+    sym (holds-here (a .frame .slots) (l .before .shown .result) (l .loop .i) _ (omega arith) (omega (arith, full (l .before .before .before))) _ (c .if1 .taken)) ∙ left l)
     (λ c. search needs) (λ c. search needs)
     (λ c. let l = c .before .before in
-      let a = l .before .before .before .args in
-      (omega arith, sym (holds-past (a .frame .slots) (l .before .shown .result) (l .loop .i) _ (omega arith) (omega (arith, full (l .before .before .before))) _ (c .if1 .left)) ∙ l .loop .inv .1))
+    let a = l .before .before .before .args in
+    (omega arith, sym (holds-past (a .frame .slots) (l .before .shown .result) (l .loop .i) _ (omega arith) (omega (arith, full (l .before .before .before))) _ (c .if1 .left)) ∙ l .loop .inv .1))
     (λ c. let l = c .before in
-      let a = l .before .before .before .args in
-      ap (holds (a .place)) (sym (none-left (a .frame .slots) (l .before .shown .result) (l .loop .i) (omega arith))) ∙ left l))
+    let a = l .before .before .before .args in
+    ap (holds (a .place)) (sym (none-left (a .frame .slots) (l .before .shown .result) (l .loop .i) (omega arith))) ∙ left l))

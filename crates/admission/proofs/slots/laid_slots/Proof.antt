@@ -81,18 +81,18 @@ laid-slots-spec =
     (λ c. wrong (c .before .before .before .before .before) (laid-twice _ _ _ _ (sym (c .before .holds-from .ensures) ∙ c .if2 .taken)))
     (λ c. omega (arith, room (c .before .before .before))) (λ c. search needs) (λ c. search needs)
     (λ c. let one = c .before .before .before in
-      let i = one .before .before .before in
-      let l = i .before in
-      let a = l .before .before .args in
-      let alone = sym (c .before .before .holds-from .ensures) ∙ c .before .if2 .left in (
-        omega arith,
-        room one,
-        omega (arith, ap total (next i), l .loop .inv .2),
-        sym (laid-on _ _ _ _ (right one) alone) ∙ ap (laidWithin (a .frame .length) (l .loop .tick)) (sym (next i)) ∙ l .loop .inv .3,
-      ))
+    let i = one .before .before .before in
+    let l = i .before in
+    let a = l .before .before .args in
+    let alone = sym (c .before .before .holds-from .ensures) ∙ c .before .if2 .left in (
+      omega arith,
+      room one,
+      omega (arith, ap total (next i), l .loop .inv .2),
+      sym (laid-on _ _ _ _ (right one) alone) ∙ ap (laidWithin (a .frame .length) (l .loop .tick)) (sym (next i)) ∙ l .loop .inv .3,
+    ))
     (λ c. let l = c .before in
-      let a = l .before .before .args in
-      let none = none-left (a .frame .slots) (a .frame .count) (l .loop .i) (omega arith) in
-      ap₂ laidFound
-      (sym (laid-none (a .frame .length) (l .loop .tick) (search needs)) ∙ ap (laidWithin (a .frame .length) (l .loop .tick)) (sym none) ∙ l .loop .inv .3)
-      (omega (arith, l .loop .inv .2, ap total none))))
+    let a = l .before .before .args in
+    let none = none-left (a .frame .slots) (a .frame .count) (l .loop .i) (omega arith) in
+    ap₂ laidFound
+    (sym (laid-none (a .frame .length) (l .loop .tick) (search needs)) ∙ ap (laidWithin (a .frame .length) (l .loop .tick)) (sym none) ∙ l .loop .inv .3)
+    (omega (arith, l .loop .inv .2, ap total none))))

@@ -35,20 +35,20 @@ laid-without-spec =
     (λ c. (omega arith, rw (c .no-slots .ensures) refl, refl))
     (λ c. search needs) (λ c. search needs) (λ c. search needs)
     (λ c κs. let l = c .before .before in
-      let a = l .before .before .before .args in
-      omega (arith, ap (λ f. f .count) (l .loop .inv .1), few-kept (a .place) (a .frame .slots) (l .loop .i) (there (c .before))))
+    let a = l .before .before .before .args in
+    omega (arith, ap (λ f. f .count) (l .loop .inv .1), few-kept (a .place) (a .frame .slots) (l .loop .i) (there (c .before))))
     (λ c κs. let l = c .before .before .before in
-      let a = l .before .before .before .args in
-      omega (arith, l .loop .inv .2, room-next (a .place) (a .frame .slots) (l .loop .i) (there (c .before .before)) (a .frame .count) (omega arith)))
+    let a = l .before .before .before .args in
+    omega (arith, l .loop .inv .2, room-next (a .place) (a .frame .slots) (l .loop .i) (there (c .before .before)) (a .frame .count) (omega arith)))
     (λ c. search needs) (λ c. search needs)
     (λ c. let l = c .before .before .before .before in
-      let a = l .before .before .before .args in
-      let in-slots = there (c .before .before .before) in (
-        omega arith,
-        c .before .with-other .ensures ∙ laid-next (a .place) (a .frame .slots) (l .loop .i) in-slots _ _ _ (l .loop .inv .1) (l .loop .inv .2) (omega arith),
-        c .tick-after .ensures ∙ total-next (a .place) (a .frame .slots) (l .loop .i) in-slots _ (l .loop .inv .2),
-      ))
+    let a = l .before .before .before .args in
+    let in-slots = there (c .before .before .before) in (
+      omega arith,
+      c .before .with-other .ensures ∙ laid-next (a .place) (a .frame .slots) (l .loop .i) in-slots _ _ _ (l .loop .inv .1) (l .loop .inv .2) (omega arith),
+      c .tick-after .ensures ∙ total-next (a .place) (a .frame .slots) (l .loop .i) in-slots _ (l .loop .inv .2),
+    ))
     (λ c. let l = c .before in
-      let a = l .before .before .before .args in
-      let all : l .loop .i ≡ a .frame .count = omega arith in
-      l .loop .inv .1 ∙ ap₂ (λ n k. frameOf n (laidFrom 0 (without (a .place) (take k (a .frame .slots))))) (ap (λ f. f .length) (l .before .no-slots .ensures)) all))
+    let a = l .before .before .before .args in
+    let all : l .loop .i ≡ a .frame .count = omega arith in
+    l .loop .inv .1 ∙ ap₂ (λ n k. frameOf n (laidFrom 0 (without (a .place) (take k (a .frame .slots))))) (ap (λ f. f .length) (l .before .no-slots .ensures)) all))

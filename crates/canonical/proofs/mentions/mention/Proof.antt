@@ -38,12 +38,12 @@ mention-spec =
     (tie.spec
     (λ c κs. omega (arith, listing (c .before .before) .length-enough, listing (c .before .before) .count-most)) (λ c. search needs)
     (λ c. let start = c .before .before .before .before in
-      let a = start .args in
-      let under : placeIn (take (a .count) (a .order .now)) (a .x) < a .count = rw (← c .before .place-in .ensures) (c .if1 .taken) in
-      let there = is-there (a .order .now) (a .x) (a .count) (omega (arith, listing start .length-enough, listing start .count-most)) under in
-      record { listed = sym (mentioned-there _ _ there); most = listing start .count-most })
+    let a = start .args in
+    let under : placeIn (take (a .count) (a .order .now)) (a .x) < a .count = rw (← c .before .place-in .ensures) (c .if1 .taken) in
+    let there = is-there (a .order .now) (a .x) (a .count) (omega (arith, listing start .length-enough, listing start .count-most)) under in
+    record { listed = sym (mentioned-there _ _ there); most = listing start .count-most })
     (λ c. search needs)
     inside
     (λ c. omega (arith, free c .1)) (λ c. search needs)
     (λ c. let a = c .before .before .before .before .args in
-      record { listed = put-new (a .order .now) (a .x) (a .count) (inside c) (free c .0); most = omega (arith, free c .1) }))
+    record { listed = put-new (a .order .now) (a .x) (a .count) (inside c) (free c .0); most = omega (arith, free c .1) }))

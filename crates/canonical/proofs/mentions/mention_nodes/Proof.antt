@@ -27,12 +27,12 @@ mention-nodes-spec =
     (λ c κs. c .before .before .before .before .before .before .before .before .before .loop .inv .2 .listing)
     (λ c. search needs) (λ c. search needs)
     (λ c. let node = c .before .before .before .before .before .before .before .before .before .before .node-at .ensures in
-      let l = c .before .before .before .before .before .before .before .before .before .before .before .before .loop in (
-        omega arith,
-        so-far-more setsOf _ _ _ (l .i) _ _ _ _ (omega arith) (l .inv .1) (rw (← node) (c .before .before .before .before .before .before .before .mention-sets .ensures)) (search needs),
-        so-far-more relationsOf _ _ _ (l .i) _ _ _ _ (omega arith) (l .inv .2) (rw (← node) (c .before .before .mention-relations .ensures)) (search needs),
-      ))
+    let l = c .before .before .before .before .before .before .before .before .before .before .before .before .loop in (
+      omega arith,
+      so-far-more setsOf _ _ _ (l .i) _ _ _ _ (omega arith) (l .inv .1) (rw (← node) (c .before .before .before .before .before .before .before .mention-sets .ensures)) (search needs),
+      so-far-more relationsOf _ _ _ (l .i) _ _ _ _ (omega arith) (l .inv .2) (rw (← node) (c .before .before .mention-relations .ensures)) (search needs),
+    ))
     (λ c. c .before .loop .inv .1 .same) (λ c. c .before .loop .inv .2 .same)
     (λ c. let l = c .before .loop in
-      let all : l .i ≡ c .before .before .before .before .before .before .before .args .count = omega arith in
-      rw (← all) (l .inv .1 .after, l .inv .2 .after)))
+    let all : l .i ≡ c .before .before .before .before .before .before .before .args .count = omega arith in
+    rw (← all) (l .inv .1 .after, l .inv .2 .after)))

@@ -28,10 +28,10 @@ names-of-spec =
     (λ c κs. search needs) (λ c κs. search needs)
     (λ c. search needs) (λ c. search needs) (λ c. search needs) (λ c. search needs)
     (λ c. let l = c .before .before .before .loop in
-      let a = c .before .before .before .before .before .args in
-      let place = c .place-in .ensures ∙ ap (placeIn (take (a .count) (a .order .now))) (c .before .name-in .ensures) in (
-        omega arith,
-        length-set (l .names) (l .i) _ ∙ l .inv .1,
-        entry-more (λ k x. x ≡ placeIn (take (a .count) (a .order .now)) (nameIn (a .reps .now) k)) (l .names) (l .i) _ (omega arith) (l .inv .2) place,
-      ))
+    let a = c .before .before .before .before .before .args in
+    let place = c .place-in .ensures ∙ ap (placeIn (take (a .count) (a .order .now))) (c .before .name-in .ensures) in (
+      omega arith,
+      length-set (l .names) (l .i) _ ∙ l .inv .1,
+      entry-more (λ k x. x ≡ placeIn (take (a .count) (a .order .now)) (nameIn (a .reps .now) k)) (l .names) (l .i) _ (omega arith) (l .inv .2) place,
+    ))
     (λ c. λ k under. c .before .loop .inv .2 k (omega arith)))

@@ -35,12 +35,12 @@ number-spec =
     (λ c κs. (inside (c .before .before .before .before .before .before), omega arith, omega arith))
     (λ c. search needs) (λ c κs. search needs) (λ c. search needs) (λ c κs. search needs)
     (λ c. λ d e.
-      let start = c .before .before .before .before .before .before .before .before .before .before .before .before .before .before .before .before .before in
-      let pre = start .pre in
-      let a = start .args in
-      let reps = c .before .before .before .before .before .before .before .before .before .before .before .before .before .before .representatives-of .ensures in
-      let listed = rw (pre .counted, pre .table) at (c .before .before .before .before .before .before .before .before .before .before .mention-nodes .ensures) in
-      let same : pre .d ≡ d = proof-same _ _ _ _ _ (sym (pre .read) ∙ e) in
-      rw (← same)
-      (numbers (a .src .now) (a .n) (a .head .sets) (a .head .relations) (a .head .root) (pre .d) (pre .read) _ _ (reps .0) (reps .1)
-      _ _ _ _ _ _ (listed .0) (listed .1) (search needs) (search needs) _ _ (c .before .before .before .before .names-of .ensures) (c .names-of2 .ensures))))
+    let start = c .before .before .before .before .before .before .before .before .before .before .before .before .before .before .before .before .before in
+    let pre = start .pre in
+    let a = start .args in
+    let reps = c .before .before .before .before .before .before .before .before .before .before .before .before .before .before .representatives-of .ensures in
+    let listed = rw (pre .counted, pre .table) at (c .before .before .before .before .before .before .before .before .before .before .mention-nodes .ensures) in
+    let same : pre .d ≡ d = proof-same _ _ _ _ _ (sym (pre .read) ∙ e) in
+    rw (← same)
+    (numbers (a .src .now) (a .n) (a .head .sets) (a .head .relations) (a .head .root) (pre .d) (pre .read) _ _ (reps .0) (reps .1)
+    _ _ _ _ _ _ (listed .0) (listed .1) (search needs) (search needs) _ _ (c .before .before .before .before .names-of .ensures) (c .names-of2 .ensures))))

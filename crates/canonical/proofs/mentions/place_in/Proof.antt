@@ -27,14 +27,14 @@ place-in-spec =
     (λ c. search needs)
     (λ c. search needs)
     (λ c. let a = c .before .before .before .before .args in
-      let l = c .before .before .before .loop in
-      sym (found-at (a .order .now) (a .x) (l .k) (a .count) (search needs) (search needs) (l .inv .1) (c .if1 .taken)))
+    let l = c .before .before .before .loop in
+    sym (found-at (a .order .now) (a .x) (l .k) (a .count) (search needs) (search needs) (l .inv .1) (c .if1 .taken)))
     (λ c. search needs)
     (λ c. search needs)
     (λ c. let a = c .before .before .before .before .args in
-      let l = c .before .before .before .loop in
-      (omega arith, not-yet (a .order .now) (a .x) (l .k) (omega arith) (l .inv .1) (c .if1 .left)))
+    let l = c .before .before .before .loop in
+    (omega arith, not-yet (a .order .now) (a .x) (l .k) (omega arith) (l .inv .1) (c .if1 .left)))
     (λ c. let a = c .before .before .args in
-      let l = c .before .loop in
-      let all : l .k ≡ a .count = omega arith in
-      sym (nowhere (a .order .now) (a .x) (a .count) (search needs) (rw all at (l .inv .1)))))
+    let l = c .before .loop in
+    let all : l .k ≡ a .count = omega arith in
+    sym (nowhere (a .order .now) (a .x) (a .count) (search needs) (rw all at (l .inv .1)))))

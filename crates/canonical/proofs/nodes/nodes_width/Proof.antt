@@ -42,8 +42,8 @@ nodes-width-spec =
     (λ c. omega (arith, few c, c .before .before .before .loop .inv .2))
     (λ c. search needs) (λ c. search needs)
     (λ c. let l = c .before .before .before in
-      let more = width-more (l .before .before .before .args .nodes .now) (l .loop .i) (omega arith) in
-      (omega arith, omega (arith, l .loop .inv .1, added c, more), omega (arith, few c, l .loop .inv .2)))
+    let more = width-more (l .before .before .before .args .nodes .now) (l .loop .i) (omega arith) in
+    (omega arith, omega (arith, l .loop .inv .1, added c, more), omega (arith, few c, l .loop .inv .2)))
     (λ c. let n = c .before .before in
-      let all : c .before .loop .i ≡ n .node-count .result = omega arith in
-      rw (all, n .node-count .ensures .2) at (c .before .loop .inv .1)))
+    let all : c .before .loop .i ≡ n .node-count .result = omega arith in
+    rw (all, n .node-count .ensures .2) at (c .before .loop .inv .1)))

@@ -23,9 +23,9 @@ renamed-spec =
     (λ c κs. search needs) (λ c. omega (arith, small _ _ _ (c .name-in5 .ensures)))
     (λ c κs. search needs) (λ c. omega (arith, small _ _ _ (c .name-in6 .ensures)))
     (λ c. let w = c in
-      let k = w .before in
-      let q = k .before in
-      let g = q .before in
-      let r = g .before in
-      let p = r .before in
-      rw (p .name-in .ensures, r .name-in2 .ensures, g .name-in3 .ensures, q .name-in4 .ensures, k .name-in5 .ensures, w .name-in6 .ensures)))
+    let k = w .before in
+    let q = k .before in
+    let g = q .before in
+    let r = g .before in
+    let p = r .before in
+    rw (p .name-in .ensures, r .name-in2 .ensures, g .name-in3 .ensures, q .name-in4 .ensures, k .name-in5 .ensures, w .name-in6 .ensures)))

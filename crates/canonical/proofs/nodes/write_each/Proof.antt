@@ -72,23 +72,23 @@ write-each-spec =
     Inv-loop
     μ-loop
     (λ c. let a = c .before .before .args in
-      let renamed = renamedParts (a .sets .now) (a .relations .now) in
-      (omega arith, rw (held-none partsOf (a .nodes .now)) (omega arith), rw (held-none renamed (a .nodes .now))))
+    let renamed = renamedParts (a .sets .now) (a .relations .now) in
+    (omega arith, rw (held-none partsOf (a .nodes .now)) (omega arith), rw (held-none renamed (a .nodes .now))))
     (λ c κs. search needs) (λ c κs. search needs) (λ c κs. search needs) (λ c κs. search needs)
     (λ c. omega (arith, added c, room (c .before .before .before .before .before .before .before) .1))
     (λ c. search needs) (λ c. search needs)
     (λ c. let r = c .before .before .before .before .before in
-      let i = r .before .before in
-      let l = i .before in
-      let a = l .before .before .before .args in
-      let inside : l .loop .i < length (a .nodes .now) = omega arith in (
-        omega arith,
-        omega (arith, l .loop .inv .1, added c, own-width i, width-more (a .nodes .now) (l .loop .i) inside),
-        c .before .before .before .write-node .ensures ∙ ap (putAll (l .loop .out) (l .loop .cursor)) (parts-are r)
-            ∙ all-fits (l .loop .out) (l .loop .cursor) (own i) (room i .0) (room i .1)
-            ∙ (λ k. putParts (l .loop .inv .2 k) (l .loop .inv .1 k) (own i))
-            ∙ sym (put-next (a .sets .now) (a .relations .now) _ _ (a .nodes .now) (l .loop .i) inside),
-      ))
+    let i = r .before .before in
+    let l = i .before in
+    let a = l .before .before .before .args in
+    let inside : l .loop .i < length (a .nodes .now) = omega arith in (
+      omega arith,
+      omega (arith, l .loop .inv .1, added c, own-width i, width-more (a .nodes .now) (l .loop .i) inside),
+      c .before .before .before .write-node .ensures ∙ ap (putAll (l .loop .out) (l .loop .cursor)) (parts-are r)
+          ∙ all-fits (l .loop .out) (l .loop .cursor) (own i) (room i .0) (room i .1)
+          ∙ (λ k. putParts (l .loop .inv .2 k) (l .loop .inv .1 k) (own i))
+          ∙ sym (put-next (a .sets .now) (a .relations .now) _ _ (a .nodes .now) (l .loop .i) inside),
+    ))
     (λ c. kept (c .before))
     (λ c. let all : c .before .loop .i ≡ c .before .before .before .before .args .count = omega arith in
-      rw all at (c .before .loop .inv .2)))
+    rw all at (c .before .loop .inv .2)))

@@ -29,16 +29,16 @@ write-nodes-spec =
     (tie.spec
     (λ c κs. search needs) (λ c κs. search needs) (λ c κs. search needs)
     (λ c κs. let h = c .before .before .before in
-      let a = h .before .before .before .before .before .args in
-      let room = in-room (a .out .now) (a .at) _ (sym (h .has-room .ensures) ∙ c .before .before .if1 .taken) in
-      let width = ap (λ ws. widthOf (heldIn partsOf ws)) (c .before .node-count .ensures .2) ∙ sym (h .before .nodes-width .ensures) in
-      (c .before .node-count .ensures .1, (rw width (room .0), rw width (room .1))))
+    let a = h .before .before .before .before .before .args in
+    let room = in-room (a .out .now) (a .at) _ (sym (h .has-room .ensures) ∙ c .before .before .if1 .taken) in
+    let width = ap (λ ws. widthOf (heldIn partsOf ws)) (c .before .node-count .ensures .2) ∙ sym (h .before .nodes-width .ensures) in
+    (c .before .node-count .ensures .1, (rw width (room .0), rw width (room .1))))
     (λ c. search needs)
     (λ c. let n = c .before .before .before .before in
-      let h = n .before .before in
-      let a = h .before .before .before .before .before .args in
-      rw (tested h, n .before .if1 .taken)
-      (c .before .before .write-each .ensures
-      ∙ ap (λ ws. putParts (a .out .now) (a .at) (heldIn (renamedParts (a .sets .now) (a .relations .now)) ws)) (n .node-count .ensures .2)))
+    let h = n .before .before in
+    let a = h .before .before .before .before .before .args in
+    rw (tested h, n .before .if1 .taken)
+    (c .before .before .write-each .ensures
+    ∙ ap (λ ws. putParts (a .out .now) (a .at) (heldIn (renamedParts (a .sets .now) (a .relations .now)) ws)) (n .node-count .ensures .2)))
     (λ c. search needs)
     (λ c. rw (tested (c .before), c .if1 .left)))

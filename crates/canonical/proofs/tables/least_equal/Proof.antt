@@ -57,10 +57,10 @@ least-equal-spec =
     (λ c κs. search needs)
     (λ c κs. (c .table-cursor2 .ensures .1, c .before .before .before .before .before .before .table-cursor .ensures .1, search needs))
     (λ c. let l = c .before .before .before .before .before .before .before .loop in
-      record { within = l .inv .0; same = eqb-true _ _ (sym (compared (c .before)) ∙ c .if2 .taken); first = l .inv .1 })
+    record { within = l .inv .0; same = eqb-true _ _ (sym (compared (c .before)) ∙ c .if2 .taken); first = l .inv .1 })
     (λ c. search needs)
     (λ c. search needs)
     (λ c. let l = c .before .before .before .before .before .before .before .loop in
-      let differs : membersIn _ _ _ ≡ membersIn _ _ _ → ⊥ = eqb-false _ _ (sym (compared (c .before)) ∙ c .if2 .left) in
-      (omega arith, below-more _ (l .j) (l .inv .1) differs))
+    let differs : membersIn _ _ _ ≡ membersIn _ _ _ → ⊥ = eqb-false _ _ (sym (compared (c .before)) ∙ c .if2 .left) in
+    (omega arith, below-more _ (l .j) (l .inv .1) differs))
     (λ c. record { within = omega arith; same = refl; first = λ k under. c .before .loop .inv .1 k (omega arith) }))

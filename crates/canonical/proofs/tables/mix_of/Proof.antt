@@ -43,7 +43,7 @@ mix-of-spec =
     (λ c. search needs)
     (λ c. search needs)
     (λ c. let word = c .before .number-at .ensures ∙ number-bits _ _ 64 (omega arith) in
-      (omega arith, c .mixed .ensures ∙ (λ i. mixWith (c .before .before .before .loop .inv .1 i) (word i)) ∙ sym (mix-more _ _ _)))
+    (omega arith, c .mixed .ensures ∙ (λ i. mixWith (c .before .before .before .loop .inv .1 i) (word i)) ∙ sym (mix-more _ _ _)))
     (λ c. omega arith)
     (λ c. omega arith)
     (λ c κs. search needs)

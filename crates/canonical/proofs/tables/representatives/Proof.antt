@@ -44,11 +44,11 @@ representatives-spec =
     (λ c. search needs)
     (λ c. search needs)
     (λ c. let l = c .before .before .before .before .before .loop in
-      let a = c .before .before .before .before .before .before .before .args in (
-        omega arith,
-        length-set (l .least) (l .i) _ ∙ l .inv .1,
-        length-set (l .mixes) (l .i) _ ∙ l .inv .2,
-        more-mixes (c .before),
-        entry-more (Least (membersIn (a .src .now) (a .run))) (l .least) (l .i) _ (omega arith) (l .inv .4) (c .least-equal .ensures),
-      ))
+    let a = c .before .before .before .before .before .before .before .args in (
+      omega arith,
+      length-set (l .least) (l .i) _ ∙ l .inv .1,
+      length-set (l .mixes) (l .i) _ ∙ l .inv .2,
+      more-mixes (c .before),
+      entry-more (Least (membersIn (a .src .now) (a .run))) (l .least) (l .i) _ (omega arith) (l .inv .4) (c .least-equal .ensures),
+    ))
     (λ c. λ k under. c .before .loop .inv .4 k (omega arith)))

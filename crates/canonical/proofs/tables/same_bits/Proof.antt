@@ -36,19 +36,19 @@ same-bits-spec =
     (λ c. omega arith)
     (λ c κs. search needs)
     (λ c. let a = c .before .before .before .before .before .before .args in
-      let w = words (c .before) in
-      sym (ne-eqb _ _ (λ same. c .if1 .taken (w .0 ∙ same-part (a .src .now) (a .a) (a .b) _ 64 (a .width) (omega arith) same ∙ sym (w .1)))))
+    let w = words (c .before) in
+    sym (ne-eqb _ _ (λ same. c .if1 .taken (w .0 ∙ same-part (a .src .now) (a .a) (a .b) _ 64 (a .width) (omega arith) same ∙ sym (w .1)))))
     (λ c. search needs)
     (λ c. search needs)
     (λ c. let w = words (c .before) in
-      (omega arith, same-more _ _ _ _ 64 (c .before .before .before .before .loop .inv .1) (sym (w .0) ∙ c .if1 .left ∙ w .1)))
+    (omega arith, same-more _ _ _ _ 64 (c .before .before .before .before .loop .inv .1) (sym (w .0) ∙ c .if1 .left ∙ w .1)))
     (λ c. search needs)
     (λ c. omega arith)
     (λ c κs. search needs)
     (λ c. omega arith)
     (λ c κs. search needs)
     (λ c. let a = c .before .before .before .before .before .args in
-      let l = c .before .before .before .loop in
-      let third = c .before .number-at3 .ensures ∙ number-bits _ _ (a .width - l .done) (omega arith) in
-      let fourth = c .number-at4 .ensures ∙ number-bits _ _ (a .width - l .done) (omega arith) in
-      (λ i. eqb (third i) (fourth i)) ∙ same-last (a .src .now) (a .a) (a .b) (l .done) (a .width) (l .inv .0) (l .inv .1)))
+    let l = c .before .before .before .loop in
+    let third = c .before .number-at3 .ensures ∙ number-bits _ _ (a .width - l .done) (omega arith) in
+    let fourth = c .number-at4 .ensures ∙ number-bits _ _ (a .width - l .done) (omega arith) in
+    (λ i. eqb (third i) (fourth i)) ∙ same-last (a .src .now) (a .a) (a .b) (l .done) (a .width) (l .inv .0) (l .inv .1)))

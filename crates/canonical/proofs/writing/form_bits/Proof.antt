@@ -29,4 +29,4 @@ form-bits-spec =
     (λ c κs. search needs)
     (λ c. omega (arith, small (c .before .before .before .before .before .before), few c))
     (λ c. let s = small (c .before .before .before .before .before .before) in
-      (omega (arith, c .nodes-width .ensures), omega (arith, s, few c))))
+    (omega (arith, c .nodes-width .ensures), omega (arith, s, few c))))

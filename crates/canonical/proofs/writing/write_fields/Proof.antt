@@ -78,26 +78,26 @@ write-fields-spec =
     (λ c. omega (arith, small (c .before .before .before .before .before .before .before)))
     (λ c. search needs) (λ c. search needs) (λ c κs. search needs) (λ c κs. search needs)
     (λ c κs. let counts = c .before .before .before in
-      set-room (before-counts counts) (counts .before .put .last .0) (counts .out .given) _ (c .before .set-run .ensures))
+    set-room (before-counts counts) (counts .before .put .last .0) (counts .out .given) _ (c .before .set-run .ensures))
     (λ c κs. search needs)
     (λ c κs. let sets = c .before .before .before in
-      let counts = before-sets sets in
-      let same = sets .out2 .given ∙ counts .out .given in
-      relation-room (before-counts counts) (sets .before .write-named .last .1 .1 .1 .0) same _ (c .before .relation-run .ensures))
+    let counts = before-sets sets in
+    let same = sets .out2 .given ∙ counts .out .given in
+    relation-room (before-counts counts) (sets .before .write-named .last .1 .1 .1 .0) same _ (c .before .relation-run .ensures))
     (λ c κs. search needs)
     (λ c. search needs)
     (λ c. let nodes = c .before .before in
-      let relations = nodes .before .before .before .before .before .before .before in
-      let sets = before-relations relations in
-      let counts = before-sets sets in
-      let start = before-counts counts in
-      let a = start .args in
-      let second = relations .before in
-      let first = sets .before in
-      let same = relations .out3 .given ∙ sets .out2 .given ∙ counts .out .given in
-      let put = nodes-put start (second .write-named2 .last .1 .1 .1 .0) same in
-      fields-written
-      (a .src .now) (a .n) (a .tables) (a .m) (take (min (a .count) 127) (a .nodes .now)) (omega (arith, full start)) (omega (arith, full start))
-      (a .out .now) _ _ _ _ _ _ (search needs) (search needs) (omega (arith, width start))
-      (first .before .before .set-run .ensures) (second .before .before .relation-run .ensures)
-      (counts .before .put .ensures) (first .write-named .ensures) (second .write-named2 .ensures) (nodes .write-nodes .ensures ∙ put)))
+    let relations = nodes .before .before .before .before .before .before .before in
+    let sets = before-relations relations in
+    let counts = before-sets sets in
+    let start = before-counts counts in
+    let a = start .args in
+    let second = relations .before in
+    let first = sets .before in
+    let same = relations .out3 .given ∙ sets .out2 .given ∙ counts .out .given in
+    let put = nodes-put start (second .write-named2 .last .1 .1 .1 .0) same in
+    fields-written
+    (a .src .now) (a .n) (a .tables) (a .m) (take (min (a .count) 127) (a .nodes .now)) (omega (arith, full start)) (omega (arith, full start))
+    (a .out .now) _ _ _ _ _ _ (search needs) (search needs) (omega (arith, width start))
+    (first .before .before .set-run .ensures) (second .before .before .relation-run .ensures)
+    (counts .before .put .ensures) (first .write-named .ensures) (second .write-named2 .ensures) (nodes .write-nodes .ensures ∙ put)))

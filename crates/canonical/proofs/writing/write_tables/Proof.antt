@@ -44,16 +44,16 @@ write-tables-spec =
     (λ c κs. search needs)
     (λ c. search needs) (λ c. search needs)
     (λ c. let call = c .before .before in
-      let s = call .before in
-      let cursor = s .before .before in
-      let l = cursor .before .before .before in
-      let a = l .before .before .before .before .args in
-      let fits = copied-fits (l .loop .out) (a .at + a .run .width * l .loop .k) (a .src .now) (cursor .table-cursor .result) (a .run .width)
-      (omega (arith, room s, kept l)) (omega (arith, room s)) (omega (arith, cursor .table-cursor .ensures .1)) in (
-        omega arith,
-        call .copy .ensures ∙ rw (fits, cursor .table-cursor .ensures .0, l .loop .inv .1)
-            (tables-more (a .src .now) (a .run) (a .order .now) (a .out .now) (a .at) (l .loop .k) (omega arith)),
-      ))
+    let s = call .before in
+    let cursor = s .before .before in
+    let l = cursor .before .before .before in
+    let a = l .before .before .before .before .args in
+    let fits = copied-fits (l .loop .out) (a .at + a .run .width * l .loop .k) (a .src .now) (cursor .table-cursor .result) (a .run .width)
+    (omega (arith, room s, kept l)) (omega (arith, room s)) (omega (arith, cursor .table-cursor .ensures .1)) in (
+      omega arith,
+      call .copy .ensures ∙ rw (fits, cursor .table-cursor .ensures .0, l .loop .inv .1)
+          (tables-more (a .src .now) (a .run) (a .order .now) (a .out .now) (a .at) (l .loop .k) (omega arith)),
+    ))
     (λ c. kept (c .before))
     (λ c. let all : c .before .loop .k ≡ c .before .before .before .before .before .args .count = omega arith in
-      rw all at (c .before .loop .inv .1)))
+    rw all at (c .before .loop .inv .1)))

@@ -13,7 +13,7 @@ both-stay-spec =
     tie.close
     (tie.spec (λ c κs. search needs) (λ c κs. search needs) (λ c κs. search needs) (λ c κs. search needs) (λ c κs. search needs)
     (λ c. let P = c .before .before in
-      let a = P .before .before .before .before .before .args in
-      let met = fun-ext (λ s. P .meet .ensures s ∙ ap₂ _&&_ (P .before .before .set-at .ensures s) (P .before .set-at2 .ensures s)) in
-      ap₂ _&&_ (c .before .leads-into .ensures ∙ ap (λ p. staysIn (a .n) p (wordRelation (a .n) (a .first .now) (a .a .g))) met)
-      (c .leads-into2 .ensures ∙ ap (λ p. staysIn (a .n) p (wordRelation (a .n) (a .second .now) (a .b .g))) met)))
+    let a = P .before .before .before .before .before .args in
+    let met = fun-ext (λ s. P .meet .ensures s ∙ ap₂ _&&_ (P .before .before .set-at .ensures s) (P .before .set-at2 .ensures s)) in
+    ap₂ _&&_ (c .before .leads-into .ensures ∙ ap (λ p. staysIn (a .n) p (wordRelation (a .n) (a .first .now) (a .a .g))) met)
+    (c .leads-into2 .ensures ∙ ap (λ p. staysIn (a .n) p (wordRelation (a .n) (a .second .now) (a .b .g))) met)))

@@ -11,13 +11,13 @@ load-file-spec =
     (tie.spec (λ c κs. search needs) (λ c. search needs) (λ c κs. search needs) (λ c. search needs) (λ c κs. search needs)
     (λ c. search needs) (λ c. search needs)
     (λ c. let load = c .before .before .before .before .before .before .before .before .before .before .load in (
-        λ sets relations root d reads. absurd (not-refused _ _ _ (load .ensures .0) sets relations root d reads _ _ (c .before .before .found .given .1)),
-        load .ensures .1,
-      ))
+      λ sets relations root d reads. absurd (not-refused _ _ _ (load .ensures .0) sets relations root d reads _ _ (c .before .before .found .given .1)),
+      load .ensures .1,
+    ))
     (λ c. search needs)
     (λ c. let load = c .before .before .before .before .before .before .before .before .before .load in (
-        λ sets relations root d reads.
-            file-form _ _ _ (load .ensures .0) sets relations root d reads _ (c .before .found2 .given .1) _
-            (ap (λ x. x .names) (c .before .before .before .before .node-at .ensures)),
-        load .ensures .1,
-      )))
+      λ sets relations root d reads.
+          file-form _ _ _ (load .ensures .0) sets relations root d reads _ (c .before .found2 .given .1) _
+          (ap (λ x. x .names) (c .before .before .before .before .node-at .ensures)),
+      load .ensures .1,
+    )))

@@ -22,9 +22,9 @@ load-form-spec =
     (tie.spec (λ c. search needs) (λ c κs. search needs) (λ c κs. search needs) array-share-prefix-bytes
     (λ c. sym (length-take-le _ _ (array-share-prefix-bytes (c .before)))) (λ c κs. search needs) (λ c. search needs)
     (λ c. let load = c .before .before in
-      let count = load .before .before .before in
-      let wrote = count .before .before in
-      let pre = wrote .before .before .before .before .before .pre in
-      let front = front-is _ _ (pre .0) _ (length-replicate {A = ℕ} mostProofBytes 0) _ (wrote .write-form .ensures .0) _ (count .written-bytes .ensures) _
-      (wrote .write-form .ensures .1) in
-      form-loaded _ _ (pre .0) _ (pre .2) _ _ _ (pre .1) _ front (load .load-file .ensures .0) (load .load-file .ensures .1)))
+    let count = load .before .before .before in
+    let wrote = count .before .before in
+    let pre = wrote .before .before .before .before .before .pre in
+    let front = front-is _ _ (pre .0) _ (length-replicate {A = ℕ} mostProofBytes 0) _ (wrote .write-form .ensures .0) _ (count .written-bytes .ensures) _
+    (wrote .write-form .ensures .1) in
+    form-loaded _ _ (pre .0) _ (pre .2) _ _ _ (pre .1) _ front (load .load-file .ensures .0) (load .load-file .ensures .1)))

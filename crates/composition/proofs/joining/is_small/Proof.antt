@@ -18,10 +18,10 @@ is-small-spec =
     tie.close
     (tie.spec (λ c. search needs) (λ c. search needs) (λ c. search needs) (λ c. search needs) (λ c κs. search needs) (λ c. search needs) (λ c. search needs) (λ c. search needs) (λ c. search needs) (λ c. search needs) (λ c. search needs) (λ c κs. search needs) (λ c. search needs) (λ c. search needs)
     (λ c. let first = c .before .before .before in
-      let a = first .before .before .before .before .before .args in
-      let statements : a .both .first .statements + a .both .second .statements + 1 ≡ 1 + a .both .first .statements + a .both .second .statements = omega arith in
-      let levels : first .higher .result + 1 ≡ suc (max (a .both .first .levels) (a .both .second .levels)) = omega (arith, first .higher .ensures) in
-      let nodes : a .f .nodes + a .g .nodes + 3 ≡ 3 + a .f .nodes + a .g .nodes = omega arith in
-      let depth : c .higher2 .result + 2 ≡ suc (suc (max (a .f .levels) (a .g .levels))) = omega (arith, c .higher2 .ensures) in
-      λ i. leb (statements i) mostStatements && leb (levels i) mostStatementLevels && leb (nodes i) mostNodes && leb (depth i) mostNodeLevels
-      && leb (a .sets) mostTables && leb (a .relations) mostTables))
+    let a = first .before .before .before .before .before .args in
+    let statements : a .both .first .statements + a .both .second .statements + 1 ≡ 1 + a .both .first .statements + a .both .second .statements = omega arith in
+    let levels : first .higher .result + 1 ≡ suc (max (a .both .first .levels) (a .both .second .levels)) = omega (arith, first .higher .ensures) in
+    let nodes : a .f .nodes + a .g .nodes + 3 ≡ 3 + a .f .nodes + a .g .nodes = omega arith in
+    let depth : c .higher2 .result + 2 ≡ suc (suc (max (a .f .levels) (a .g .levels))) = omega (arith, c .higher2 .ensures) in
+    λ i. leb (statements i) mostStatements && leb (levels i) mostStatementLevels && leb (nodes i) mostNodes && leb (depth i) mostNodeLevels
+    && leb (a .sets) mostTables && leb (a .relations) mostTables))

@@ -98,37 +98,37 @@ join-spec =
     tie.close
     (tie.spec (λ c κs. search needs) (λ c. search needs) (λ c. search needs) (λ c. search needs)
     (λ c κs. let p = begun (c .before .before .before .before .before) .pre .0 in (
-        omega arith,
-        omega (arith, p .first .of-form .set-count, p .first .room .sets-most),
-        omega (arith, p .second .of-form .set-count, p .second .room .sets-most),
-      ))
+      omega arith,
+      omega (arith, p .first .of-form .set-count, p .first .room .sets-most),
+      omega (arith, p .second .of-form .set-count, p .second .room .sets-most),
+    ))
     (λ c κs. let pre = begun (rootsAt (c .before .before)) .pre in
-      let p = pre .0 in (
-        p .first .room .states-most,
-        pre .1,
-        omega (arith, p .first .of-form .relation-count, p .first .room .relations-most),
-        omega (arith, p .second .of-form .relation-count, p .second .room .relations-most),
-      ))
+    let p = pre .0 in (
+      p .first .room .states-most,
+      pre .1,
+      omega (arith, p .first .of-form .relation-count, p .first .room .relations-most),
+      omega (arith, p .second .of-form .relation-count, p .second .room .relations-most),
+    ))
     (λ c κs. search needs) (λ c. search needs)
     (λ c κs. let counted = c .before .before .before .before .before in
-      let d = numbered counted in
-      let p = start d .pre .0 in
-      let few = sym (counted .is-small .ensures) ∙ c .before .before .before .before .if1 .taken in
-      let x = p .first in
-      let y = p .second in
-      let small = names-small _ _ _ (start d .args .both) _ _ _ _ x y _ _ _ _ (are-sets d _ _ x y) (are-relations d _ _ x y) (long-S d _ _ x y) (long-T d _ _ x y) [] [] few in
-      let rooms = few-tables _ _ _ _ _ _ few in
-      (x .room .states-least, x .room .states-most, rooms .0, rooms .1, small, x .of-handler .placed, y .of-handler .placed))
+    let d = numbered counted in
+    let p = start d .pre .0 in
+    let few = sym (counted .is-small .ensures) ∙ c .before .before .before .before .if1 .taken in
+    let x = p .first in
+    let y = p .second in
+    let small = names-small _ _ _ (start d .args .both) _ _ _ _ x y _ _ _ _ (are-sets d _ _ x y) (are-relations d _ _ x y) (long-S d _ _ x y) (long-T d _ _ x y) [] [] few in
+    let rooms = few-tables _ _ _ _ _ _ few in
+    (x .room .states-least, x .room .states-most, rooms .0, rooms .1, small, x .of-handler .placed, y .of-handler .placed))
     (λ c κs. search needs) (λ c. search needs) (λ c. search needs) (λ c. search needs)
     (λ c. let both = c .before .before .before .before in
-      let taken = both .before .before .before .before .before in
-      let d = numbered (taken .before) in
-      let w = both .write-both .ensures in
-      let few = sym (taken .before .is-small .ensures) ∙ taken .if1 .taken in
-      (λ A B x y. files d A B x y few _ _ _ w .0, (λ A B x y. files d A B x y few _ _ _ w .1 .0, λ A B x y. files d A B x y few _ _ _ w .1 .1)))
+    let taken = both .before .before .before .before .before in
+    let d = numbered (taken .before) in
+    let w = both .write-both .ensures in
+    let few = sym (taken .before .is-small .ensures) ∙ taken .if1 .taken in
+    (λ A B x y. files d A B x y few _ _ _ w .0, (λ A B x y. files d A B x y few _ _ _ w .1 .0, λ A B x y. files d A B x y few _ _ _ w .1 .1)))
     (λ c. search needs)
     (λ c. let counted = c .before .before in
-      let d = numbered counted in
-      let many = sym (counted .is-small .ensures) ∙ c .before .if1 .left in
-      let e = c .refused .ensures in
-      (λ A B x y. no-files d A B x y many _ e .0, (λ A B x y. no-files d A B x y many _ e .1 .0, λ A B x y. no-files d A B x y many _ e .1 .1))))
+    let d = numbered counted in
+    let many = sym (counted .is-small .ensures) ∙ c .before .if1 .left in
+    let e = c .refused .ensures in
+    (λ A B x y. no-files d A B x y many _ e .0, (λ A B x y. no-files d A B x y many _ e .1 .0, λ A B x y. no-files d A B x y many _ e .1 .1))))

@@ -11,8 +11,8 @@ measure-spec =
     tie.close
     (tie.spec (λ c. search needs) (λ c. search needs) (λ c. search needs) (λ c κs. search needs) (λ c κs. search needs) (λ c κs. search needs)
     (λ c. let first = c .before .before in
-      let start = first .before .before .before .before .before in
-      record {
-        handler-is = first .file-bytes .ensures ∙ ap bytesFor (omega (arith, start .pre .3 .starts));
-        proof-is = c .file-bytes2 .ensures ∙ ap bytesFor (c .before .proof-bits .ensures .0);
-      }))
+    let start = first .before .before .before .before .before in
+    record {
+      handler-is = first .file-bytes .ensures ∙ ap bytesFor (omega (arith, start .pre .3 .starts));
+      proof-is = c .file-bytes2 .ensures ∙ ap bytesFor (c .before .proof-bits .ensures .0);
+    }))

@@ -82,30 +82,30 @@ write-both-spec =
     tie.close
     (tie.spec (λ c κs. search needs) (λ c κs. search needs) (λ c κs. search needs) returns
     (λ c κs. let e = c .before .before .before in
-      let m = e .before .before in
-      let p = start m .pre in
-      (p .5 .starts, omega (arith, p .5 .ends), p .6 .starts, omega (arith, p .6 .ends), rw (← m .measure .ensures .handler-is) (within e .handler-room)))
+    let m = e .before .before in
+    let p = start m .pre in
+    (p .5 .starts, omega (arith, p .5 .ends), p .6 .starts, omega (arith, p .6 .ends), rw (← m .measure .ensures .handler-is) (within e .handler-room)))
     (λ c κs. let e = bothFit (c .before .before .before) in
-      let m = e .before .before in
-      let p = start m .pre in
-      (p .0, p .1, p .2, p .3, p .4, within e .proof-room, m .measure .ensures .proof-is))
+    let m = e .before .before in
+    let p = start m .pre in
+    (p .0, p .1, p .2, p .3, p .4, within e .proof-room, m .measure .ensures .proof-is))
     (λ c. omega (arith, within (bothFit (handlerAt (c .before .before .before)))))
     (λ c. omega (arith, within (bothFit (handlerAt (c .before .before .before .before)))))
     (λ c. omega (arith, within (bothFit (handlerAt (c .before .before .before .before .before)))))
     (λ c. search needs) (λ c. search needs)
     (λ c. let proof = c .before .before .before .before .before in
-      let handler = handlerAt proof in
-      let fit = bothFit handler in
-      let d = fit .before in
-      let m = d .before in
-      let s = start m in
-      let a = s .args in
-      let e = no-fault (handlerOf s) (proofOf s) (a .both .steps) (length (a .hout .now)) (length (a .pout .now))
-      (sym (fault-is d) ∙ fit .if1 .left)
-      in (
-        (λ i. Made (record { steps = a .both .steps; handler = handler-length m i; proof = proof-long m i })) ∙ sym (ap composed e),
-        (
-          handler .write-handler .ensures ∙ sym (ap (λ o. handlerAfter o (a .hout .now)) e),
-          proof .write-proof .ensures ∙ sym (ap (λ o. proofAfter o (a .pout .now)) e),
-        ),
-      )))
+    let handler = handlerAt proof in
+    let fit = bothFit handler in
+    let d = fit .before in
+    let m = d .before in
+    let s = start m in
+    let a = s .args in
+    let e = no-fault (handlerOf s) (proofOf s) (a .both .steps) (length (a .hout .now)) (length (a .pout .now))
+    (sym (fault-is d) ∙ fit .if1 .left)
+    in (
+      (λ i. Made (record { steps = a .both .steps; handler = handler-length m i; proof = proof-long m i })) ∙ sym (ap composed e),
+      (
+        handler .write-handler .ensures ∙ sym (ap (λ o. handlerAfter o (a .hout .now)) e),
+        proof .write-proof .ensures ∙ sym (ap (λ o. proofAfter o (a .pout .now)) e),
+      ),
+    )))

@@ -14,6 +14,6 @@ mention-side-spec =
     tie.close
     (tie.spec (λ c κs. search needs) (λ c κs. search needs) (λ c κs. search needs) (λ c. search needs)
     (λ c seen k. let m = c .before .before in
-      let n = m .before .before .before .before .before .before .before .args .n in
-      three-by _ _ _ _ _ _ _ _ (ap (λ w. relationWhere n (rel n w)) (m .before .before .rows-of .ensures))
-      (ap (λ w. relationWhere n (rel n w)) (m .before .rows-of2 .ensures)) (m .mention-three .ensures seen k)))
+    let n = m .before .before .before .before .before .before .before .args .n in
+    three-by _ _ _ _ _ _ _ _ (ap (λ w. relationWhere n (rel n w)) (m .before .before .rows-of .ensures))
+    (ap (λ w. relationWhere n (rel n w)) (m .before .rows-of2 .ensures)) (m .mention-three .ensures seen k)))

@@ -13,8 +13,8 @@ number-sets-spec =
     tie.close
     (tie.spec (λ c κs. search needs) (λ c. search needs) (λ c κs. search needs) (λ c. search needs) (λ c κs. search needs) (λ c. search needs)
     (λ c. let third = c .before .before .before in
-      let second = third .before .before .before .before .before .before in
-      let first = second .before .before .before .before .before in
-      let m₁ = first .mention-set .ensures in
-      let m₂ = second .mention-sets .ensures _ (m₁ .kept) in
-      sets-numbered _ _ _ _ _ _ _ _ _ _ _ m₁ m₂ (third .mention-sets2 .ensures _ (kept-merged _ _ _ _ _ m₂)) (length-tabulate _ _)))
+    let second = third .before .before .before .before .before .before in
+    let first = second .before .before .before .before .before in
+    let m₁ = first .mention-set .ensures in
+    let m₂ = second .mention-sets .ensures _ (m₁ .kept) in
+    sets-numbered _ _ _ _ _ _ _ _ _ _ _ m₁ m₂ (third .mention-sets2 .ensures _ (kept-merged _ _ _ _ _ m₂)) (length-tabulate _ _)))

@@ -12,6 +12,6 @@ number-side-spec =
     tie.close
     (tie.spec (λ c. search needs) (λ c κs. search needs) (λ c. search needs) (λ c. search needs) (λ c κs. search needs) (λ c. search needs)
     (λ c seen k. let rest = c .before .before .before in
-      let node = rest .before .before .before .before .before .before .before in
-      let three = node .mention-side .ensures seen k in
-      side-numbered seen _ _ _ _ _ _ _ _ _ three (rest .mention-relations .ensures _ (three .kept)) (length-tabulate _ _)))
+    let node = rest .before .before .before .before .before .before .before in
+    let three = node .mention-side .ensures seen k in
+    side-numbered seen _ _ _ _ _ _ _ _ _ three (rest .mention-relations .ensures _ (three .kept)) (length-tabulate _ _)))

@@ -49,29 +49,29 @@ compose-accepted-spec =
     (tie.spec (λ c κs. search needs) (λ c κs. search needs) (λ c κs. search needs) (λ c κs. search needs) (λ c κs. search needs) (λ c. omega (arith, start (firstRead (joined c)) .fits))
     (λ c. omega (arith, start (firstRead (joined c)) .fits))
     (λ c κs. let s = c .before .before in
-      let d = joined s in
-      let r = firstRead d in
-      let p = start r .pre in
-      let n = states d in
-      let m = n ∙ ap product (same s) in
-      record {
-        first = p .0;
-        second = p .1;
-        first-states = n;
-        second-states = m;
-        first-handler = subst (HandlerOf _) (sym (s .before .summary-of .ensures _ (ap (λ f. f .found) (r .read-pair .ensures) ∙ found-is _ _ (p .0))))
-            (handler-of _ _ (p .0));
-        second-handler = subst (HandlerOf _) (sym (s .summary-of2 .ensures _ (ap (λ f. f .found) (d .before .before .before .read-pair2 .ensures) ∙ found-is _ _ (p .1))))
-            (handler-of _ _ (p .1));
-      })
+    let d = joined s in
+    let r = firstRead d in
+    let p = start r .pre in
+    let n = states d in
+    let m = n ∙ ap product (same s) in
+    record {
+      first = p .0;
+      second = p .1;
+      first-states = n;
+      second-states = m;
+      first-handler = subst (HandlerOf _) (sym (s .before .summary-of .ensures _ (ap (λ f. f .found) (r .read-pair .ensures) ∙ found-is _ _ (p .0))))
+          (handler-of _ _ (p .0));
+      second-handler = subst (HandlerOf _) (sym (s .summary-of2 .ensures _ (ap (λ f. f .found) (d .before .before .before .read-pair2 .ensures) ∙ found-is _ _ (p .1))))
+          (handler-of _ _ (p .1));
+    })
     (λ c κs. search needs) (λ c. search needs) (λ c. search needs)
     (λ c. let j = c .before .before .before .before .compose-sides .ensures in
-      let s = c .before .before .before .before .before .before .before in
-      let d = joined s in
-      let a = start (firstRead d) .args in
-      leaves-same (a .hout .now) (a .pout .now) _ _
-      (same-variables (a .h1 .now) (a .h2 .now) (firstSide d) (secondSide d) _ _ (states d) (sym (compared d) ∙ s .before .before .if1 .taken)) _ _ _ j)
+    let s = c .before .before .before .before .before .before .before in
+    let d = joined s in
+    let a = start (firstRead d) .args in
+    leaves-same (a .hout .now) (a .pout .now) _ _
+    (same-variables (a .h1 .now) (a .h2 .now) (firstSide d) (secondSide d) _ _ (states d) (sym (compared d) ∙ s .before .before .if1 .taken)) _ _ _ j)
     (λ c. let d = c .before .before in
-      let a = start (firstRead d) .args in
-      leaves-refused (a .hout .now) (a .pout .now) _ 0 (plain 90)
-      (other-sizes (a .h1 .now) (a .h2 .now) (firstSide d) (secondSide d) _ (sym (compared d) ∙ c .before .if1 .left)) _ (c .refused .ensures)))
+    let a = start (firstRead d) .args in
+    leaves-refused (a .hout .now) (a .pout .now) _ 0 (plain 90)
+    (other-sizes (a .h1 .now) (a .h2 .now) (firstSide d) (secondSide d) _ (sym (compared d) ∙ c .before .if1 .left)) _ (c .refused .ensures)))

@@ -52,25 +52,25 @@ compose-sides-spec =
     tie.close
     (tie.spec (λ c. search needs) (λ c κs. search needs) (λ c. search needs) (λ c κs. search needs) (λ c. search needs) (λ c. search needs)
     (λ c κs. let p = start (first (c .before .before .before)) .pre in
-      room-of _ _ (p .first) _ (p .first-states) .states-most)
+    room-of _ _ (p .first) _ (p .first-states) .states-most)
     (λ c κs. search needs)
     (λ c. let d = c .before .before in
-      let a = start (first (second d)) .args in
-      let is = fault-is d in
-      leaves-refused (a .hout .now) (a .pout .now) _ 0 _
-      (met-not (a .n) (a .h1 .now) (a .h2 .now) (firstSide d) (secondSide d) _ (λ z. c .before .if1 .taken (is ∙ z)))
-      _ (c .refused .ensures ∙ ap (λ k. Refused 0 (plain k)) is))
+    let a = start (first (second d)) .args in
+    let is = fault-is d in
+    leaves-refused (a .hout .now) (a .pout .now) _ 0 _
+    (met-not (a .n) (a .h1 .now) (a .h2 .now) (firstSide d) (secondSide d) _ (λ z. c .before .if1 .taken (is ∙ z)))
+    _ (c .refused .ensures ∙ ap (λ k. Refused 0 (plain k)) is))
     (λ c. search needs) (λ c. search needs) (λ c. search needs)
     (λ c κs. let d = c .before .before .before .before .before .before in
-      (record { A = firstSide d; B = secondSide d; first = first-ready d; second = second-ready d }, omega arith))
+    (record { A = firstSide d; B = secondSide d; first = first-ready d; second = second-ready d }, omega arith))
     (λ c. search needs) (λ c. search needs)
     (λ c. let j = c .before .before .before .before .before .join .ensures in
-      let d = c .before .before .before .before .before .before .before .before .before .before .before .before in
-      let a = start (first (second d)) .args in
-      let A = firstSide d in
-      let B = secondSide d in
-      let x = first-ready d in
-      let y = second-ready d in
-      leaves-same (a .hout .now) (a .pout .now) _ _
-      (met-all (a .n) (a .h1 .now) (a .h2 .now) A B _ (sym (fault-is d) ∙ c .before .before .before .before .before .before .before .before .before .before .before .if1 .left))
-      _ _ _ (j .0 A B x y, (j .1 .0 A B x y, j .1 .1 A B x y))))
+    let d = c .before .before .before .before .before .before .before .before .before .before .before .before in
+    let a = start (first (second d)) .args in
+    let A = firstSide d in
+    let B = secondSide d in
+    let x = first-ready d in
+    let y = second-ready d in
+    leaves-same (a .hout .now) (a .pout .now) _ _
+    (met-all (a .n) (a .h1 .now) (a .h2 .now) A B _ (sym (fault-is d) ∙ c .before .before .before .before .before .before .before .before .before .before .before .if1 .left))
+    _ _ _ (j .0 A B x y, (j .1 .0 A B x y, j .1 .1 A B x y))))

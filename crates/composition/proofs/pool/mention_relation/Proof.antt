@@ -20,5 +20,5 @@ mention-relation-spec =
     (λ c seen k. mentioned-from _ seen _ _ _ _ k (omega arith) (mention-new _ _ _ _ _ (search needs) (omega arith) (λ l. absurd (omega arith))))
     (λ c κs. search needs) (λ c. search needs)
     (λ c seen k. let a = c .before .before .before .before .before .before .before .before .before .before .before .args in
-      mentioned-from _ seen _ _ _ _ k (omega arith) (mention-new _ _ _ _ _ (search needs) (omega arith)
-      (λ l. relations-stored (a .n) (a .pool .now) (a .count) (rel (a .n) (a .rows .now)) _ (c .before .before .store-relation .ensures)))))
+    mentioned-from _ seen _ _ _ _ k (omega arith) (mention-new _ _ _ _ _ (search needs) (omega arith)
+    (λ l. relations-stored (a .n) (a .pool .now) (a .count) (rel (a .n) (a .rows .now)) _ (c .before .before .store-relation .ensures)))))

@@ -45,18 +45,18 @@ mention-relations-spec =
     loop-holds (λ c. search needs) (λ c κs. search needs) (λ c κs. search needs)
     (λ c. search needs) (λ c. search needs)
     (λ c seen k. let m = c .before .before .before .before in
-      let l = m .before .before .before .before in
-      merged-from _ seen _ _ _ _ _ k (omega arith)
-      (merged-over _ _ (l .loop .i) _ _ (l .loop .inv .4) _ _ (next m) (search needs) _ (omega arith) _ _))
+    let l = m .before .before .before .before in
+    merged-from _ seen _ _ _ _ _ k (omega arith)
+    (merged-over _ _ (l .loop .i) _ _ (l .loop .inv .4) _ _ (next m) (search needs) _ (omega arith) _ _))
     (λ c. search needs) (λ c. search needs) (λ c. search needs) (λ c. search needs)
     (λ c. let m = c .before .before .before .before in
-      let l = m .before .before .before .before in (
-        omega arith,
-        omega arith,
-        c .before .before .before .pool .given ∙ l .loop .inv .2,
-        length-set (l .loop .names) (l .loop .i) (m .mention-relation .result .place) ∙ l .loop .inv .3,
-        listed-next _ _ (l .loop .i) _ _ (l .loop .inv .4) _ _ (next m) (omega arith) (omega arith),
-      ))
+    let l = m .before .before .before .before in (
+      omega arith,
+      omega arith,
+      c .before .before .before .pool .given ∙ l .loop .inv .2,
+      length-set (l .loop .names) (l .loop .i) (m .mention-relation .result .place) ∙ l .loop .inv .3,
+      listed-next _ _ (l .loop .i) _ _ (l .loop .inv .4) _ _ (next m) (omega arith) (omega arith),
+    ))
     (λ c. search needs) (λ c. search needs)
     (λ c seen k. let all : c .before .loop .i ≡ c .before .before .before .before .before .before .args .tables = omega arith in
-      merged-from _ seen _ _ _ _ _ k (omega arith) (merged-done _ _ _ _ _ (c .before .loop .inv .1) (rw all at (c .before .loop .inv .4)))))
+    merged-from _ seen _ _ _ _ _ k (omega arith) (merged-done _ _ _ _ _ (c .before .loop .inv .1) (rw all at (c .before .loop .inv .4)))))

@@ -20,6 +20,6 @@ mention-set-spec =
     (λ c κs. search needs)
     (λ c. search needs)
     (λ c. let a = c .before .before .before .before .before .before .before .before .before .args in
-      mention-new _ _ _ _ _ (search needs) (omega arith)
-      (λ l. ap (λ words. setsHeld (a .n) words (a .count + 1)) (c .before .before .put-entry .ensures)
-      ∙ set-stored (a .n) (a .pool .now) (a .count) (a .set) (omega arith))))
+    mention-new _ _ _ _ _ (search needs) (omega arith)
+    (λ l. ap (λ words. setsHeld (a .n) words (a .count + 1)) (c .before .before .put-entry .ensures)
+    ∙ set-stored (a .n) (a .pool .now) (a .count) (a .set) (omega arith))))

@@ -20,10 +20,10 @@ store-relation-spec =
     (tie.spec Inv-loop μ-loop (λ c. search needs) (λ c. search needs) (λ c. search needs) (λ c. (omega arith, rows-start _ _ _)) (λ c. search needs)
     (λ c. search needs) (λ c κs. search needs) (λ c κs. search needs) (λ c. search needs) (λ c. search needs)
     (λ c. let d = c .before .before in
-      let l = d .before .before .before .before in
-      let so = l .loop .inv .1 in
-      (omega arith, rw (d .put-entry .ensures) (rows-next _ _ _ _ _ _ (omega (arith, so .long)) (d .before .row .ensures) so)))
+    let l = d .before .before .before .before in
+    let so = l .loop .inv .1 in
+    (omega arith, rw (d .put-entry .ensures) (rows-next _ _ _ _ _ _ (omega (arith, so .long)) (d .before .row .ensures) so)))
     (λ c. c .before .loop .inv .1 .long)
     (λ c. let start = c .before .before .before .before in
-      let all : c .before .loop .s ≡ start .args .n = omega arith in
-      relation-stored _ (start .pre .0) _ _ _ _ (rw all at (c .before .loop .inv .1))))
+    let all : c .before .loop .s ≡ start .args .n = omega arith in
+    relation-stored _ (start .pre .0) _ _ _ _ (rw all at (c .before .loop .inv .1))))

@@ -12,5 +12,5 @@ proof-bits-spec =
     (tie.spec (λ c. search needs) (λ c κs. search needs) (λ c. search needs) (λ c κs. search needs) (λ c. search needs) (λ c κs. search needs)
     (λ c. search needs)
     (λ c. let first = c .before .before .form-bits .ensures in
-      let second = c .before .form-bits2 .ensures in
-      (omega (arith, c .root-at .ensures, first, second), omega (arith, c .root-at .ensures, first, second))))
+    let second = c .before .form-bits2 .ensures in
+    (omega (arith, c .root-at .ensures, first, second), omega (arith, c .root-at .ensures, first, second))))

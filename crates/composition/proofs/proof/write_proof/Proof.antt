@@ -27,23 +27,23 @@ write-proof-spec =
     tie.close
     (tie.spec (λ c κs. search needs)
     (λ c κs. let start = c .before .before .before .before .before .before .before .before .before in
-      let same = c .before .before .out .given in
-      let r = room start in
-      (start .pre .0, start .pre .1, start .pre .2, start .pre .3, (omega (arith, r, same), omega (arith, r))))
+    let same = c .before .before .out .given in
+    let r = room start in
+    (start .pre .0, start .pre .1, start .pre .2, start .pre .3, (omega (arith, r, same), omega (arith, r))))
     (λ c κs. search needs)
     (λ c κs. let start = c .before .before .before .before .before .before .before .before .before .before .before .before .before .before in
-      let same = c .before .before .before .out2 .given ∙ c .before .before .before .before .before .before .before .out .given in
-      let r = room start in
-      let at = c .root-at .ensures .0 in
-      (start .pre .4, (omega (arith, r, same, at), omega (arith, r, at))))
+    let same = c .before .before .before .out2 .given ∙ c .before .before .before .before .before .before .before .out .given in
+    let r = room start in
+    let at = c .root-at .ensures .0 in
+    (start .pre .4, (omega (arith, r, same, at), omega (arith, r, at))))
     (λ c. search needs)
     (λ c. let nodes = c .before .before in
-      let at = nodes .before .root-at .ensures .0 in
-      let tables = nodes .before .before .before .before .before in
-      let first = tables .before .before .before .before in
-      let start = first .before .before .before .before .before .before in
-      let a = start .args in
-      let bits = nodes-width (a .k) (a .m) (a .a) (a .b) in
-      proof-written-by _ _ _ _ _ _ (length-tabulate _ _) (length-tabulate _ _) _ _ _ _ (a .bytes) _
-      (start .pre .6 ∙ ap bytesFor (omega (arith, at, bits))) (start .pre .5) at (first .clear .ensures) (tables .write-tables .ensures)
-      (nodes .write-all-nodes .ensures)))
+    let at = nodes .before .root-at .ensures .0 in
+    let tables = nodes .before .before .before .before .before in
+    let first = tables .before .before .before .before in
+    let start = first .before .before .before .before .before .before in
+    let a = start .args in
+    let bits = nodes-width (a .k) (a .m) (a .a) (a .b) in
+    proof-written-by _ _ _ _ _ _ (length-tabulate _ _) (length-tabulate _ _) _ _ _ _ (a .bytes) _
+    (start .pre .6 ∙ ap bytesFor (omega (arith, at, bits))) (start .pre .5) at (first .clear .ensures) (tables .write-tables .ensures)
+    (nodes .write-all-nodes .ensures)))

@@ -19,6 +19,6 @@ write-side-spec =
     (λ c. sym (full (c .before .before .before .before .before .before .before .before .before)))
     (λ c. search needs) (λ c. search needs) (λ c κs. search needs) (λ c. search needs)
     (λ c. let nodes = c .before .before in
-      let node = nodes .before .before .before .before .before .before in
-      let start = node .before .before .before .before .before .before in
-      side-written _ _ _ _ _ _ _ _ _ _ (node .before .before .new-node .ensures) (start .pre .1) (node .write-node .ensures) (nodes .write-nodes .ensures)))
+    let node = nodes .before .before .before .before .before .before in
+    let start = node .before .before .before .before .before .before in
+    side-written _ _ _ _ _ _ _ _ _ _ (node .before .before .new-node .ensures) (start .pre .1) (node .write-node .ensures) (nodes .write-nodes .ensures)))

@@ -25,7 +25,7 @@ met-spec =
     (tie.spec Inv-loop μ-loop (λ c. rows-none _) (λ c. search needs) (λ c. search needs) (λ c κs. search needs) (λ c κs. search needs)
     (λ c κs. search needs) (λ c κs. search needs) (λ c. search needs) (λ c. search needs)
     (λ c. let d = c .before .before in
-      rw (c .before .put-entry .ensures)
-      (rows-more _ _ _ _ (omega arith) (λ t. d .meet .ensures t ∙ ap₂ _&&_ (d .before .before .row .ensures t) (d .before .row2 .ensures t))
-      (d .before .before .before .before .before .loop .inv)))
+    rw (c .before .put-entry .ensures)
+    (rows-more _ _ _ _ (omega arith) (λ t. d .meet .ensures t ∙ ap₂ _&&_ (d .before .before .row .ensures t) (d .before .row2 .ensures t))
+    (d .before .before .before .before .before .loop .inv)))
     (λ c most s t. filled-rel _ most _ _ _ (c .loop-test .left) (c .before .loop .inv) (λ u v e. rel-between _ _ u v (and-left _ _ e)) s t))

@@ -22,7 +22,7 @@ post-spec =
     (tie.spec Inv-loop μ-loop (λ c. rows-none _) (λ c. search needs) (λ c. search needs) (λ c κs. search needs) (λ c κs. search needs)
     (λ c. search needs) (λ c. search needs)
     (λ c. let d = c .before .before in
-      rw (c .before .put-entry .ensures) (rows-more _ _ _ _ (omega arith) (d .post-at .ensures) (d .before .before .before .loop .inv)))
+    rw (c .before .put-entry .ensures) (rows-more _ _ _ _ (omega arith) (d .post-at .ensures) (d .before .before .before .loop .inv)))
     (λ c most. let a = c .before .before .before .before .before .args in
-      filled-rel (a .n) most _ _ _ (c .loop-test .left) (c .before .loop .inv)
-      (part-between (a .n) (a .a .now) (has (a .p)) (rel (a .n) (a .b .now)) (reach (a .n) (rel (a .n) (a .moves .now))))))
+    filled-rel (a .n) most _ _ _ (c .loop-test .left) (c .before .loop .inv)
+    (part-between (a .n) (a .a .now) (has (a .p)) (rel (a .n) (a .b .now)) (reach (a .n) (rel (a .n) (a .moves .now))))))

@@ -12,9 +12,9 @@ post-at-spec =
     (tie.spec (λ c κs. search needs) (λ c κs. search needs) (λ c κs. search needs) (λ c κs. search needs) (λ c κs. search needs)
     (λ c κs. search needs) (λ c κs. search needs) (λ c κs. search needs)
     (λ c t. let both = c .before .before .before in
-      let in-P = both .before .before .before in
-      rw (sym (in-P .before .holds-state .ensures) ∙ in-P .if1 .taken)
-      (c .meet2 .ensures t
-      ∙ ap₂ _&&_ (both .meet .ensures t ∙ ap₂ _&&_ (both .before .before .row .ensures t) (both .before .row2 .ensures t))
-      (reached-set _ _ _ _ _ (search needs) (c .before .before .single .ensures) (c .before .reach .ensures) t)))
+    let in-P = both .before .before .before in
+    rw (sym (in-P .before .holds-state .ensures) ∙ in-P .if1 .taken)
+    (c .meet2 .ensures t
+    ∙ ap₂ _&&_ (both .meet .ensures t ∙ ap₂ _&&_ (both .before .before .row .ensures t) (both .before .row2 .ensures t))
+    (reached-set _ _ _ _ _ (search needs) (c .before .before .single .ensures) (c .before .reach .ensures) t)))
     (λ c t. rw (sym (c .before .before .holds-state .ensures) ∙ c .before .if1 .left) (c .empty .ensures t)))

@@ -34,22 +34,22 @@ roots-of-spec =
     (λ c κs. search needs) (λ c κs. search needs) (λ c κs. search needs) (λ c κs. search needs) (λ c. search needs) (λ c κs. search needs)
     (λ c. search needs) (λ c κs. search needs) (λ c. search needs) (λ c κs. search needs) (λ c κs. search needs) (λ c κs. search needs) (λ c. search needs) (λ c κs. search needs)
     (λ c. let moves = at-moves c in
-      let right = at-right moves in
-      let left = at-left right in
-      let G = at-G left in
-      let R = at-R G in
-      let g₂ = R .before .before .before in
-      let g₁ = g₂ .before in
-      let P = g₁ .before in
-      let start = P .before .before .before .before .before in
-      let n = start .args .n in
-      let most : n ≤ capacity = start .pre in
-      joint n _ _ _ _ (λ s. P .meet .ensures s ∙ ap₂ _&&_ (P .before .before .set-at .ensures s) (P .before .set-at2 .ensures s))
-      (λ s t. R .met .ensures most s t ∙ (λ i. rel n (R .before .before .rows-of3 .ensures i) s t && rel n (R .before .rows-of4 .ensures i) s t))
-      (λ s t. G .joined .ensures most s t ∙ (λ i. rel n (g₁ .rows-of .ensures i) s t || rel n (g₂ .rows-of2 .ensures i) s t))
-      (λ s t. left .joined2 .ensures most s t ∙ (λ i. rel n (R .met .result) s t || rel n (g₂ .rows-of2 .ensures i) s t))
-      (λ s t. right .joined3 .ensures most s t ∙ (λ i. rel n (R .met .result) s t || rel n (g₁ .rows-of .ensures i) s t))
-      (λ s t. moves .joined4 .ensures most s t ∙ (λ i. rel n (right .joined3 .result) s t || rel n (g₂ .rows-of2 .ensures i) s t))
-      (λ s t. c .post .ensures most s t
-      ∙ (λ i. has (P .meet .result) s && rel n (c .before .before .before .rows-of5 .ensures i) s t
-      && rel n (c .before .before .rows-of6 .ensures i) s t && reach n (rel n (moves .joined4 .result)) s t))))
+    let right = at-right moves in
+    let left = at-left right in
+    let G = at-G left in
+    let R = at-R G in
+    let g₂ = R .before .before .before in
+    let g₁ = g₂ .before in
+    let P = g₁ .before in
+    let start = P .before .before .before .before .before in
+    let n = start .args .n in
+    let most : n ≤ capacity = start .pre in
+    joint n _ _ _ _ (λ s. P .meet .ensures s ∙ ap₂ _&&_ (P .before .before .set-at .ensures s) (P .before .set-at2 .ensures s))
+    (λ s t. R .met .ensures most s t ∙ (λ i. rel n (R .before .before .rows-of3 .ensures i) s t && rel n (R .before .rows-of4 .ensures i) s t))
+    (λ s t. G .joined .ensures most s t ∙ (λ i. rel n (g₁ .rows-of .ensures i) s t || rel n (g₂ .rows-of2 .ensures i) s t))
+    (λ s t. left .joined2 .ensures most s t ∙ (λ i. rel n (R .met .result) s t || rel n (g₂ .rows-of2 .ensures i) s t))
+    (λ s t. right .joined3 .ensures most s t ∙ (λ i. rel n (R .met .result) s t || rel n (g₁ .rows-of .ensures i) s t))
+    (λ s t. moves .joined4 .ensures most s t ∙ (λ i. rel n (right .joined3 .result) s t || rel n (g₂ .rows-of2 .ensures i) s t))
+    (λ s t. c .post .ensures most s t
+    ∙ (λ i. has (P .meet .result) s && rel n (c .before .before .before .rows-of5 .ensures i) s t
+    && rel n (c .before .before .rows-of6 .ensures i) s t && reach n (rel n (moves .joined4 .result)) s t))))

@@ -48,15 +48,15 @@ write-relation-spec =
     (λ c κs. search needs)
     (λ c. search needs) (λ c. search needs)
     (λ c. let put = c .before .before in
-      let arg = put .before in
-      let l = arg .before .before .before in
-      let a = l .before .before .before .args in
-      let members = fun-ext (arg .before .row-at .ensures) in (
-        omega arith,
-        put .put-set .ensures
-            ∙ rw (members, l .loop .inv .1)
-            (row-more (a .n) (wordRelation (a .n) (a .words .now) (a .r)) (a .out .now) (a .at) (l .loop .s) (omega (arith, room arg)) (omega (arith, room arg))),
-      ))
+    let arg = put .before in
+    let l = arg .before .before .before in
+    let a = l .before .before .before .args in
+    let members = fun-ext (arg .before .row-at .ensures) in (
+      omega arith,
+      put .put-set .ensures
+          ∙ rw (members, l .loop .inv .1)
+          (row-more (a .n) (wordRelation (a .n) (a .words .now) (a .r)) (a .out .now) (a .at) (l .loop .s) (omega (arith, room arg)) (omega (arith, room arg))),
+    ))
     (λ c. kept (c .before))
     (λ c. let all : c .before .loop .s ≡ c .before .before .before .before .args .n = omega arith in
-      rw all at (c .before .loop .inv .1)))
+    rw all at (c .before .loop .inv .1)))

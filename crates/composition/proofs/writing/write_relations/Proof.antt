@@ -46,12 +46,12 @@ write-relations-spec =
     (λ c. search needs)
     (λ c. omega (arith, room c)) (λ c. omega (arith, room c))
     (λ c κs. let l = c .before .before in
-      (search needs, search needs, (omega (arith, room c, kept l), omega (arith, room c))))
+    (search needs, search needs, (omega (arith, room c, kept l), omega (arith, room c))))
     (λ c. search needs) (λ c. search needs)
     (λ c. let call = c .before .before in
-      let l = call .before .before .before in
-      let a = l .before .before .before .args in
-      (omega arith, call .write-relation .ensures ∙ rw (l .loop .inv .1) (tables-more (a .n * a .n) _ (a .out .now) (a .at) (l .loop .r))))
+    let l = call .before .before .before in
+    let a = l .before .before .before .args in
+    (omega arith, call .write-relation .ensures ∙ rw (l .loop .inv .1) (tables-more (a .n * a .n) _ (a .out .now) (a .at) (l .loop .r))))
     (λ c. kept (c .before))
     (λ c. let all : c .before .loop .r ≡ c .before .before .before .before .args .count = omega arith in
-      rw all at (c .before .loop .inv .1)))
+    rw all at (c .before .loop .inv .1)))

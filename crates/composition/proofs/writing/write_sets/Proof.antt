@@ -47,15 +47,15 @@ write-sets-spec =
     (λ c κs. search needs)
     (λ c. search needs) (λ c. search needs)
     (λ c. let put = c .before .before in
-      let arg = put .before in
-      let l = arg .before .before .before in
-      let a = l .before .before .before .args in
-      let members = fun-ext (arg .before .set-at .ensures) in (
-        omega arith,
-        put .put-set .ensures
-            ∙ rw (members, l .loop .inv .1)
-            (set-more (a .n) (wordSet (a .n) (a .words .now)) (a .out .now) (a .at) (l .loop .i) (omega (arith, room arg)) (omega (arith, room arg))),
-      ))
+    let arg = put .before in
+    let l = arg .before .before .before in
+    let a = l .before .before .before .args in
+    let members = fun-ext (arg .before .set-at .ensures) in (
+      omega arith,
+      put .put-set .ensures
+          ∙ rw (members, l .loop .inv .1)
+          (set-more (a .n) (wordSet (a .n) (a .words .now)) (a .out .now) (a .at) (l .loop .i) (omega (arith, room arg)) (omega (arith, room arg))),
+    ))
     (λ c. kept (c .before))
     (λ c. let all : c .before .loop .i ≡ c .before .before .before .before .args .count = omega arith in
-      rw all at (c .before .loop .inv .1)))
+    rw all at (c .before .loop .inv .1)))

@@ -45,16 +45,16 @@ compared-spec =
     (λ c. search needs) (λ c. search needs) (λ c. search needs) (λ c. search needs) (λ c. search needs) (λ c κs. search needs)
     (λ c κs. search needs) (λ c. search needs) (λ c. search needs)
     (λ c. let k = c .before .before .before .before .before in
-        let args = k .before .before .args in
-        let a = integerIn (args .t3) (k .loop .s) in
-        let b = integerIn (args .t4) (k .loop .s) in (
-          omega arith,
-          holds-more (λ t. isTruth true (getD (ofIntegers (integerIn (args .t3) t) (integerIn (args .t4) t)) (args .o) none)) _ _ _ _ (omega arith)
-              (carried (args .o) a b _ _ _ (toZ-ofZ {w = w64} {z = a} (sfits-of (c .before .before .before .compares-arg .given)))
-              (toZ-ofZ {w = w64} {z = b} (sfits-of (c .before .before .compares-arg2 .given))) (c .before .compares .ensures))
-              (c .with-state .ensures) (k .loop .inv .1),
-        ))
+    let args = k .before .before .args in
+    let a = integerIn (args .t3) (k .loop .s) in
+    let b = integerIn (args .t4) (k .loop .s) in (
+      omega arith,
+      holds-more (λ t. isTruth true (getD (ofIntegers (integerIn (args .t3) t) (integerIn (args .t4) t)) (args .o) none)) _ _ _ _ (omega arith)
+          (carried (args .o) a b _ _ _ (toZ-ofZ {w = w64} {z = a} (sfits-of (c .before .before .before .compares-arg .given)))
+          (toZ-ofZ {w = w64} {z = b} (sfits-of (c .before .before .compares-arg2 .given))) (c .before .compares .ensures))
+          (c .with-state .ensures) (k .loop .inv .1),
+    ))
     (λ c s l. let k = c .before .before .before in
-        let holds = rw (lt-ltb s (c .before .loop .s) (omega arith)) at (c .before .loop .inv .1 s) in
-        ap (λ b. some (truth b)) holds
-        ∙ is-truth (k .args .o) (integerIn (k .args .t3) s) (integerIn (k .args .t4) s) (k .pre .1) (k .pre .2)))
+    let holds = rw (lt-ltb s (c .before .loop .s) (omega arith)) at (c .before .loop .inv .1 s) in
+    ap (λ b. some (truth b)) holds
+    ∙ is-truth (k .args .o) (integerIn (k .args .t3) s) (integerIn (k .args .t4) s) (k .pre .1) (k .pre .2)))

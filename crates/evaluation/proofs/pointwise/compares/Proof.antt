@@ -11,4 +11,4 @@ compares-spec =
     (tie.spec (λ c. rw (toZ-ofZ (c .before .fits .a), toZ-ofZ (c .before .fits .b), c .match .keys1))
     (λ c. rw (toZ-ofZ (c .before .fits .a), toZ-ofZ (c .before .fits .b), c .match .keys2))
     (λ c. let four : c .before .args .o ≡ 4 = omega arith in
-        rw (toZ-ofZ (c .before .fits .a), toZ-ofZ (c .before .fits .b), four)))
+    rw (toZ-ofZ (c .before .fits .a), toZ-ofZ (c .before .fits .b), four)))

@@ -12,5 +12,5 @@ next-below-spec =
     tie.close
     (tie.spec (λ c. search needs) (λ c. search needs) (λ c. sym (mod-eq-of-lt (c .if1 .taken)))
     (λ c. let a = c .before .args in
-        let last : a .x + 1 ≡ a .limit = omega arith in
-        rw last (sym (mod-self (a .limit)))))
+    let last : a .x + 1 ≡ a .limit = omega arith in
+    rw last (sym (mod-self (a .limit)))))

@@ -25,15 +25,15 @@ states-with-spec =
     tie.close
     (tie.spec Inv-loop μ-loop (λ c. omega (arith, period c)) (λ c κs. search needs)
     (λ c. let a = c .before .args in
-        omega (arith, mul-le-mul {n₁ = a .value} {m₁ = a .weight} {n₂ = capacity} {m₂ = capacity} (omega arith) (omega arith)))
+    omega (arith, mul-le-mul {n₁ = a .value} {m₁ = a .weight} {n₂ = capacity} {m₂ = capacity} (omega arith) (omega arith)))
     (λ c. let p = c .before .pre in
-        (first-run _ _ _ (p .1) (p .4), no-run _ _ _ (p .1) (p .4) _ (c .empty .ensures)))
+    (first-run _ _ _ (p .1) (p .4), no-run _ _ _ (p .1) (p .4) _ (c .empty .ensures)))
     (λ c. omega arith) (λ c κs. search needs) (λ c. omega (arith, period (c .before .before .before .before)))
     (λ c. omega (arith, period (c .before .before .before .before)))
     (λ c. let p = c .before .before .before .before .pre in
-        let run = c .before .before .loop .inv in
-        (next-run _ _ _ (p .1) (p .4) (run .0), one-run _ _ _ (p .1) (p .4) _ (run .0) _ _ (c .with-run .ensures) (run .1)))
+    let run = c .before .before .loop .inv in
+    (next-run _ _ _ (p .1) (p .4) (run .0), one-run _ _ _ (p .1) (p .4) _ (run .0) _ _ (c .with-run .ensures) (run .1)))
     (λ c κs. search needs) (λ c κs. search needs)
     (λ c. let k = c .before .before .before in
-        let p = k .before .before .pre in
-        all-runs _ _ _ (p .1) (p .4) _ _ (p .0) (omega arith) _ _ _ (k .loop .inv .1) (c .before .below .ensures) (c .meet .ensures)))
+    let p = k .before .before .pre in
+    all-runs _ _ _ (p .1) (p .4) _ _ (p .0) (omega arith) _ _ _ (k .loop .inv .1) (c .before .below .ensures) (c .meet .ensures)))

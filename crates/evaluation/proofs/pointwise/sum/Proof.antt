@@ -23,13 +23,13 @@ sum-spec =
     tie.close
     (tie.spec
     (λ c. let a = c .before .args in
-        rw (toZ-ofZ (c .before .fits .a), toZ-ofZ (c .before .fits .b)) (sum-fits (a .a) (a .b) (c .before .pre .1)))
+    rw (toZ-ofZ (c .before .fits .a), toZ-ofZ (c .before .fits .b)) (sum-fits (a .a) (a .b) (c .before .pre .1)))
     (λ c. let a = c .before .args in
-        rw (toZ-ofZ (c .before .fits .a), toZ-ofZ (c .before .fits .b)) (difference-fits (a .a) (a .b) (c .before .pre .1)))
+    rw (toZ-ofZ (c .before .fits .a), toZ-ofZ (c .before .fits .b)) (difference-fits (a .a) (a .b) (c .before .pre .1)))
     (λ c. let a = c .before .args in
-        rw (toZ-ofZ (c .before .fits .a), toZ-ofZ (c .before .fits .b), toZ-ofZ (sum-fits (a .a) (a .b) (c .before .pre .1)), c .if1 .taken)
-        (refl, mag-add (a .a) (a .b)))
+    rw (toZ-ofZ (c .before .fits .a), toZ-ofZ (c .before .fits .b), toZ-ofZ (sum-fits (a .a) (a .b) (c .before .pre .1)), c .if1 .taken)
+    (refl, mag-add (a .a) (a .b)))
     (λ c. let a = c .before .args in
-        let one : a .o ≡ 1 = omega arith in
-        rw (toZ-ofZ (c .before .fits .a), toZ-ofZ (c .before .fits .b), toZ-ofZ (difference-fits (a .a) (a .b) (c .before .pre .1)), one)
-        (refl, mag-minus (a .a) (a .b))))
+    let one : a .o ≡ 1 = omega arith in
+    rw (toZ-ofZ (c .before .fits .a), toZ-ofZ (c .before .fits .b), toZ-ofZ (difference-fits (a .a) (a .b) (c .before .pre .1)), one)
+    (refl, mag-minus (a .a) (a .b))))

@@ -39,19 +39,19 @@ sum-row-spec =
     (tie.spec Inv-loop μ-loop (λ c. (omega arith, cells-none (pos 0) _)) (λ c. search needs) (λ c. search needs) (λ c. search needs)
     (λ c. search needs) (λ c. search needs) (λ c. search needs)
     (λ c κs. let k = c .before .before .before in
-        let a = integerIn (k .before .args .t3) (k .loop .s) in
-        let b = integerIn (k .before .args .t4) (k .loop .s) in
-        rw (toZ-ofZ {w = w64} {z = a} (sfits-of (c .before .sum-arg .given)), toZ-ofZ {w = w64} {z = b} (sfits-of (c .sum-arg2 .given)))
-        (k .before .pre .1, k .before .pre .2 (k .loop .s) (omega arith)))
+    let a = integerIn (k .before .args .t3) (k .loop .s) in
+    let b = integerIn (k .before .args .t4) (k .loop .s) in
+    rw (toZ-ofZ {w = w64} {z = a} (sfits-of (c .before .sum-arg .given)), toZ-ofZ {w = w64} {z = b} (sfits-of (c .sum-arg2 .given)))
+    (k .before .pre .1, k .before .pre .2 (k .loop .s) (omega arith)))
     (λ c. search needs) (λ c. search needs) (λ c. search needs) (λ c. search needs) (λ c. search needs)
     (λ c. let k = c .before .before .before .before in
-        let args = k .before .args in
-        let a = integerIn (args .t3) (k .loop .s) in
-        let b = integerIn (args .t4) (k .loop .s) in (
-          omega arith,
-          cells-more (pos 0) (Sum (args .o) (args .t3) (args .t4)) _ _ _ (omega arith)
-              (carried (args .o) a b (c .sum .result) _ _ _ (toZ-ofZ {w = w64} {z = a} (sfits-of (c .before .before .sum-arg .given)))
-              (toZ-ofZ {w = w64} {z = b} (sfits-of (c .before .sum-arg2 .given))) (toZ-ofZ {w = w64} {z = c .sum .result} (sfits-of (c .sum .ok))) (c .sum .ensures))
-              (k .loop .inv .1),
-        ))
+    let args = k .before .args in
+    let a = integerIn (args .t3) (k .loop .s) in
+    let b = integerIn (args .t4) (k .loop .s) in (
+      omega arith,
+      cells-more (pos 0) (Sum (args .o) (args .t3) (args .t4)) _ _ _ (omega arith)
+          (carried (args .o) a b (c .sum .result) _ _ _ (toZ-ofZ {w = w64} {z = a} (sfits-of (c .before .before .sum-arg .given)))
+          (toZ-ofZ {w = w64} {z = b} (sfits-of (c .before .sum-arg2 .given))) (toZ-ofZ {w = w64} {z = c .sum .result} (sfits-of (c .sum .ok))) (c .sum .ensures))
+          (k .loop .inv .1),
+    ))
     (λ c s l. c .before .loop .inv .1 .hold s (omega arith)))

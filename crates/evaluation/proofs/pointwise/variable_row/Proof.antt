@@ -39,17 +39,17 @@ variable-row-spec =
     value-fits (λ c. search needs) (λ c. search needs) (λ c. search needs)
     (λ c κs. omega (arith, mod-lt (c .before .loop .s) (c .before .before .pre .1)))
     (λ c κs. let k = c .before .before in
-        omega (arith, mod-lt (k .loop .s / k .before .args .weight) (k .before .pre .2)))
+    omega (arith, mod-lt (k .loop .s / k .before .args .weight) (k .before .pre .2)))
     (λ c. search needs) (λ c. search needs)
     (λ c. let k = c .before .before .before in
-        let a = k .before .args in
-        let now = k .loop .inv in
-        let place = c .before .next-below .ensures ∙ ap (λ p. (p + 1) % a .weight) (now .1) ∙ mod-add-mod (k .loop .s) (a .weight) 1 in (
-          omega arith,
-          place,
-          c .next-value .ensures ∙ ap₂ (λ p v. cond (eqb p 0) ((v + 1) % a .size) v) place (now .2)
-              ∙ value-on (k .loop .s) (a .weight) (a .size) (k .before .pre .1),
-          cells-more (pos 0) (Value (a .weight) (a .size)) _ _ _ (omega arith) (toZ-ofZ (value-fits (c .before .before)) ∙ ap pos (now .2))
-              (now .3),
-        ))
+    let a = k .before .args in
+    let now = k .loop .inv in
+    let place = c .before .next-below .ensures ∙ ap (λ p. (p + 1) % a .weight) (now .1) ∙ mod-add-mod (k .loop .s) (a .weight) 1 in (
+      omega arith,
+      place,
+      c .next-value .ensures ∙ ap₂ (λ p v. cond (eqb p 0) ((v + 1) % a .size) v) place (now .2)
+          ∙ value-on (k .loop .s) (a .weight) (a .size) (k .before .pre .1),
+      cells-more (pos 0) (Value (a .weight) (a .size)) _ _ _ (omega arith) (toZ-ofZ (value-fits (c .before .before)) ∙ ap pos (now .2))
+          (now .3),
+    ))
     (λ c s l. c .before .loop .inv .3 .hold s (omega arith)))

@@ -17,8 +17,8 @@ with-run-spec =
     tie.close
     (tie.spec (λ c κs. search needs) (λ c κs. search needs) (λ c κs. search needs) (λ c κs. search needs)
     (λ c t. let k = c .before .before in
-        let a = k .before .before .args in
-        c .join .ensures t
-        ∙ ap (λ b. has (a .found) t || b)
-        (c .before .narrow .ensures t
-        ∙ rw (k .before .below .ensures t, k .below2 .ensures t) (shared (ltb t capacity) (ltb t (a .end)) (ltb t (a .from))))))
+    let a = k .before .before .args in
+    c .join .ensures t
+    ∙ ap (λ b. has (a .found) t || b)
+    (c .before .narrow .ensures t
+    ∙ rw (k .before .below .ensures t, k .below2 .ensures t) (shared (ltb t capacity) (ltb t (a .end)) (ltb t (a .from))))))

@@ -11,6 +11,6 @@ with-state-spec =
     tie.close
     (tie.spec (λ c κs. search needs) (λ c κs. search needs)
     (λ c t.
-        rw (c .before .before .if1 .taken)
-        (c .join .ensures t ∙ ap (λ b. has (c .before .before .before .args .found) t || b) (c .before .single .ensures t)))
+    rw (c .before .before .if1 .taken)
+    (c .join .ensures t ∙ ap (λ b. has (c .before .before .before .args .found) t || b) (c .before .single .ensures t)))
     (λ c t. rw (c .if1 .left) (sym (or-false _))))

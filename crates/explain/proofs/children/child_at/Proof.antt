@@ -15,8 +15,8 @@ child-at-spec =
     (λ c. let b = c .before .before in rw (eq-eqb _ 2 (b .if1 .taken), sym (c .before .sequence-left .ensures) ∙ c .if2 .left))
     (λ c κs. search needs)
     (λ c. let b = c .before .before in
-      rw (ne-eqb _ 2 (b .before .if1 .left), eq-eqb _ 3 (b .if3 .taken), sym (c .before .parallel-left .ensures) ∙ c .if4 .taken))
+    rw (ne-eqb _ 2 (b .before .if1 .left), eq-eqb _ 3 (b .if3 .taken), sym (c .before .parallel-left .ensures) ∙ c .if4 .taken))
     (λ c. let b = c .before .before in
-      rw (ne-eqb _ 2 (b .before .if1 .left), eq-eqb _ 3 (b .if3 .taken), sym (c .before .parallel-left .ensures) ∙ c .if4 .left))
+    rw (ne-eqb _ 2 (b .before .if1 .left), eq-eqb _ 3 (b .if3 .taken), sym (c .before .parallel-left .ensures) ∙ c .if4 .left))
     (λ c. rw (ne-eqb _ 2 (c .before .before .if1 .left), ne-eqb _ 3 (c .before .if3 .left), c .if5 .taken))
     (λ c. rw (ne-eqb _ 2 (c .before .before .if1 .left), ne-eqb _ 3 (c .before .if3 .left), c .if5 .left)))

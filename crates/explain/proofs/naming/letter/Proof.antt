@@ -16,7 +16,7 @@ letter-spec =
     (λ c. let b = c .before .before .before .before .before in rw (ne-eqb _ 0 (b .before .if1 .left), ne-eqb _ 1 (b .if2 .taken)) (c .before .before .put2 .ensures))
     (λ c. search needs) (λ c κs. search needs) (λ c. search needs)
     (λ c. let b = c .before .before .before .before .before in
-      rw (ne-eqb _ 0 (b .before .before .if1 .left), eq-eqb _ 1 (b .before .if2 .left), b .if3 .taken) (c .before .before .put3 .ensures))
+    rw (ne-eqb _ 0 (b .before .before .if1 .left), eq-eqb _ 1 (b .before .if2 .left), b .if3 .taken) (c .before .before .put3 .ensures))
     (λ c. search needs) (λ c κs. search needs) (λ c. search needs)
     (λ c. let b = c .before .before .before .before .before in
-      rw (ne-eqb _ 0 (b .before .before .if1 .left), eq-eqb _ 1 (b .before .if2 .left), b .if3 .left) (c .before .before .put4 .ensures)))
+    rw (ne-eqb _ 0 (b .before .before .if1 .left), eq-eqb _ 1 (b .before .if2 .left), b .if3 .left) (c .before .before .put4 .ensures)))

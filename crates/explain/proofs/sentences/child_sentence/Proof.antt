@@ -23,5 +23,5 @@ child-sentence-spec =
     (λ c. search needs) (λ c. rw (c .before .before .before .before .before .match .keys5) (c .before .before .put5 .ensures))
     (λ c. search needs)
     (λ c. let no = c .before .before .before .before .match .rest in
-      rw (ne-eqb _ 34 (no .0 .0 .0 .0 .1), ne-eqb _ 35 (no .0 .0 .0 .1), ne-eqb _ 36 (no .0 .0 .1), ne-eqb _ 37 (no .0 .1), ne-eqb _ 38 (no .1))
-      (c .before .before .store-sentence .ensures)))
+    rw (ne-eqb _ 34 (no .0 .0 .0 .0 .1), ne-eqb _ 35 (no .0 .0 .0 .1), ne-eqb _ 36 (no .0 .0 .1), ne-eqb _ 37 (no .0 .1), ne-eqb _ 38 (no .1))
+    (c .before .before .store-sentence .ensures)))

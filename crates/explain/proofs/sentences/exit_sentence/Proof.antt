@@ -21,5 +21,5 @@ exit-sentence-spec =
     (λ c. search needs) (λ c. rw (c .before .before .before .before .before .match .keys4) (c .before .before .put4 .ensures))
     (λ c. search needs)
     (λ c. let no = c .before .before .before .before .match .rest in
-      rw (ne-eqb _ 54 (no .0 .0 .0 .1), ne-eqb _ 55 (no .0 .0 .1), ne-eqb _ 56 (no .0 .1), ne-eqb _ 57 (no .1))
-      (c .before .before .part-sentence .ensures)))
+    rw (ne-eqb _ 54 (no .0 .0 .0 .1), ne-eqb _ 55 (no .0 .0 .1), ne-eqb _ 56 (no .0 .1), ne-eqb _ 57 (no .1))
+    (c .before .before .part-sentence .ensures)))

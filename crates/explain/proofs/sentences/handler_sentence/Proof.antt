@@ -25,5 +25,5 @@ handler-sentence-spec =
     (λ c. search needs) (λ c. rw (c .before .before .before .before .before .match .keys6) (c .before .before .put6 .ensures))
     (λ c. search needs)
     (λ c. let no = c .before .before .before .before .match .rest in
-      rw (ne-eqb _ 13 (no .0 .0 .0 .0 .0 .1), ne-eqb _ 14 (no .0 .0 .0 .0 .1), ne-eqb _ 15 (no .0 .0 .0 .1), ne-eqb _ 16 (no .0 .0 .1), ne-eqb _ 17 (no .0 .1), ne-eqb _ 18 (no .1))
-      (c .before .before .proof-sentence .ensures)))
+    rw (ne-eqb _ 13 (no .0 .0 .0 .0 .0 .1), ne-eqb _ 14 (no .0 .0 .0 .0 .1), ne-eqb _ 15 (no .0 .0 .0 .1), ne-eqb _ 16 (no .0 .0 .1), ne-eqb _ 17 (no .0 .1), ne-eqb _ 18 (no .1))
+    (c .before .before .proof-sentence .ensures)))

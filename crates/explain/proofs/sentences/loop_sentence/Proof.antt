@@ -21,5 +21,5 @@ loop-sentence-spec =
     (λ c. search needs) (λ c. rw (c .before .before .before .before .before .match .keys4) (c .before .before .put4 .ensures))
     (λ c. search needs)
     (λ c. let no = c .before .before .before .before .match .rest in
-      rw (ne-eqb _ 50 (no .0 .0 .0 .1), ne-eqb _ 51 (no .0 .0 .1), ne-eqb _ 52 (no .0 .1), ne-eqb _ 53 (no .1))
-      (c .before .before .exit-sentence .ensures)))
+    rw (ne-eqb _ 50 (no .0 .0 .0 .1), ne-eqb _ 51 (no .0 .0 .1), ne-eqb _ 52 (no .0 .1), ne-eqb _ 53 (no .1))
+    (c .before .before .exit-sentence .ensures)))

@@ -21,5 +21,5 @@ node-sentence-spec =
     (λ c. search needs) (λ c. rw (c .before .before .before .before .before .match .keys4) (c .before .before .put4 .ensures))
     (λ c. search needs)
     (λ c. let no = c .before .before .before .before .match .rest in
-      rw (ne-eqb _ 30 (no .0 .0 .0 .1), ne-eqb _ 31 (no .0 .0 .1), ne-eqb _ 32 (no .0 .1), ne-eqb _ 33 (no .1))
-      (c .before .before .child-sentence .ensures)))
+    rw (ne-eqb _ 30 (no .0 .0 .0 .1), ne-eqb _ 31 (no .0 .0 .1), ne-eqb _ 32 (no .0 .1), ne-eqb _ 33 (no .1))
+    (c .before .before .child-sentence .ensures)))

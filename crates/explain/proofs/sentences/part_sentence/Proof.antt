@@ -21,5 +21,5 @@ part-sentence-spec =
     (λ c. search needs) (λ c. rw (c .before .before .before .before .before .match .keys4) (c .before .before .put4 .ensures))
     (λ c. search needs)
     (λ c. let no = c .before .before .before .before .match .rest in
-      rw (ne-eqb _ 60 (no .0 .0 .0 .1), ne-eqb _ 61 (no .0 .0 .1), ne-eqb _ 65 (no .0 .1), ne-eqb _ 66 (no .1))
-      (c .before .before .weaken-sentence .ensures)))
+    rw (ne-eqb _ 60 (no .0 .0 .0 .1), ne-eqb _ 61 (no .0 .0 .1), ne-eqb _ 65 (no .0 .1), ne-eqb _ 66 (no .1))
+    (c .before .before .weaken-sentence .ensures)))

@@ -25,5 +25,5 @@ proof-sentence-spec =
     (λ c. search needs) (λ c. rw (c .before .before .before .before .before .match .keys6) (c .before .before .put6 .ensures))
     (λ c. search needs)
     (λ c. let no = c .before .before .before .before .match .rest in
-      rw (ne-eqb _ 20 (no .0 .0 .0 .0 .0 .1), ne-eqb _ 21 (no .0 .0 .0 .0 .1), ne-eqb _ 22 (no .0 .0 .0 .1), ne-eqb _ 23 (no .0 .0 .1), ne-eqb _ 24 (no .0 .1), ne-eqb _ 25 (no .1))
-      (c .before .before .node-sentence .ensures)))
+    rw (ne-eqb _ 20 (no .0 .0 .0 .0 .0 .1), ne-eqb _ 21 (no .0 .0 .0 .0 .1), ne-eqb _ 22 (no .0 .0 .0 .1), ne-eqb _ 23 (no .0 .0 .1), ne-eqb _ 24 (no .0 .1), ne-eqb _ 25 (no .1))
+    (c .before .before .node-sentence .ensures)))

@@ -23,5 +23,5 @@ sentence-spec =
     (λ c. search needs) (λ c. rw (c .before .before .before .before .before .match .keys5) (c .before .before .put5 .ensures))
     (λ c. search needs)
     (λ c. let no = c .before .before .before .before .match .rest in
-      rw (ne-eqb _ 1 (no .0 .0 .0 .0 .1), ne-eqb _ 2 (no .0 .0 .0 .1), ne-eqb _ 10 (no .0 .0 .1), ne-eqb _ 11 (no .0 .1), ne-eqb _ 12 (no .1))
-      (c .before .before .handler-sentence .ensures)))
+    rw (ne-eqb _ 1 (no .0 .0 .0 .0 .1), ne-eqb _ 2 (no .0 .0 .0 .1), ne-eqb _ 10 (no .0 .0 .1), ne-eqb _ 11 (no .0 .1), ne-eqb _ 12 (no .1))
+    (c .before .before .handler-sentence .ensures)))

@@ -23,5 +23,5 @@ store-sentence-spec =
     (λ c. search needs) (λ c. rw (c .before .before .before .before .before .match .keys5) (c .before .before .put5 .ensures))
     (λ c. search needs)
     (λ c. let no = c .before .before .before .before .match .rest in
-      rw (ne-eqb _ 41 (no .0 .0 .0 .0 .1), ne-eqb _ 42 (no .0 .0 .0 .1), ne-eqb _ 43 (no .0 .0 .1), ne-eqb _ 45 (no .0 .1), ne-eqb _ 46 (no .1))
-      (c .before .before .loop-sentence .ensures)))
+    rw (ne-eqb _ 41 (no .0 .0 .0 .0 .1), ne-eqb _ 42 (no .0 .0 .0 .1), ne-eqb _ 43 (no .0 .0 .1), ne-eqb _ 45 (no .0 .1), ne-eqb _ 46 (no .1))
+    (c .before .before .loop-sentence .ensures)))

@@ -23,5 +23,5 @@ weaken-sentence-spec =
     (λ c. search needs) (λ c. rw (c .before .before .before .before .before .match .keys5) (c .before .before .put5 .ensures))
     (λ c. search needs)
     (λ c. let no = c .before .before .before .before .before .match .rest in
-      rw (ne-eqb _ 70 (no .0 .0 .0 .0 .1), ne-eqb _ 71 (no .0 .0 .0 .1), ne-eqb _ 72 (no .0 .0 .1), ne-eqb _ 73 (no .0 .1), ne-eqb _ 80 (no .1))
-      (c .before .before .put6 .ensures)))
+    rw (ne-eqb _ 70 (no .0 .0 .0 .0 .1), ne-eqb _ 71 (no .0 .0 .0 .1), ne-eqb _ 72 (no .0 .0 .1), ne-eqb _ 73 (no .0 .1), ne-eqb _ 80 (no .1))
+    (c .before .before .put6 .ensures)))

@@ -26,16 +26,16 @@ put-spec =
     μ-loop
     (λ c κs. search needs)
     (λ c. let a = c .before .before .before .args in
-      (omega arith, c .fitting .ensures, refl, paste-zero (a .out .now) (a .at) (a .text .now)))
+    (omega arith, c .fitting .ensures, refl, paste-zero (a .out .now) (a .at) (a .text .now)))
     (λ c. search needs) (λ c. search needs) (λ c. search needs) (λ c. search needs) (λ c. search needs)
     (λ c. let a = c .before .before .before .before .before .before .args in
-      let l = c .before .before .loop in (
-        omega arith,
-        l .inv .1,
-        simp length-set (l .inv .2),
-        rw (add-one, l .inv .3) (paste-suc (a .out .now) (a .at) (a .text .now) (l .k) 0 (omega arith) (omega arith)),
-      ))
+    let l = c .before .before .loop in (
+      omega arith,
+      l .inv .1,
+      simp length-set (l .inv .2),
+      rw (add-one, l .inv .3) (paste-suc (a .out .now) (a .at) (a .text .now) (l .k) 0 (omega arith) (omega arith)),
+    ))
     (λ c. search needs) (λ c. search needs)
     (λ c. let l = c .before .loop in
-      let all : l .k ≡ c .before .before .fitting .result = omega arith in
-      rw (← c .before .before .fitting .ensures) (refl, rw (l .inv .3, all))))
+    let all : l .k ≡ c .before .before .fitting .result = omega arith in
+    rw (← c .before .before .fitting .ensures) (refl, rw (l .inv .3, all))))

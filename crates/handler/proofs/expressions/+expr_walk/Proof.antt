@@ -129,47 +129,47 @@ unfolding exprAt exprShape
     (λ c κs. head-fits _ _ _ _ _ (sym (c .before .before .expr-head-at .ensures))) (λ c κs. c .leaf-term .ensures .1) (λ c κs. search needs)
     (λ c. search needs)
     (λ c. let k = c .before .before .before .before .before .before in
-        let h = k .before in
-        let head = sym (h .expr-head-at .ensures) in (
-          rw (expr-step _ _ _ _ _ (h .expr-head-at .result) (more t h) head, childless (h .expr-head-at .result) (k .match .keys2) _ _ (λ _ place. bad 14 place)) (c .leaf-of .ensures),
-          leaf-filled _ _ _ _ _ _ (more t h) _ head (k .match .keys2) _ _
-              (rw (c .before .before .before .before .leaf-term .ensures .0) at (c .before .before .before .store-term .ensures)),
-        ))
+    let h = k .before in
+    let head = sym (h .expr-head-at .ensures) in (
+      rw (expr-step _ _ _ _ _ (h .expr-head-at .result) (more t h) head, childless (h .expr-head-at .result) (k .match .keys2) _ _ (λ _ place. bad 14 place)) (c .leaf-of .ensures),
+      leaf-filled _ _ _ _ _ _ (more t h) _ head (k .match .keys2) _ _
+          (rw (c .before .before .before .before .leaf-term .ensures .0) at (c .before .before .before .store-term .ensures)),
+    ))
     (λ c. search needs) (λ c κs. search needs) (λ c. search needs) (λ c. search needs)
     (λ c. let k = c .before .before .before in
-        absurd (row-used _ (room t k .1) (sym (c .before .before .row-of .ensures) ∙ c .enum-told .given .1)))
+    absurd (row-used _ (room t k .1) (sym (c .before .before .row-of .ensures) ∙ c .enum-told .given .1)))
     (λ c. search needs) (λ c. search needs)
     (λ c κs. (search needs, omega (arith, room t (operation-of t (c .before)), start t (head-of t (operation-of t (c .before))) .pre)))
     (λ c. search needs) (λ c. search needs) (λ c. search needs)
     (λ c. let b = c .before .before .before .before .before .before in
-        let a = operation-of t b in
-        let e = left-operand-fault _ _ _ _ _ _ _ (more t (head-of t a)) (head-is t a) _ _ _ _ (row-is t b) _ _
-        (sym (c .before .before .before .before .expr-walk .ensures .0) ∙ c .enum-told2 .given .1) in
-        (c .enum-told2 .given .1 ∙ e, expr-fault-filled _ _ _ _ _ _ (more t (head-of t a)) _ _ _ _ _ e))
+    let a = operation-of t b in
+    let e = left-operand-fault _ _ _ _ _ _ _ (more t (head-of t a)) (head-is t a) _ _ _ _ (row-is t b) _ _
+    (sym (c .before .before .before .before .expr-walk .ensures .0) ∙ c .enum-told2 .given .1) in
+    (c .enum-told2 .given .1 ∙ e, expr-fault-filled _ _ _ _ _ _ (more t (head-of t a)) _ _ _ _ _ e))
     (λ c. omega (arith, small-left t (c .before), base-small t (c .before)))
     (λ c. omega (arith, room t (operation-of t (row-of-left t (c .before .before))), base-small t (c .before .before)))
     (λ c κs. record { tag = omega arith; value = omega (arith, room t (operation-of t (row-of-left t (c .before .before)))); right = omega (arith, small-left t (c .before .before), base-small t (c .before .before)) })
     (λ c κs. let l = c .before .before .before .before .before .before in
-        let h = head-of t (operation-of t (row-of-left t l)) in
-        omega (arith, more t h, start t h .pre, small-left t l))
+    let h = head-of t (operation-of t (row-of-left t l)) in
+    omega (arith, more t h, start t h .pre, small-left t l))
     (λ c. search needs) (λ c. search needs) (λ c. search needs)
     (λ c. let l = c .before .before .before .before .before .before .before .before .before .before .before in
-        let b = row-of-left t l in
-        let a = operation-of t b in
-        let e = right-operand-fault _ _ _ _ _ _ _ (more t (head-of t a)) (head-is t a) _ _ _ _ (row-is t b) _ (left-is t l) _ _
-        (sym (c .before .before .before .before .expr-walk2 .ensures .0) ∙ c .enum-told3 .given .1) in
-        (c .enum-told3 .given .1 ∙ e, expr-fault-filled _ _ _ _ _ _ (more t (head-of t a)) _ _ _ _ _ e))
+    let b = row-of-left t l in
+    let a = operation-of t b in
+    let e = right-operand-fault _ _ _ _ _ _ _ (more t (head-of t a)) (head-is t a) _ _ _ _ (row-is t b) _ (left-is t l) _ _
+    (sym (c .before .before .before .before .expr-walk2 .ensures .0) ∙ c .enum-told3 .given .1) in
+    (c .enum-told3 .given .1 ∙ e, expr-fault-filled _ _ _ _ _ _ (more t (head-of t a)) _ _ _ _ _ e))
     (λ c κs. search needs) (λ c κs. search needs)
     (λ c. omega (arith, small-left t (left-of t (c .before .before .before .before)), small-right t (c .before .before .before .before)))
     (λ c. omega (arith, small-left t (left-of t (c .before .before .before .before)), small-right t (c .before .before .before .before)))
     (λ c. let r = c .before .before .before .before in omega (arith, r .before .before .before .before .table4 .given, r .before .before .before .before .before .before .before .before .table3 .given, left-of t r .before .before .before .before .table2 .given))
     (λ c. let r = c .before .before .before .before in
-        let l = left-of t r in
-        let b = row-of-left t l in
-        let a = operation-of t b in
-        let left = shaped _ _ _ _ (left-is t l) in (
-          rw (c .before .before .wanted-of .ensures, c .before .before .before .earlier-of .ensures)
-              (op-shape _ _ _ _ _ _ _ (more t (head-of t a)) (head-is t a) _ _ _ _ (row-is t b) _ (left-is t l) _ (right-is t r)),
-          operation-filled _ _ _ _ _ _ (more t (head-of t a)) _ _ (head-is t a) (left .tree) _ _ (left .was) _ _ _ _
-              (l .before .before .before .before .before .expr-walk .ensures .1) (r .before .before .before .before .before .before .before .before .before .store-term2 .ensures) (r .before .before .before .before .before .expr-walk2 .ensures .1),
-        ))
+    let l = left-of t r in
+    let b = row-of-left t l in
+    let a = operation-of t b in
+    let left = shaped _ _ _ _ (left-is t l) in (
+      rw (c .before .before .wanted-of .ensures, c .before .before .before .earlier-of .ensures)
+          (op-shape _ _ _ _ _ _ _ (more t (head-of t a)) (head-is t a) _ _ _ _ (row-is t b) _ (left-is t l) _ (right-is t r)),
+      operation-filled _ _ _ _ _ _ (more t (head-of t a)) _ _ (head-is t a) (left .tree) _ _ (left .was) _ _ _ _
+          (l .before .before .before .before .before .expr-walk .ensures .1) (r .before .before .before .before .before .before .before .before .before .store-term2 .ensures) (r .before .before .before .before .before .expr-walk2 .ensures .1),
+    ))

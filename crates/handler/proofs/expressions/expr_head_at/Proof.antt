@@ -12,13 +12,13 @@ expr-head-at-spec =
     (tie.spec (λ c κs. search needs) (λ c. search needs) (λ c. search needs) (λ c κs. search needs)
     (λ c. rw (← c .before .before .before .read .ensures, c .before .enum-told .given .1, c .bit-length .ensures))
     (λ c.
-        rw
-        (← c .before .before .before .before .read .ensures, c .before .before .tag .given .1, le-leb _ _ (c .if1 .taken)))
+    rw
+    (← c .before .before .before .before .read .ensures, c .before .before .tag .given .1, le-leb _ _ (c .if1 .taken)))
     (λ c κs. search needs)
     (λ c.
-        rw (
-          ← c .before .before .before .before .before .read .ensures,
-          c .before .before .before .tag .given .1,
-          lt-leb _ _ (c .before .if1 .left),
-        )
-        (c .payload-at .ensures)))
+    rw (
+      ← c .before .before .before .before .before .read .ensures,
+      c .before .before .before .tag .given .1,
+      lt-leb _ _ (c .before .if1 .left),
+    )
+    (c .payload-at .ensures)))

@@ -13,6 +13,6 @@ expr-shape-spec =
     tie.close
     (tie.spec (λ c κs. search needs) (λ c. search needs)
     (λ c. let w = c .before .before in
-        let a = w .before .before .before .before .args in
-        let here : a .base + 0 ≡ a .base = omega arith in
-        (w .expr-walk .ensures .0, rw here at (w .expr-walk .ensures .1))))
+    let a = w .before .before .before .before .args in
+    let here : a .base + 0 ≡ a .base = omega arith in
+    (w .expr-walk .ensures .0, rw here at (w .expr-walk .ensures .1))))

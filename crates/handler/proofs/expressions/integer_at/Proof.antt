@@ -16,5 +16,5 @@ integer-at-spec =
     (λ c. rw (← c .before .before .before .read .ensures, c .before .enum-told .given .1, c .bit-length .ensures))
     (λ c κs. omega (arith, there _ _ _ _ _ (sym (c .before .before .before .read .ensures) ∙ c .before .n .given .1)))
     (λ c.
-        rw
-        (toZ-ofZ (sfits-of (c .signed-of .ok)), ← c .before .before .before .before .read .ensures, c .before .before .n .given .1, c .signed-of .ensures)))
+    rw
+    (toZ-ofZ (sfits-of (c .signed-of .ok)), ← c .before .before .before .before .read .ensures, c .before .before .n .given .1, c .signed-of .ensures)))

@@ -24,11 +24,11 @@ leaf-term-spec =
     tie.close
     (tie.spec (λ c. search needs) (λ c κs. rw (kept c) (small c)) (λ c. search needs) (λ c. search needs) (λ c. search needs) (λ c. search needs)
     (λ c. let k = c .before in
-        let is : c .bits-of .result ≡ bits16 (k .before .head .given .0 .0) = c .bits-of .ensures ∙ ap bits16 (kept k) in
-        (rw (k .before .head .given .1, is), record { tag = omega arith; value = rw is (bits-small _ (small k)); right = omega arith }))
+    let is : c .bits-of .result ≡ bits16 (k .before .head .given .0 .0) = c .bits-of .ensures ∙ ap bits16 (kept k) in
+    (rw (k .before .head .given .1, is), record { tag = omega arith; value = rw is (bits-small _ (small k)); right = omega arith }))
     (λ c. (rw (c .before .before .head2 .given .1, c .if1 .taken), record { tag = omega arith; value = omega arith; right = omega arith }))
     (λ c. (rw (c .before .before .head2 .given .1, c .if1 .left), record { tag = omega arith; value = omega arith; right = omega arith }))
     (λ c. let is = c .before .head3 .given .1 in
-        (rw is, record { tag = omega arith; value = rw is at (c .before .before .before .pre); right = omega arith }))
+    (rw is, record { tag = omega arith; value = rw is at (c .before .before .before .pre); right = omega arith }))
     (λ c. (rw (c .enum-told .given .1), record { tag = omega arith; value = omega arith; right = omega arith }))
     (λ c. (rw (c .enum-told2 .given .1), record { tag = omega arith; value = omega arith; right = omega arith })))

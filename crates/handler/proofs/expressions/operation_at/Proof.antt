@@ -15,9 +15,9 @@ operation-at-spec =
     (tie.spec (λ c κs. search needs) (λ c. search needs) (λ c. search needs) (λ c κs. search needs)
     (λ c. rw (← c .before .before .before .read .ensures, c .before .enum-told .given .1, c .bit-length .ensures))
     (λ c.
-        rw
-        (← c .before .before .before .before .read .ensures, c .before .before .o .given .1, eq-eqb _ _ (c .if1 .taken)))
+    rw
+    (← c .before .before .before .before .read .ensures, c .before .before .o .given .1, eq-eqb _ _ (c .if1 .taken)))
     (λ c. omega (arith, there _ _ _ _ _ (sym (c .before .before .before .before .read .ensures) ∙ c .before .before .o .given .1)))
     (λ c.
-        rw
-        (← c .before .before .before .before .read .ensures, c .before .before .o .given .1, ne-eqb _ _ (c .if1 .left))))
+    rw
+    (← c .before .before .before .before .read .ensures, c .before .before .o .given .1, ne-eqb _ _ (c .if1 .left))))

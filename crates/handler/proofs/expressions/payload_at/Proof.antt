@@ -12,17 +12,17 @@ payload-at-spec =
     (tie.spec (λ c κs. search needs) (λ c. rw (eq-eqb _ 0 (c .before .if1 .taken)) (c .integer-at .ensures)) (λ c κs. search needs)
     (λ c. rw (ne-eqb _ 0 (c .before .before .if1 .left), eq-eqb _ 1 (c .before .if2 .taken)) (c .truth-at .ensures)) (λ c κs. search needs)
     (λ c.
-        rw (
-          ne-eqb _ 0 (c .before .before .before .if1 .left),
-          ne-eqb _ 1 (c .before .before .if2 .left),
-          eq-eqb _ 2 (c .before .if3 .taken),
-        )
-        (c .variable-at .ensures))
+    rw (
+      ne-eqb _ 0 (c .before .before .before .if1 .left),
+      ne-eqb _ 1 (c .before .before .if2 .left),
+      eq-eqb _ 2 (c .before .if3 .taken),
+    )
+    (c .variable-at .ensures))
     (λ c κs. search needs)
     (λ c.
-        rw (
-          ne-eqb _ 0 (c .before .before .before .if1 .left),
-          ne-eqb _ 1 (c .before .before .if2 .left),
-          ne-eqb _ 2 (c .before .if3 .left),
-        )
-        (c .operation-at .ensures)))
+    rw (
+      ne-eqb _ 0 (c .before .before .before .if1 .left),
+      ne-eqb _ 1 (c .before .before .if2 .left),
+      ne-eqb _ 2 (c .before .if3 .left),
+    )
+    (c .operation-at .ensures)))

@@ -94,29 +94,29 @@ add-size-spec =
     (tie.spec (λ c. search needs) (λ c. search needs) (λ c. still-faulty _ _ _ _ _ (c .before .before .before .pre .1) (c .enum-told .given .1))
     (λ c κs. search needs) (λ c. search needs) (λ c. search needs) (λ c κs. search needs) (λ c κs. search needs)
     (λ c. let r = c .before .before .before .before in
-        rw (c .faulty .ensures, before-size (r .before) .next-size, ← r .read .ensures, c .before .before .enum-told2 .given .1, c .before .bit-length .ensures))
+    rw (c .faulty .ensures, before-size (r .before) .next-size, ← r .read .ensures, c .before .before .enum-told2 .given .1, c .before .bit-length .ensures))
     (λ c κs. search needs)
     (λ c. let r = c .before .before .before .before .before in
-        rw (c .faulty2 .ensures, before-size (r .before) .next-size, ← r .read .ensures, c .before .before .before .size .given .1)
-        (⊎-elim (λ h. rw (lt-ltb _ 2 (h .taken)))
-        (λ h. rw (le-ltb _ 2 (h .0 .left), too-large (record { before = record { before = c .before .before; if1 = h .0 }; if2 = h .1 })))
-        (c .before .if1 .came)))
+    rw (c .faulty2 .ensures, before-size (r .before) .next-size, ← r .read .ensures, c .before .before .before .size .given .1)
+    (⊎-elim (λ h. rw (lt-ltb _ 2 (h .taken)))
+    (λ h. rw (le-ltb _ 2 (h .0 .left), too-large (record { before = record { before = c .before .before; if1 = h .0 }; if2 = h .1 })))
+    (c .before .if1 .came)))
     (λ c. search needs)
     (λ c. let b = so-far c in
-        let n = c .before .before .before .before .before .before .before .before .before .before .before .before .args .file .head .states in
-        let size = c .before .before .before .before .before .size .given .0 .0 in
-        let few : n ≤ capacity = rw (b .is) (b .most) in
-        omega (arith, mul-le-mul {n₁ = n} {m₁ = size} {n₂ = capacity} {m₂ = 16} few (size-small c)))
+    let n = c .before .before .before .before .before .before .before .before .before .before .before .before .args .file .head .states in
+    let size = c .before .before .before .before .before .size .given .0 .0 in
+    let few : n ≤ capacity = rw (b .is) (b .most) in
+    omega (arith, mul-le-mul {n₁ = n} {m₁ = size} {n₂ = capacity} {m₂ = 16} few (size-small c)))
     (λ c κs. search needs)
     (λ c. let at = c .before .before in
-        let over = rw (so-far at .is) at (c .before .if3 .taken) in
-        rw (c .faulty3 .ensures, next-is at, le-ltb _ 2 (at .before .before .before .if1 .left), small-enough (at .before .before), lt-ltb capacity _ over))
+    let over = rw (so-far at .is) at (c .before .if3 .taken) in
+    rw (c .faulty3 .ensures, next-is at, le-ltb _ 2 (at .before .before .before .if1 .left), small-enough (at .before .before), lt-ltb capacity _ over))
     (λ c. omega (arith, size-small (c .before .before))) (λ c. search needs) (λ c. search needs)
     (λ c. let b = so-far (c .before .before .before) in
-        let same = ap (λ h. h .count) (b .is) in
-        omega (arith, same, b .counted))
+    let same = ap (λ h. h .count) (b .is) in
+    omega (arith, same, b .counted))
     (λ c. search needs)
     (λ c. let at = c .before .before .before in
-        let under = rw (so-far at .is) at (c .before .before .if3 .left) in
-        rw (next-is at, le-ltb _ 2 (at .before .before .before .if1 .left), small-enough (at .before .before), le-ltb capacity _ under)
-        (grown _ _ _ _ _ _ (search needs) (so-far at))))
+    let under = rw (so-far at .is) at (c .before .before .if3 .left) in
+    rw (next-is at, le-ltb _ 2 (at .before .before .before .if1 .left), small-enough (at .before .before), le-ltb capacity _ under)
+    (grown _ _ _ _ _ _ (search needs) (so-far at))))

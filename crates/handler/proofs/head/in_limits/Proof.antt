@@ -12,4 +12,4 @@ in-limits-spec =
     (tie.spec (λ c. search needs) (λ c. search needs) (λ c. search needs) (λ c κs. search needs) (λ c. search needs) (λ c κs. search needs)
     (λ c. search needs) (λ c κs. search needs) (λ c. search needs) (λ c κs. search needs)
     (λ c.
-        rw (c .before .before .before .is-size .ensures, c .before .before .is-size2 .ensures, c .before .is-size3 .ensures, c .is-size4 .ensures)))
+    rw (c .before .before .before .is-size .ensures, c .before .before .is-size2 .ensures, c .before .is-size3 .ensures, c .is-size4 .ensures)))

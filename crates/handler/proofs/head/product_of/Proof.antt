@@ -34,5 +34,5 @@ product-of-spec =
     (tie.spec (λ c κs. search needs) (λ c κs. search needs) (λ c κs. search needs) (λ c κs. search needs) (λ c. omega (arith, known c))
     (λ c. omega (arith, known c)) (λ c. omega (arith, known c))
     (λ c. let head = c .before .before .before .before .args .head in
-        rw (c .before .before .before .size-of .ensures, c .before .before .size-of2 .ensures, c .before .size-of3 .ensures, c .size-of4 .ensures)
-        (product-four (sizesIn head) (omega (arith, limited head (c .before .before .before .before .pre), length-take (head .count) (head .sizes))))))
+    rw (c .before .before .before .size-of .ensures, c .before .before .size-of2 .ensures, c .before .size-of3 .ensures, c .size-of4 .ensures)
+    (product-four (sizesIn head) (omega (arith, limited head (c .before .before .before .before .pre), length-take (head .count) (head .sizes))))))

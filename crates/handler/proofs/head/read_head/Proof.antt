@@ -22,23 +22,23 @@ read-head-spec =
     tie.close
     (tie.spec Inv-loop μ-loop (λ c κs. search needs) (λ c. search needs) (λ c. search needs) (λ c κs. search needs) (λ c κs. search needs)
     (λ c.
-        rw (c .faulty .ensures, ← c .before .before .before .before .read .ensures, c .before .before .enum-told .given .1, c .before .bit-length .ensures))
+    rw (c .faulty .ensures, ← c .before .before .before .before .read .ensures, c .before .before .enum-told .given .1, c .before .bit-length .ensures))
     (λ c κs. search needs)
     (λ c.
-        rw
-        (c .faulty2 .ensures, ← c .before .before .before .before .before .read .ensures, c .before .before .before .count .given .1)
-        (⊎-elim (λ h. rw (lt-leb 1 _ (h .taken))) (λ h. rw (le-leb 1 _ (h .0 .left), lt-leb _ 4 (ltb-true 4 _ (h .1 .taken)))) (c .before .if1 .came)))
+    rw
+    (c .faulty2 .ensures, ← c .before .before .before .before .before .read .ensures, c .before .before .before .count .given .1)
+    (⊎-elim (λ h. rw (lt-leb 1 _ (h .taken))) (λ h. rw (le-leb 1 _ (h .0 .left), lt-leb _ 4 (ltb-true 4 _ (h .1 .taken)))) (c .before .if1 .came)))
     (λ c.
-        let known = there _ _ _ _ _ (sym (c .before .before .before .before .before .read .ensures) ∙ c .before .before .before .count .given .1) in
-        (search needs, ltb-false 4 _ (c .if2 .left), rw (known .moved)))
+    let known = there _ _ _ _ _ (sym (c .before .before .before .before .before .read .ensures) ∙ c .before .before .before .count .given .1) in
+    (search needs, ltb-false 4 _ (c .if2 .left), rw (known .moved)))
     (λ c κs. (search needs, c .before .loop .inv .2)) (λ c. search needs) (λ c. search needs)
     (λ c. (search needs, c .before .before .loop .inv .1, c .add-size .ensures))
     (λ c. let l = c .before .loop in
-        let all : l .k ≡ c .before .before .before .before .before .count .given .0 .0 = omega arith in
-        rw (
-          ← c .before .before .before .before .before .before .before .read .ensures,
-          c .before .before .before .before .before .count .given .1,
-          le-leb 1 _ (c .before .before .before .if1 .left),
-          le-leb _ 4 (l .inv .1),
-        )
-        (rw all at (l .inv .2))))
+    let all : l .k ≡ c .before .before .before .before .before .count .given .0 .0 = omega arith in
+    rw (
+      ← c .before .before .before .before .before .before .before .read .ensures,
+      c .before .before .before .before .before .count .given .1,
+      le-leb 1 _ (c .before .before .before .if1 .left),
+      le-leb _ 4 (l .inv .1),
+    )
+    (rw all at (l .inv .2))))

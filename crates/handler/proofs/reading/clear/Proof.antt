@@ -29,10 +29,10 @@ clear-spec =
     (tie.spec Inv-loop μ-loop (λ c. (search needs, refl)) (λ c. omega (arith, kept (c .before))) (λ c. omega (arith, kept (c .before)))
     (λ c. search needs) (λ c. search needs)
     (λ c. let l = c .before .loop in
-        let less = c .before .loop .inv .0 in
-        (search needs, ap (λ w. set w (l .i) 0) (l .inv .1 ∙ ap (λ r. replicate (l .i) 0 ++ r) (drop-cons _ (l .i) 0 (omega arith))) ∙ one-more (l .i) _ _ ∙ rw (add-one (l .i))))
+    let less = c .before .loop .inv .0 in
+    (search needs, ap (λ w. set w (l .i) 0) (l .inv .1 ∙ ap (λ r. replicate (l .i) 0 ++ r) (drop-cons _ (l .i) 0 (omega arith))) ∙ one-more (l .i) _ _ ∙ rw (add-one (l .i))))
     (λ c. kept (c .before))
     (λ c. let l = c .before .loop in
-        let a = c .before .before .args .words .now in
-        let all : l .i ≡ length a = omega arith in
-        l .inv .1 ∙ rw (all, drop-of-length-le a {i = length a} (omega arith), append-nil)))
+    let a = c .before .before .args .words .now in
+    let all : l .i ≡ length a = omega arith in
+    l .inv .1 ∙ rw (all, drop-of-length-le a {i = length a} (omega arith), append-nil)))

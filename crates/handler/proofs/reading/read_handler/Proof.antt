@@ -86,23 +86,23 @@ read-handler-spec =
     tie.close
     (tie.spec (λ c κs. search needs) (λ c. search needs) (λ c κs. search needs) (λ c. search needs) (λ c. search needs)
     (λ c κs. let f = head-found (c .before .before) in
-        let states = ap (λ h. h .states) (f .is) in
-        let known = head-read _ _ _ (f .read) in
-        omega (arith, states, known))
+    let states = ap (λ h. h .states) (f .is) in
+    let known = head-read _ _ _ (f .read) in
+    omega (arith, states, known))
     (λ c κs. search needs) (λ c. search needs) (λ c κs. search needs) (λ c. search needs) (λ c. search needs)
     (λ c.
-        let fault = found-fault (headAt (c .before .before .before .before .before .before .before .before .before .before .before .args .src .now)) _ _ _ (c .before .before .before .before .before .before .before .before .read-head .ensures) (c .before .before .before .before .before .end .given .1) in
-        (rw (c .before .before .faulty .ensures .0, fault), rw fault (c .before .before .faulty .ensures .1)))
+    let fault = found-fault (headAt (c .before .before .before .before .before .before .before .before .before .before .before .args .src .now)) _ _ _ (c .before .before .before .before .before .before .before .before .read-head .ensures) (c .before .before .before .before .before .end .given .1) in
+    (rw (c .before .before .faulty .ensures .0, fault), rw fault (c .before .before .faulty .ensures .1)))
     (λ c. search needs)
     (λ c.
-        let fault = found-refused _ _ _ (sym (found-by (c .before .before .before .before .before .before .before)) ∙ c .before .before .before .before .before .found .given .1) in (
-          c .before .before .faulty2 .ensures .0 ∙ sym (ap handlerFile fault),
-          rw fault (c .before .before .faulty2 .ensures .1 ∙ ap (λ n. replicate n 0) (c .before .before .before .before .before .before .before .before .before .exprs2 .given)),
-        ))
+    let fault = found-refused _ _ _ (sym (found-by (c .before .before .before .before .before .before .before)) ∙ c .before .before .before .before .before .found .given .1) in (
+      c .before .before .faulty2 .ensures .0 ∙ sym (ap handlerFile fault),
+      rw fault (c .before .before .faulty2 .ensures .1 ∙ ap (λ n. replicate n 0) (c .before .before .before .before .before .before .before .before .before .exprs2 .given)),
+    ))
     (λ c. search needs)
     (λ c. let f = head-found (c .before .before .before .before .before .before .before .before .before) in
-        let walk = c .before .before .before .before .before .before .stmt-walk in
-        let e = found-by (c .before .before) in (
-          file-is _ (f .sizes) _ _ (f .read) (f .is) _ _ e (c .enum-told .given .1) _ (walk .ensures .1 .0),
-          terms-are _ (f .sizes) _ _ (f .read) (f .is) _ _ e (c .enum-told .given .1) _ _ (walk .ensures .1 .1),
-        )))
+    let walk = c .before .before .before .before .before .before .stmt-walk in
+    let e = found-by (c .before .before) in (
+      file-is _ (f .sizes) _ _ (f .read) (f .is) _ _ e (c .enum-told .given .1) _ (walk .ensures .1 .0),
+      terms-are _ (f .sizes) _ _ (f .read) (f .is) _ _ e (c .enum-told .given .1) _ _ (walk .ensures .1 .1),
+    )))

@@ -175,88 +175,89 @@ unfolding Marked wholeExpr
 +stmt-walk-spec = close μ-stmt-walk λ t. lts.spec (callees t) (stmt-walk-at t) stmt-walk.Post
     (stmt-walk-returns t) (λ c. search needs) (λ c. search needs) (λ c κs. search needs) (λ c. search needs)
     (λ c κs. let h = c .before .before .before .before in
-        omega (arith, start t h .pre, marked _ _ _ _ _ _ (head-is t h _ (c .before .before .next .given .1))))
+    omega (arith, start t h .pre, marked _ _ _ _ _ _ (head-is t h _ (c .before .before .next .given .1))))
     (λ c κs. search needs) (λ c. search needs)
     (λ c κs. let h = c .before .before .before .before in
-        omega (arith, start t h .pre, marked _ _ _ _ _ _ (head-is t h _ (c .before .before .v .given .1))))
+    omega (arith, start t h .pre, marked _ _ _ _ _ _ (head-is t h _ (c .before .before .v .given .1))))
     (λ c κs. omega (arith, start t (c .before .before .before .before .before .before .before .before) .pre))
-    (λ c κs. let shape = c .before .before .expr-shape in
-        (omega (arith, start t (c .before .before .before .before .before .before .before .before .before .before .before) .pre),
-        λ e is. shape-small 32 _ _ _ _ _ e (sym (shape .ensures .0) ∙ is) .room))
+    (λ c κs. let shape = c .before .before .expr-shape in (
+      omega (arith, start t (c .before .before .before .before .before .before .before .before .before .before .before) .pre),
+      λ e is. shape-small 32 _ _ _ _ _ e (sym (shape .ensures .0) ∙ is) .room,
+    ))
     (λ c. search needs)
     (λ c κs. let h = head-of-pair t (c .before .before) in omega (arith, more t h, pair-room t (c .before .before), start t h .pre))
     (λ c. search needs) (λ c. search needs) (λ c. search needs) (λ c. search needs)
     (λ c. let p = c .before .before .before .before .before .before .before .before .before in
-        let h = head-of-pair t p in
-        let e = left-side-fault _ _ _ _ _ _ _ (more t h) _ _ (head-is t h _ (p .before .code .given .1)) _ _
-        (sym (c .before .before .before .before .before .before .stmt-walk .ensures .0) ∙ c .enum-told .given .1) in
-        (c .enum-told .given .1 ∙ e, fault-filled _ _ _ _ _ _ (more t h) _ _ _ _ _ _ _ e))
+    let h = head-of-pair t p in
+    let e = left-side-fault _ _ _ _ _ _ _ (more t h) _ _ (head-is t h _ (p .before .code .given .1)) _ _
+    (sym (c .before .before .before .before .before .before .stmt-walk .ensures .0) ∙ c .enum-told .given .1) in
+    (c .enum-told .given .1 ∙ e, fault-filled _ _ _ _ _ _ (more t h) _ _ _ _ _ _ _ e))
     (λ c κs. let l = c .before in
-        let p = pair-of-left t l in
-        omega (arith, pair-room t p, l .before .before .before .before .before .before .table3 .given, start t (head-of-pair t p) .pre))
+    let p = pair-of-left t l in
+    omega (arith, pair-room t p, l .before .before .before .before .before .before .table3 .given, start t (head-of-pair t p) .pre))
     (λ c κs. let l = c .before .before .before .before .before .before in
-        let h = head-of-pair t (pair-of-left t l) in
-        omega (arith, more t h, left-room t l, c .before .before .before .table4 .given, l .before .before .before .before .before .before .table3 .given, start t h .pre))
+    let h = head-of-pair t (pair-of-left t l) in
+    omega (arith, more t h, left-room t l, c .before .before .before .table4 .given, l .before .before .before .before .before .before .table3 .given, start t h .pre))
     -- A part has fewer levels than were left for it, so there is room for one more.
     (λ c κs. let l = c .before .before .before .before .before .before .before .before .before .before .before in
-        let fits = start t (head-of-pair t (pair-of-left t l)) .fits .levels in (
-          omega (arith, fits, shape-high _ _ _ _ _ _ _ _ (left-is t l)),
-          λ w e. omega (arith, fits, shape-high _ _ _ _ _ _ _ w (sym (c .before .before .before .before .stmt-walk2 .ensures .0) ∙ e)),
-        ))
+    let fits = start t (head-of-pair t (pair-of-left t l)) .fits .levels in (
+      omega (arith, fits, shape-high _ _ _ _ _ _ _ _ (left-is t l)),
+      λ w e. omega (arith, fits, shape-high _ _ _ _ _ _ _ w (sym (c .before .before .before .before .stmt-walk2 .ensures .0) ∙ e)),
+    ))
     (λ c. search needs) (λ c κs. omega (arith, start t (c .before .before .before .before) .pre)) (λ c. search needs) (λ c. search needs)
     (λ c. omega (arith, body-room t (c .before)))
     (λ c κs. let h = head-of-test t (test-of-expr t (c .before .before .before)) in omega (arith, more t h, body-room t (c .before .before .before), start t h .pre))
     (λ c. search needs) (λ c. search needs) (λ c. search needs) (λ c. search needs)
     (λ c. let r = c .before .before .before .before .before .before .before .before .before .before in
-        let k = test-of-expr t r in
-        let h = head-of-test t k in
-        let e = body-fault _ _ _ _ _ _ _ (more t h) _ _ (head-is t h _ (k .before .code2 .given .1)) _ (test-is t r) _ _
-        (sym (c .before .before .before .before .before .before .stmt-walk3 .ensures .0) ∙ c .enum-told2 .given .1) in
-        (c .enum-told2 .given .1 ∙ e, fault-filled _ _ _ _ _ _ (more t h) _ _ _ _ _ _ _ e))
+    let k = test-of-expr t r in
+    let h = head-of-test t k in
+    let e = body-fault _ _ _ _ _ _ _ (more t h) _ _ (head-is t h _ (k .before .code2 .given .1)) _ (test-is t r) _ _
+    (sym (c .before .before .before .before .before .before .stmt-walk3 .ensures .0) ∙ c .enum-told2 .given .1) in
+    (c .enum-told2 .given .1 ∙ e, fault-filled _ _ _ _ _ _ (more t h) _ _ _ _ _ _ _ e))
     (λ c κs. let k = test-of-expr t (expr-of-body t (c .before)) in
-        omega (arith, test-room t k, c .before .before .before .before .before .before .before .table6 .given, start t (head-of-test t k) .pre))
+    omega (arith, test-room t k, c .before .before .before .before .before .before .before .table6 .given, start t (head-of-test t k) .pre))
     (λ c κs. let b = c .before .before .before .before in
-        let s = start t (head-of-test t (test-of-expr t (expr-of-body t b))) in
-        (s .pre .1 .0, s .pre .1 .1, omega (arith, s .fits .levels, shape-high _ _ _ _ _ _ _ _ (body-is t b))))
+    let s = start t (head-of-test t (test-of-expr t (expr-of-body t b))) in
+    (s .pre .1 .0, s .pre .1 .1, omega (arith, s .fits .levels, shape-high _ _ _ _ _ _ _ _ (body-is t b))))
     (λ c. search needs) (λ c. search needs) (nil-returns t) (λ c. search needs) (λ c. search needs)
     (λ c. let k = c .before .before .before .before .before .before .before .before .before in
-        let h = k .before .before .before in
-        let head = head-is t h _ (k .before .v .given .1) in
-        let assigned = c .before .before .before .expr-shape in (
-          rw (c .assigned-of .ensures, assigned .ensures .0) (assign-shape _ _ _ _ _ _ _ (more t h) _ _ head),
-          assign-filled _ _ _ _ _ _ (more t h) _ _ head _ _ _ _
-              (c .before .before .before .before .before .before .before .store-statement2 .ensures) (assigned .ensures .1),
-        ))
+    let h = k .before .before .before in
+    let head = head-is t h _ (k .before .v .given .1) in
+    let assigned = c .before .before .before .expr-shape in (
+      rw (c .assigned-of .ensures, assigned .ensures .0) (assign-shape _ _ _ _ _ _ _ (more t h) _ _ head),
+      assign-filled _ _ _ _ _ _ (more t h) _ _ head _ _ _ _
+          (c .before .before .before .before .before .before .before .store-statement2 .ensures) (assigned .ensures .1),
+    ))
     (λ c. search needs) (λ c. search needs)
     (λ c. let l = c .before .before .before .before .before .before .before .before .before .before .before .before in
-        let p = pair-of-left t l in
-        let h = head-of-pair t p in
-        let head = head-is t h _ (p .before .code .given .1) in
-        let left = stmt-shaped _ _ _ _ _ (left-is t l) in
-        let first = l .before .before .before .before .before .before .before .stmt-walk in
-        let second = c .before .before .before .before .before .stmt-walk2 in
-        let terms = ap (λ x. x .terms) (left .is) in (
-          rw (c .pair-of .ensures, second .ensures .0) (pair-shape _ _ _ _ _ _ _ (more t h) _ _ head _ (left-is t l)),
-          pair-filled _ _ _ _ _ _ (more t h) _ _ head (left .tree) _ _ (left .was) _ _ _ _ _ _ _ (first .ensures .1)
-              (c .before .before .before .before .before .before .before .before .before .before .store-statement3 .ensures) (rw terms at (second .ensures .1)),
-        ))
+    let p = pair-of-left t l in
+    let h = head-of-pair t p in
+    let head = head-is t h _ (p .before .code .given .1) in
+    let left = stmt-shaped _ _ _ _ _ (left-is t l) in
+    let first = l .before .before .before .before .before .before .before .stmt-walk in
+    let second = c .before .before .before .before .before .stmt-walk2 in
+    let terms = ap (λ x. x .terms) (left .is) in (
+      rw (c .pair-of .ensures, second .ensures .0) (pair-shape _ _ _ _ _ _ _ (more t h) _ _ head _ (left-is t l)),
+      pair-filled _ _ _ _ _ _ (more t h) _ _ head (left .tree) _ _ (left .was) _ _ _ _ _ _ _ (first .ensures .1)
+          (c .before .before .before .before .before .before .before .before .before .before .store-statement3 .ensures) (rw terms at (second .ensures .1)),
+    ))
     (λ c. search needs)
     (λ c. let k = c .before .before .before .before .before .before .before in
-        let h = head-of-test t k in
-        let e = test-fault _ _ _ _ _ _ _ (more t h) _ _ (head-is t h _ (k .before .code2 .given .1)) _ _
-        (sym (c .before .before .before .before .before .expr-shape2 .ensures .0) ∙ c .before .fault .given .1) in
-        (e, fault-filled _ _ _ _ _ _ (more t h) _ _ _ _ _ _ _ e))
+    let h = head-of-test t k in
+    let e = test-fault _ _ _ _ _ _ _ (more t h) _ _ (head-is t h _ (k .before .code2 .given .1)) _ _
+    (sym (c .before .before .before .before .before .expr-shape2 .ensures .0) ∙ c .before .fault .given .1) in
+    (e, fault-filled _ _ _ _ _ _ (more t h) _ _ _ _ _ _ _ e))
     (λ c. search needs) (λ c. search needs)
     (λ c. let b = c .before .before .before .before .before in
-        let r = expr-of-body t b in
-        let k = test-of-expr t r in
-        let h = head-of-test t k in
-        let head = head-is t h _ (k .before .code2 .given .1) in
-        let test = shaped _ _ _ _ (test-is t r) in
-        let body = stmt-shaped _ _ _ _ _ (body-is t b) in
-        let second = b .before .before .before .before .before .before .before .stmt-walk3 in (
-          c .tested-of .ensures ∙ test-shape _ _ _ _ _ _ _ (more t h) _ _ head _ (test-is t r) _ (body-is t b),
-          test-filled _ _ _ _ _ _ (more t h) _ _ head (test .tree) _ _ (test .was) (body .tree) _ _ (body .was) _ _ _ _ _ _
-              (r .before .before .before .before .before .expr-shape2 .ensures .1) (second .ensures .1) (c .before .before .before .store-statement4 .ensures),
-        ))
+    let r = expr-of-body t b in
+    let k = test-of-expr t r in
+    let h = head-of-test t k in
+    let head = head-is t h _ (k .before .code2 .given .1) in
+    let test = shaped _ _ _ _ (test-is t r) in
+    let body = stmt-shaped _ _ _ _ _ (body-is t b) in
+    let second = b .before .before .before .before .before .before .before .stmt-walk3 in (
+      c .tested-of .ensures ∙ test-shape _ _ _ _ _ _ _ (more t h) _ _ head _ (test-is t r) _ (body-is t b),
+      test-filled _ _ _ _ _ _ (more t h) _ _ head (test .tree) _ _ (test .was) (body .tree) _ _ (body .was) _ _ _ _ _ _
+          (r .before .before .before .before .before .expr-shape2 .ensures .1) (second .ensures .1) (c .before .before .before .store-statement4 .ensures),
+    ))
     (fault-returns t)

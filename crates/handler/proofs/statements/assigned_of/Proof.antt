@@ -12,10 +12,10 @@ assigned-of-spec =
     (tie.spec (λ c. search needs) (λ c. search needs) (λ c. search needs)
     -- The sum of the nodes fits.
     (λ c. let a = c .before .before .before in
-        omega (arith, a .before .before .pre .1 _ (a .assigned .given .1)))
+    omega (arith, a .before .before .pre .1 _ (a .assigned .given .1)))
     (λ c. search needs)
     (λ c. let a = c .before .before .before in
-        let e = a .assigned .given .0 .0 .e in
-        let within : min (e + 1) (2 ^ 32) ≡ e + 1 = omega arith in
-        rw (a .assigned .given .1, within))
+    let e = a .assigned .given .0 .0 .e in
+    let within : min (e + 1) (2 ^ 32) ≡ e + 1 = omega arith in
+    rw (a .assigned .given .1, within))
     (λ c. rw (c .before .assigned2 .given .1)))

@@ -9,4 +9,4 @@ pair-of-spec =
     (tie.spec (λ c. search needs) (λ c. search needs) (λ c. search needs) (λ c κs. search needs) (λ c κs. search needs)
     (λ c κs. let pre = c .before .before .before .before .before .pre in (pre .0, pre .1 _ (c .before .before .before .right .given .1)))
     (λ c.
-        rw (c .before .before .before .before .right .given .1, c .before .pair-steps .ensures, c .before .before .earlier-of .ensures, c .pair-levels .ensures)))
+    rw (c .before .before .before .before .right .given .1, c .before .pair-steps .ensures, c .before .before .earlier-of .ensures, c .pair-levels .ensures)))

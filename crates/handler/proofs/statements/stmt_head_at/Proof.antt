@@ -16,17 +16,17 @@ stmt-head-at-spec =
     (tie.spec (λ c κs. search needs) (λ c. search needs) (λ c. search needs) (λ c κs. search needs)
     (λ c. rw (← c .before .before .before .read .ensures, c .before .enum-told .given .1, c .bit-length .ensures))
     (λ c.
-        rw
-        (← c .before .before .before .before .read .ensures, c .before .before .code .given .1)
-        (⊎-elim (λ h. rw (eq-eqb _ 0 (h .taken))) (λ h. rw (ne-eqb _ 0 (h .0 .left), h .1 .taken)) (c .if1 .came)))
+    rw
+    (← c .before .before .before .before .read .ensures, c .before .before .code .given .1)
+    (⊎-elim (λ h. rw (eq-eqb _ 0 (h .taken))) (λ h. rw (ne-eqb _ 0 (h .0 .left), h .1 .taken)) (c .if1 .came)))
     (λ c.
-        omega (arith, there _ _ _ _ _ (sym (c .before .before .before .before .before .read .ensures) ∙ c .before .before .before .code .given .1)))
+    omega (arith, there _ _ _ _ _ (sym (c .before .before .before .before .before .read .ensures) ∙ c .before .before .before .code .given .1)))
     (λ c κs. search needs)
     (λ c.
-        rw (
-          ← c .before .before .before .before .before .before .read .ensures,
-          c .before .before .before .before .code .given .1,
-          ne-eqb _ 0 (c .before .before .if1 .left),
-          c .before .if2 .left,
-        )
-        (c .code-at .ensures)))
+    rw (
+      ← c .before .before .before .before .before .before .read .ensures,
+      c .before .before .before .before .code .given .1,
+      ne-eqb _ 0 (c .before .before .if1 .left),
+      c .before .if2 .left,
+    )
+    (c .code-at .ensures)))

@@ -25,6 +25,6 @@ test-steps-spec =
     (λ c. rw (eq-eqb _ 4 (c .before .if1 .taken)) (omega arith)) (λ c. search needs) (λ c. omega (arith, products c)) (λ c. search needs)
     (λ c. search needs) (λ c. omega (arith, products c)) (λ c. omega (arith, products c)) (λ c κs. search needs)
     (λ c. let a = c .before .before .before .args in
-        rw
-        (ne-eqb _ 4 (c .before .if1 .left), ← cap-part (a .n * (a .e + 2)) (a .n - 1) (a .body), ← c .before .before .capped .ensures)
-        (c .capped3 .ensures)))
+    rw
+    (ne-eqb _ 4 (c .before .if1 .left), ← cap-part (a .n * (a .e + 2)) (a .n - 1) (a .body), ← c .before .before .capped .ensures)
+    (c .capped3 .ensures)))

@@ -13,6 +13,6 @@ admit-arguments-spec =
     (λ c κs. search needs) (λ c. search needs) (λ c. search needs) (λ c. search needs) (λ c. search needs) (λ c κs. search needs)
     (λ c. search needs) (λ c. search needs) (λ c. search needs) (λ c. search needs)
     (λ c κs. let n = c .before .before in
-      let r = n .before .before .before .write-table in
-      omega (arith, ap amount (n .n .given .1), r .ensures, r .kept .1 .1 .0))
+    let r = n .before .before .before .write-table in
+    omega (arith, ap amount (n .n .given .1), r .ensures, r .kept .1 .1 .0))
     (λ c. search needs))

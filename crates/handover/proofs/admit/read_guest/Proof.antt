@@ -15,7 +15,7 @@ read-guest-spec =
     (λ c. search needs) (λ c. search needs) (λ c. search needs) (λ c. search needs) (λ c. search needs) (λ c. search needs)
     (λ c. search needs)
     (λ c. let m = c .before in
-      let n = m .before .before .before .before .before .before .before in (
-        omega (arith, ap amount (n .n .given .1), n .before .before .before .before .read-argument .ensures),
-        omega (arith, ap amount (m .m .given .1), m .before .before .before .before .read-argument2 .ensures),
-      )))
+    let n = m .before .before .before .before .before .before .before in (
+      omega (arith, ap amount (n .n .given .1), n .before .before .before .before .read-argument .ensures),
+      omega (arith, ap amount (m .m .given .1), m .before .before .before .before .read-argument2 .ensures),
+    )))

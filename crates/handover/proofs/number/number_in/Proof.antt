@@ -44,15 +44,15 @@ number-in-spec =
     (λ c. (search needs, refl))
     (λ c. search needs) (λ c κs. search needs) (λ c. search needs) (λ c. search needs)
     (λ c. let d = c .before .before in
-      let l = d .before .before .before in
-      no-more (l .before .before .before .args .text .now) (l .loop .i) (l .loop .value) (omega arith) (sym (d .with-digit .ensures) ∙ c .enum-told .given .1)
-      ∙ sym (whole l))
+    let l = d .before .before .before in
+    no-more (l .before .before .before .args .text .now) (l .loop .i) (l .loop .value) (omega arith) (sym (d .with-digit .ensures) ∙ c .enum-told .given .1)
+    ∙ sym (whole l))
     (λ c. search needs) (λ c. search needs)
     (λ c. let d = c .before .before .before in
-      let l = d .before .before .before in (
-        search needs,
-        one-more (l .before .before .before .args .text .now) (l .loop .i) (l .loop .value) (omega arith) _ (sym (d .with-digit .ensures) ∙ c .before .next .given .1)
-            ∙ l .loop .inv .1,
-      ))
+    let l = d .before .before .before in (
+      search needs,
+      one-more (l .before .before .before .args .text .now) (l .loop .i) (l .loop .value) (omega arith) _ (sym (d .with-digit .ensures) ∙ c .before .next .given .1)
+          ∙ l .loop .inv .1,
+    ))
     (λ c. let l = c .before in
-      sym (whole l ∙ ap (numberFrom (l .loop .value)) (drop-of-length-le (l .before .before .before .args .text .now) {i = l .loop .i} (omega arith)))))
+    sym (whole l ∙ ap (numberFrom (l .loop .value)) (drop-of-length-le (l .before .before .before .args .text .now) {i = l .loop .i} (omega arith)))))

@@ -26,7 +26,7 @@ with-digit-spec =
     (λ c. let byte = c .before .before .args .byte in rw (le-ltb byte 48 (omega arith), lt-ltb 57 byte (omega arith)))
     (λ c. search needs) (λ c. search needs) (λ c. search needs)
     (λ c. let a = c .before .before .before .args in
-      rw (of-digit (a .value) (a .byte) (omega arith) (omega arith), lt-ltb 4294967295 (a .value * 10 + (a .byte - 48)) (omega arith)))
+    rw (of-digit (a .value) (a .byte) (omega arith) (omega arith), lt-ltb 4294967295 (a .value * 10 + (a .byte - 48)) (omega arith)))
     (λ c. search needs)
     (λ c. let a = c .before .before .before .args in
-      rw (of-digit (a .value) (a .byte) (omega arith) (omega arith), le-ltb 4294967295 (a .value * 10 + (a .byte - 48)) (omega arith))))
+    rw (of-digit (a .value) (a .byte) (omega arith) (omega arith), le-ltb 4294967295 (a .value * 10 + (a .byte - 48)) (omega arith))))

@@ -46,9 +46,9 @@ node-byte-spec =
     (tie.spec
     (λ c κs. search needs) (λ c. search needs) (λ c. search needs) (λ c. search needs) (λ c. search needs)
     (λ c. let a = start (reading (c .before)) .args in
-      let f = held (c .before) in
-      let few = count-bits _ _ (f .held) (f .read) in
-      rw (bits-of _ _ (f .held) (f .read)) (sym (no-node (a .proof .now) _ (a .node) (omega (arith, c .if1 .taken, ap (λ w. w .proof .nodes) (f .summary))))))
+    let f = held (c .before) in
+    let few = count-bits _ _ (f .held) (f .read) in
+    rw (bits-of _ _ (f .held) (f .read)) (sym (no-node (a .proof .now) _ (a .node) (omega (arith, c .if1 .taken, ap (λ w. w .proof .nodes) (f .summary))))))
     (λ c. let words = reading (c .before .before .before) .read-pair .ok .1 .1 .1 .1 .1 .0 in search needs)
     (λ c κs. search needs) (λ c κs. search needs)
     (λ c. rw (found-long _ (found (c .before .before) ∙ c .enum-told .given .1)) (sym (no-node _ _ _ (omega arith))))
