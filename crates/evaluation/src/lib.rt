@@ -362,7 +362,7 @@ fn wrapped_long(size: u32, z: i64) -> u32
     (lifted as u64 % size as u64) as u32
 }
 
-// The same of a short value: the sum has 32 bits, and dividing it takes half the time.
+// The same of a short value: the sum has 32 bits, and is divided in less time.
 fn wrapped_short(size: u32, z: i64) -> u32
     requires { ⌜ (0 < size) × (size ≤ capacity) × (mag z < shortBound) ⌝ }
     ensures { λ r. ⌜ r ≡ remainder z size ⌝ }
