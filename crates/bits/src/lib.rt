@@ -1,5 +1,7 @@
 // The packed reader: bits, fields of 1 to 64 bits and the fill of a file, most significant bit first. It accepts any file, cursor and
 // width, and assumes nothing about its host.
+#![tactic(auto)]
+
 ghost use Rattle.std.specs.Prelude.{◌≡◌, ◌+◌, ◌*◌, ◌/◌, ◌^◌, ◌≤◌, ◌<◌, length};
 ghost use Rattle.bits.specs.Fields.{bit_length, has_bits, bit_at, bits_at, is_there, field_at, number_at, further_byte, fill_at};
 

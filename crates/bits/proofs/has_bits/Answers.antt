@@ -6,14 +6,10 @@ use borrow.Author.Tests.{le-leb, leb-true, leb-false}
 use lib.ListN.{length}
 use Rattle.bits.specs.Fields.{has_bits}
 use Rattle.bits.proofs.Laws.{same_test}
-use Rattle.bits.proofs.has_bits.Statement.{statement}
-use Rattle.bits.proofs.has_bits.Tie as tie
+use Rattle.bits.proofs.has_bits.Goals as goal
 
-returns : tie.Need-returns
+pub returns : goal.returns
 unfolding has_bits
 returns c =
     let a = c.args in
     same_test _ _ (λ h. le-leb (a.at + a.count) (8 * length a.src.now) (omega (arith, leb-true))) (λ h e. omega (arith, leb-true, leb-false))
-
-pub has-bits-spec : {M : Type 1} → statement M
-has-bits-spec = tie.close (tie.spec (λ c. search rules) (λ c. search rules) (λ c. search rules) (λ c. search rules) returns)

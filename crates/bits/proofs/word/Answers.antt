@@ -1,0 +1,9 @@
+-- Both ways read the same bits.
+use borrow.Author.Rules.{rules}
+use Rattle.bits.proofs.word.Goals as goal
+
+pub returns-then-at-src : goal.returns-then-at-src
+returns-then-at-src c = c.nine_bytes.ensures
+
+pub returns : goal.returns
+returns c = c.gather.ensures
