@@ -16,7 +16,7 @@ pub(crate) const NO_SLOT: Slot = Slot {
 };
 
 // The first tick after slots that lie end to end from tick 0 within the frame, each at a place of its own; or that they do not.
-#[derive(Drop)]
+#[derive(Clone, Copy)]
 pub(crate) enum Extent {
     EndToEnd(u32),
     Malformed,

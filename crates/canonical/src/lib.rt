@@ -28,21 +28,21 @@ const LONG_FILE: u32 = 2;
 const SHORT_BUFFER: u32 = 3;
 
 // The result: the length of the file that was written, or the fault for which nothing was written.
-#[derive(Drop)]
+#[derive(Clone, Copy)]
 pub enum Outcome {
     Written(u32),
     Refused(Fault),
 }
 
 // Tables of one width, one after the other: where the first begins, and how many bits each has.
-#[derive(Drop)]
+#[derive(Clone, Copy)]
 struct Run {
     from: usize,
     width: usize,
 }
 
 // How many sets and relations the form has.
-#[derive(Drop)]
+#[derive(Clone, Copy)]
 struct Counts {
     sets: usize,
     relations: usize,

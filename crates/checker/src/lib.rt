@@ -31,14 +31,14 @@ const LONG_FILE: u32 = 2;
 const MANY_STEPS: u32 = 80;
 
 // Where a fault is: a bit of its file or a node of the derivation.
-#[derive(Drop)]
+#[derive(Clone, Copy)]
 pub enum Place {
     Bit(usize),
     Node(u32),
 }
 
 // A fault: its number, its place, and the states that a broken condition names.
-#[derive(Drop)]
+#[derive(Clone, Copy)]
 pub struct Fault {
     pub number: u32,
     pub place: Place,
@@ -46,7 +46,7 @@ pub struct Fault {
 }
 
 // The result of the check of two files: the step number, or the first fault.
-#[derive(Drop)]
+#[derive(Clone, Copy)]
 pub enum Verdict {
     Accepted(u32),
     Refused(Fault),

@@ -14,7 +14,7 @@ use rules::{NodeFault, node_fault};
 use search::Named;
 
 // No fault, or the first condition that is broken: its number, its node, and the states that it names.
-#[derive(Drop)]
+#[derive(Clone, Copy)]
 pub enum FirstFault {
     Nothing,
     Broken(u32, u32, Named),

@@ -33,7 +33,7 @@ const NODES: u64 = MOST_NODES as u64;
 const LEVELS: u64 = MOST_LEVELS as u64;
 
 // What was read of both handler files, and the step number of their parallel.
-#[derive(Drop)]
+#[derive(Clone, Copy)]
 pub(crate) struct Handlers {
     pub first: HandlerSummary,
     pub second: HandlerSummary,
@@ -41,7 +41,7 @@ pub(crate) struct Handlers {
 }
 
 // The lengths of both files in bytes.
-#[derive(Drop)]
+#[derive(Clone, Copy)]
 struct Lengths {
     handler: usize,
     proof: usize,

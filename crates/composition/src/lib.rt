@@ -26,7 +26,7 @@ mod tables;
 mod writing;
 
 // What was written: the step number of the parallel, and the length of each file.
-#[derive(Drop)]
+#[derive(Clone, Copy)]
 pub struct Made {
     pub steps: u32,
     pub handler: u32,
@@ -34,7 +34,7 @@ pub struct Made {
 }
 
 // The result: what was written; or the fault for which nothing was, with the pair whose fault it is, 1 or 2, or 0 for neither.
-#[derive(Drop)]
+#[derive(Clone, Copy)]
 pub enum Composed {
     Made(Made),
     Refused(u32, Fault),

@@ -15,14 +15,14 @@ use states::relations::{row, same_members};
 use states::{CAPACITY, StateSet};
 
 // The place of a table that was mentioned, and how many tables there are then. More than 16 are counted, but not kept.
-#[derive(Drop)]
+#[derive(Clone, Copy)]
 pub(crate) struct Mention {
     pub place: usize,
     pub count: usize,
 }
 
 // The places of an R, a G and a Q that were mentioned, and how many relations there are then.
-#[derive(Drop)]
+#[derive(Clone, Copy)]
 pub(crate) struct Three {
     pub r: usize,
     pub g: usize,

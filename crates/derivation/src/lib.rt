@@ -35,7 +35,7 @@ pub const MOST_NODES: usize = 127;
 pub const MOST_LEVELS: u32 = 24;
 
 // The head of the file: how many sets and relations, and the bit at which the root node begins.
-#[derive(Drop)]
+#[derive(Clone, Copy)]
 pub struct TablesHead {
     pub sets: u32,
     pub relations: u32,
@@ -43,14 +43,14 @@ pub struct TablesHead {
 }
 
 // The head of the file over N states, or a fault.
-#[derive(Drop)]
+#[derive(Clone, Copy)]
 pub enum TablesEnd {
     Counts(TablesHead),
     Fault(u32, usize),
 }
 
 // The head of a node: its rule, the tables that it names (K and W are 0 but at a while), and the bit after it.
-#[derive(Drop)]
+#[derive(Clone, Copy)]
 struct NodeHead {
     rule: u32,
     names: Names,
@@ -60,14 +60,14 @@ struct NodeHead {
 }
 
 // The head of a node, or a fault.
-#[derive(Drop)]
+#[derive(Clone, Copy)]
 enum HeadFound {
     Head(NodeHead),
     Fault(u32, usize),
 }
 
 // Two tables that a node names one after the other, and the bit after them.
-#[derive(Drop)]
+#[derive(Clone, Copy)]
 struct NamePair {
     first: u32,
     second: u32,
@@ -75,7 +75,7 @@ struct NamePair {
 }
 
 // Two such names, or a fault.
-#[derive(Drop)]
+#[derive(Clone, Copy)]
 enum TwoNames {
     Pair(NamePair),
     Fault(u32, usize),
@@ -83,7 +83,7 @@ enum TwoNames {
 
 // Where the derivation at a node ends: how many nodes the file has so far, how many levels the derivation has, and the bit after
 // it; or the first fault.
-#[derive(Drop)]
+#[derive(Clone, Copy)]
 enum NodeEnd {
     Ends(u32, u32, usize),
     Fault(u32, usize),
@@ -91,7 +91,7 @@ enum NodeEnd {
 
 // A node as the table keeps it: its rule, the tables that it names (K and W are 0 but at a while), the number of the node
 // after its first child (after itself where it has none), and the bit at which it begins.
-#[derive(Drop)]
+#[derive(Clone, Copy)]
 pub struct Node {
     pub rule: u32,
     pub names: Names,
@@ -102,7 +102,7 @@ pub struct Node {
 }
 
 // What a proof file without fault holds: how many sets, relations, nodes and levels, and the bit at which the root node begins.
-#[derive(Drop)]
+#[derive(Clone, Copy)]
 pub struct ProofHead {
     pub sets: u32,
     pub relations: u32,
@@ -112,7 +112,7 @@ pub struct ProofHead {
 }
 
 // What a proof file without fault holds, or its first fault.
-#[derive(Drop)]
+#[derive(Clone, Copy)]
 pub enum ProofFound {
     Proof(ProofHead),
     Fault(u32, usize),

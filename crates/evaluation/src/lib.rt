@@ -53,7 +53,7 @@ const AND: u32 = 5;
 const OR: u32 = 6;
 
 // The value of an expression at each state, by kind; it has no value where its operands are of the wrong kinds.
-#[derive(Drop)]
+#[derive(Clone, Copy)]
 struct Values {
     kind: u32,
     integers: [i64; CAPACITY as usize],
@@ -61,7 +61,7 @@ struct Values {
 }
 
 // The states at which a test is true, and those at which it is false.
-#[derive(Drop)]
+#[derive(Clone, Copy)]
 pub struct Truths {
     pub holds: StateSet,
     pub fails: StateSet,
@@ -69,7 +69,7 @@ pub struct Truths {
 
 // A variable as it is encoded in a state's number: the number of states, the variable's weight, which is the product of the sizes
 // of the later variables, and its size.
-#[derive(Drop)]
+#[derive(Clone, Copy)]
 pub struct Variable {
     pub states: u32,
     pub weight: u32,

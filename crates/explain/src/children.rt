@@ -9,7 +9,7 @@ use rules::tables::{is_join, same_pre, same_relation};
 use semantics::Names;
 
 // The child at fault: the body of an if or a while, a child of a sequence or a parallel, or none.
-#[derive(Drop)]
+#[derive(Clone, Copy)]
 pub enum Child {
     Nothing,
     Body,

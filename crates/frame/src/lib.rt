@@ -6,7 +6,7 @@ use checker::Fault;
 pub const PLACES: usize = 16;
 
 // The slot of a guest: its place, its first tick and its length in ticks.
-#[derive(Drop)]
+#[derive(Clone, Copy)]
 pub struct Slot {
     pub place: u32,
     pub first: u32,
@@ -14,7 +14,7 @@ pub struct Slot {
 }
 
 // The record of a core: the length of its frame in ticks, and the slots in order of admission, of which the first `count` are held.
-#[derive(Drop)]
+#[derive(Clone, Copy)]
 pub struct Frame {
     pub length: u32,
     pub count: u32,
@@ -22,7 +22,7 @@ pub struct Frame {
 }
 
 // The answer to a call. docs/ADMISSION.md has the number of each refusal.
-#[derive(Drop)]
+#[derive(Clone, Copy)]
 pub enum Answer {
     Done,
     NoSuchPlace,
@@ -35,7 +35,7 @@ pub enum Answer {
 }
 
 // The answer to a call, and the record after it.
-#[derive(Drop)]
+#[derive(Clone, Copy)]
 pub struct Outcome {
     pub frame: Frame,
     pub answer: Answer,

@@ -41,7 +41,7 @@ const VARIABLE: u64 = 2;
 const NO_OPERATION: u64 = 7;
 
 // What an expression's first bits hold: a constant, a variable or an operation, with the cursor after it; or a fault.
-#[derive(Drop)]
+#[derive(Clone, Copy)]
 pub enum ExprHead {
     Integer(i64, usize),
     Truth(bool, usize),
@@ -51,14 +51,14 @@ pub enum ExprHead {
 }
 
 // Where the kinds do not fit: nowhere, or at the first bit of the first node whose result is not of the wanted kind.
-#[derive(Drop)]
+#[derive(Clone, Copy)]
 pub enum KindError {
     Nowhere,
     At(usize),
 }
 
 // A summary of a whole expression: its kind error, its E, the number of nodes so far and the cursor after it.
-#[derive(Drop)]
+#[derive(Clone, Copy)]
 pub struct ExprSummary {
     pub error: KindError,
     pub e: u32,
@@ -67,7 +67,7 @@ pub struct ExprSummary {
 }
 
 // The summary of a whole expression, or its first fault.
-#[derive(Drop)]
+#[derive(Clone, Copy)]
 pub enum ExprShape {
     Whole(ExprSummary),
     Fault(u32, usize),

@@ -22,7 +22,7 @@ const COUNT_BITS: usize = 3;
 const SIZE_BITS: usize = 5;
 
 // The variables that the head declares: how many, the size of each (1 past the count), and the number of states N.
-#[derive(Drop)]
+#[derive(Clone, Copy)]
 pub struct Head {
     pub count: u32,
     pub sizes: [u32; 4],
@@ -30,14 +30,14 @@ pub struct Head {
 }
 
 // The first bit of the statement after the head; or the head's first fault and its place.
-#[derive(Drop)]
+#[derive(Clone, Copy)]
 pub enum HeadEnd {
     Statement(usize),
     Fault(u32, usize),
 }
 
 // The head of a file, and what comes after it.
-#[derive(Drop)]
+#[derive(Clone, Copy)]
 pub struct HeadFile {
     pub head: Head,
     pub end: HeadEnd,

@@ -30,7 +30,7 @@ pub const MOST_STATEMENT_LEVELS: u32 = 16;
 
 // What a statement's first bits hold, with the cursor after them: nil; an assignment, by its variable; a sequence or parallel, by its
 // code; an if or while, by its code; or a fault.
-#[derive(Drop)]
+#[derive(Clone, Copy)]
 pub enum StmtHead {
     Nil(usize),
     Assign(u32, usize),
@@ -41,7 +41,7 @@ pub enum StmtHead {
 
 // A summary of a whole statement: its step number, capped at 2 ^ 32, its kind error, the number of statements and of expression nodes
 // so far, the number of its levels and the cursor after it.
-#[derive(Drop)]
+#[derive(Clone, Copy)]
 pub struct StmtSummary {
     pub steps: u64,
     pub error: KindError,
@@ -52,7 +52,7 @@ pub struct StmtSummary {
 }
 
 // The summary of a whole statement, or its first fault.
-#[derive(Drop)]
+#[derive(Clone, Copy)]
 pub enum StmtShape {
     Whole(StmtSummary),
     Fault(u32, usize),
@@ -60,7 +60,7 @@ pub enum StmtShape {
 
 // A summary of a handler file: the first bit of its statement, the bit after it, the number of statements and of their levels, and the
 // step number, capped at 2 ^ 32.
-#[derive(Drop)]
+#[derive(Clone, Copy)]
 pub struct HandlerSummary {
     pub at: usize,
     pub end: usize,
@@ -70,7 +70,7 @@ pub struct HandlerSummary {
 }
 
 // The summary of a handler file, or its first fault and the place.
-#[derive(Drop)]
+#[derive(Clone, Copy)]
 pub enum HandlerFound {
     Handler(HandlerSummary),
     Fault(u32, usize),

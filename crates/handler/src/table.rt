@@ -4,7 +4,7 @@ ghost use Rattle.handler.specs.StatementTable.{statement_word, statement_in};
 
 // A statement as the table keeps it: its code, an assignment's variable, the number of the statement after its first part (after
 // itself if it has no parts), the number of its expression's first node (0 if it has no expression), and its first bit in the file.
-#[derive(Drop)]
+#[derive(Clone, Copy)]
 pub struct Statement {
     pub code: u32,
     pub target: u32,

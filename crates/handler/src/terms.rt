@@ -20,7 +20,7 @@ pub const OPERATION: u32 = 3;
 
 // A node of an expression: its tag, what the tag holds (a constant in two's complement of 16 bits, a truth value, a variable or an
 // operation's code), and the number of an operation's right operand. Its left operand is the next node.
-#[derive(Drop)]
+#[derive(Clone, Copy)]
 pub struct Term {
     pub tag: u32,
     pub value: u32,

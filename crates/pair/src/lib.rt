@@ -20,26 +20,26 @@ pub const MOST_HANDLER_BYTES: usize = 16384;
 pub const MOST_PROOF_BYTES: usize = 16384;
 
 // How a proof file arranges its relations.
-#[derive(Drop)]
+#[derive(Clone, Copy)]
 pub enum Arrangement {
     Rows,
 }
 
 // What a check is told besides the two files.
-#[derive(Drop)]
+#[derive(Clone, Copy)]
 pub struct Mode {
     pub arrangement: Arrangement,
 }
 
 // What both files hold: the summaries of a handler file and of a proof file.
-#[derive(Drop)]
+#[derive(Clone, Copy)]
 pub struct PairSummary {
     pub handler: HandlerSummary,
     pub proof: ProofHead,
 }
 
 // Both summaries; or the first fault, at a bit of its file; or a file is too long.
-#[derive(Drop)]
+#[derive(Clone, Copy)]
 pub enum PairFound {
     Pair(PairSummary),
     Fault(u32, usize),

@@ -44,7 +44,7 @@ fn while_tables(
 }
 
 // Whether W is a strict order: it has no (s,s) (51), and it is transitive (57).
-#[derive(Drop)]
+#[derive(Clone, Copy)]
 pub struct Order {
     pub apart: bool,
     pub transitive: bool,

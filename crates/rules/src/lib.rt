@@ -42,14 +42,14 @@ pub mod tables;
 pub mod weaken;
 
 // The result of the conditions checked so far: all hold, or the number of the first that failed.
-#[derive(Drop)]
+#[derive(Clone, Copy)]
 pub enum NodeVerdict {
     Holds,
     Breaks(u32),
 }
 
 // All conditions of a node hold, or the number of the first that failed and the states that it names.
-#[derive(Drop)]
+#[derive(Clone, Copy)]
 pub enum NodeFault {
     Nothing,
     Broken(u32, Named),

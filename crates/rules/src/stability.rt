@@ -10,7 +10,7 @@ use states::StateSet;
 use states::relations::starting;
 
 // Which of the three hold: P is stable under R (31), and Q absorbs R before (32) and after (33).
-#[derive(Drop)]
+#[derive(Clone, Copy)]
 pub struct Stability {
     pub pre: bool,
     pub before: bool,

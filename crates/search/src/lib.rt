@@ -14,7 +14,7 @@ use states::relations::row;
 pub mod pairs;
 
 // The states that a refusal names, in the order in which the condition names them.
-#[derive(Drop)]
+#[derive(Clone, Copy)]
 pub enum Named {
     Nothing,
     One(u32),

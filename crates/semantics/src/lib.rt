@@ -5,7 +5,7 @@ ghost use Rattle.semantics.specs.Language.{row_of};
 ghost use Rattle.semantics.specs.Facts.{place_of};
 
 // The tables that a node names, by number: P a set, R, G and Q relations.
-#[derive(Drop)]
+#[derive(Clone, Copy)]
 pub struct Names {
     pub p: u32,
     pub r: u32,
@@ -14,14 +14,14 @@ pub struct Names {
 }
 
 // The kinds of values.
-#[derive(Drop)]
+#[derive(Clone, Copy)]
 pub enum Kind {
     Integer,
     Truth,
 }
 
 // The row of an operation: left kind, right kind, result kind; an unused code has none.
-#[derive(Drop)]
+#[derive(Clone, Copy)]
 pub enum Row {
     Kinds(Kind, Kind, Kind),
     Unused,
@@ -51,7 +51,7 @@ pub fn row_of(operation: usize) -> Row
 }
 
 // Where the place of a number is: nowhere in the files, at a bit of the handler file or of the proof file, or at a node of the derivation.
-#[derive(Drop)]
+#[derive(Clone, Copy)]
 pub enum Where {
     Nowhere,
     HandlerBit,

@@ -1,5 +1,7 @@
 // Sets of states by value. No function has a precondition, and each contract describes a set by its members.
 // No other crate knows how many words a set has.
+#![tactic(auto)]
+
 ghost use Rattle.std.specs.Prelude.{◌≡◌, false, not, ◌&&◌, ◌||◌, ℕ, ◌+◌, ◌-◌, ◌*◌, min, ltb, eqb, get_or};
 ghost use Rattle.std.specs.Bool.{beq};
 ghost use Rattle.states.specs.Search.{implies, all, any, least_where};
@@ -31,7 +33,7 @@ pub fn bits_in_word(n: usize, part: usize) -> usize
 }
 
 // A set of states: state s is at bit s, the lowest bit first.
-#[derive(Drop)]
+#[derive(Clone, Copy)]
 pub struct StateSet {
     bits: u64,
 }

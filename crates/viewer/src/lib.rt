@@ -10,14 +10,14 @@ use semantics::{Where, place_of};
 mod nodes;
 
 // The two files.
-#[derive(Drop)]
+#[derive(Clone, Copy)]
 pub enum File {
     Handler,
     Proof,
 }
 
 // Where the bytes that are shown begin: a file and an index into it, which is the file's length where none are shown.
-#[derive(Drop)]
+#[derive(Clone, Copy)]
 pub struct Location {
     pub file: File,
     pub index: usize,
