@@ -85,6 +85,7 @@ module _ {m : Machine} {R G : ℕ → ℕ → Type 0} {Z : ℕ → Type 0} where
       (true_or_false (is_nil S))
 
   later_ends : (n : ℕ) (c : Config) → Later m R G Z n c → (u : ℕ) × Z u
+  later_ends zero c x = elim x [ ]
   later_ends (suc n) c (later x) = ends (later_ends n) x
 
   pub can_end : (n : ℕ) {S : Stmt} {s : ℕ} → Safe m R G Z n S s → (u : ℕ) × Z u

@@ -70,13 +70,13 @@ module _ (m : Machine) where
   unfolding in_set
   at_member p f below e s h = given_none (p s) (f s) (each_none m.states _ e s (below s h)) h
 
-  pub same_set : (p q : ℕ → Bool) → same_set m.states p q ≡ true → (s : ℕ) → s < m.states → p s ≡ q s
+  pub same_set_lem : (p q : ℕ → Bool) → same_set m.states p q ≡ true → (s : ℕ) → s < m.states → p s ≡ q s
   unfolding same_set
-  same_set p q h s l = beq_true _ _ (all_at m.states _ h s l)
+  same_set_lem p q h s l = beq_true _ _ (all_at m.states _ h s l)
 
-  pub same_relation : (r q : ℕ → ℕ → Bool) → same_relation m.states r q ≡ true → (s t : ℕ) → s < m.states → t < m.states → r s t ≡ q s t
+  pub same_relation_lem : (r q : ℕ → ℕ → Bool) → same_relation m.states r q ≡ true → (s t : ℕ) → s < m.states → t < m.states → r s t ≡ q s t
   unfolding same_relation
-  same_relation r q h s t l k = same_set (r s) (q s) (all_at m.states _ h s l) t k
+  same_relation_lem r q h s t l k = same_set_lem (r s) (q s) (all_at m.states _ h s l) t k
 
   pub set_lies_in_lem : (p q : ℕ → Bool) → ((s : ℕ) → p s ≡ true → s < m.states) → set_lies_in m.states p q ≡ true
       → (s : ℕ) → p s ≡ true → q s ≡ true

@@ -116,6 +116,7 @@ module _ {m : Machine} {R R' G G' : ℕ → ℕ → Type 0} {Z Z' : ℕ → Type
       })
 
   weaken_later : (n k : ℕ) → n ≤ k → (c : Config) → Later m R G Z n c → Later m R' G' Z' k c
+  weaken_later zero k le c x = elim x [ ]
   weaken_later (suc n) zero le c x = absurd (omega arith)
   weaken_later (suc n) (suc k) le c (later x) = later (weaken_safe (weaken_later n k (omega arith)) x)
 

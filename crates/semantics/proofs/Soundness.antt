@@ -22,7 +22,7 @@ use Rattle.semantics.proofs.Safe.{stay, star_keeps, Safe, safe_weaken}
 use Rattle.semantics.proofs.Composition.{safe_nil, safe_seq, safe_par}
 use Rattle.semantics.proofs.Rules.{Undisturbed, rule_assign, rule_if, rule_while}
 use Rattle.semantics.proofs.Values.{fits_integer, fits_truth}
-use Rattle.semantics.proofs.Conditions.{TablesWithin, tables_within, relation_in, true_at, same_set, same_relation, set_lies_in_lem, lies_in, says32, says33, says35, stable, says41, says42, says43, says45, says46, says50, descending, says52, says53, says54, says55, says56, says60, says61, says66}
+use Rattle.semantics.proofs.Conditions.{TablesWithin, tables_within, relation_in, true_at, same_set_lem, same_relation_lem, set_lies_in_lem, lies_in, says32, says33, says35, stable, says41, says42, says43, says45, says46, says50, descending, says52, says53, says54, says55, says56, says60, says61, says66}
 use Rattle.semantics.proofs.Runs.{promise}
 use Rattle.semantics.proofs.Clear.{Clear, clear, no_breach, neither, made, says30}
 
@@ -41,19 +41,19 @@ module _ (m : Machine) where
   module _ (asked d : Spec) where
     enters : ((s : ℕ) → asked.P s ≡ true → s < m.states) → c34 m.states asked d ≡ none → (s : ℕ) → asked.P s ≡ true → d.P s ≡ true
     unfolding c34
-    enters below e s h = same_set m d.P asked.P (must_none _ e) s (below s h) ∙ h
+    enters below e s h = same_set_lem m d.P asked.P (must_none _ e) s (below s h) ∙ h
 
     rely : Between m.states asked.R → c36 m.states asked d ≡ none → (s t : ℕ) → asked.R s t ≡ true → d.R s t ≡ true
     unfolding c36
-    rely bounds e s t h = same_relation m d.R asked.R (must_none _ e) s t (bounds s t h).0 (bounds s t h).1 ∙ h
+    rely bounds e s t h = same_relation_lem m d.R asked.R (must_none _ e) s t (bounds s t h).0 (bounds s t h).1 ∙ h
 
     guarantee : Between m.states d.G → c37 m.states asked d ≡ none → (s t : ℕ) → d.G s t ≡ true → asked.G s t ≡ true
     unfolding c37
-    guarantee bounds e s t h = sym (same_relation m d.G asked.G (must_none _ e) s t (bounds s t h).0 (bounds s t h).1) ∙ h
+    guarantee bounds e s t h = sym (same_relation_lem m d.G asked.G (must_none _ e) s t (bounds s t h).0 (bounds s t h).1) ∙ h
 
     post : Between m.states d.Q → c38 m.states asked d ≡ none → (s t : ℕ) → d.Q s t ≡ true → asked.Q s t ≡ true
     unfolding c38
-    post bounds e s t h = sym (same_relation m d.Q asked.Q (must_none _ e) s t (bounds s t h).0 (bounds s t h).1) ∙ h
+    post bounds e s t h = sym (same_relation_lem m d.Q asked.Q (must_none _ e) s t (bounds s t h).0 (bounds s t h).1) ∙ h
 
   if_safe : (c d : Spec) → TablesWithin m.states c → TablesWithin m.states d → (e : Expr) (b : Stmt) (n : ℕ) → fits Truth e ≡ true
       → c31 m.states c ≡ none → c32 m.states c ≡ none → c33 m.states c ≡ none

@@ -1,5 +1,7 @@
 // What handlers mean. The definitions are in specs/, and the theorem about them is in proofs/Soundness.antt. The code here has the kinds
 // of values and the row of each operation.
+#![tactic(auto)]
+
 ghost use Rattle.std.specs.Prelude.{◌≡◌};
 ghost use Rattle.semantics.specs.Language.{row_of};
 ghost use Rattle.semantics.specs.Facts.{place_of};
