@@ -1,5 +1,7 @@
-// The reader for hosts: a struct that holds the file and its own bit position. `read_on` does the work, on a plain slice and cursor, and
-// is covered. Each function over the struct is thin, and proved by hand, by a walk of its MIR.
+// The reader for hosts: a struct that holds the file and its own bit position. `read_on` does the work, on a plain slice and cursor.
+// Each function over the struct is thin, and needs no proof file.
+#![tactic(auto)]
+
 ghost use Rattle.std.specs.Prelude.{◌≡◌};
 ghost use Rattle.bits.specs.Fields.{field_at};
 ghost use Rattle.reader.specs.Reading.{reader_of, outcome_of, answer_of, moved_on, two_answers};
@@ -25,7 +27,7 @@ pub struct Outcome {
     pub at: usize,
 }
 
-// A read of `width` bits at a cursor. A walk by hand cannot branch, so the branch is here.
+// A read of `width` bits at a cursor. The branch is here, and in no function over the struct.
 pub fn read_on(file: &[u8], at: usize, width: usize) -> Outcome
     ensures { result ≡ outcome_of at (field_at file.now at width) }
 {
@@ -78,7 +80,7 @@ pub struct Pair {
     pub second: Answer,
 }
 
-// Two fields in a row from a cursor on, through a local reader. Its contract names no reader, so its callers need no walk.
+// Two fields in a row from a cursor on, through a local reader. Its contract names no reader.
 pub fn read_pair(file: &[u8], at: usize, first: usize, second: usize) -> Pair
     ensures { result ≡ two_answers file.now at first second }
 {
