@@ -4,17 +4,14 @@ use Prim.Native.Nat.{ℕ, zero, suc, ◌<◌, ◌≤◌}
 use native.Mathlib.Nat.{not-suc-le-zero}
 use native.Mathlib.Decide.{dec_lt}
 use native.Mathlib.Omega.{arith}
-use mathlib.Core.Path.{◌≡◌, refl, sym, ap, ap₂, ◌∙◌, subst}
+use mathlib.Core.Path.{◌≡◌, refl, sym, ap, ap₂, ◌∙◌}
 use mathlib.Core.Logic.{◌⊎◌, inl, inr}
 use mathlib.Core.Bool.{Bool, true, false, not, ◌&&◌, and-true, and-false}
 use mathlib.Core.List.{List, [], ◌∷◌}
 use mathlib.Core.Option.{none, some}
 use lib.ListN.{length}
-use lib.Dec.{T, ltb, eqb}
+use lib.Dec.{ltb, eqb}
 use borrow.Author.Tests.{ltb-true, lt-ltb, le-ltb, eqb-true, eq-eqb, ne_eqb}
-use denote.Enum.Declared.{tag_of}
-use mir.Val.{has_key}
-use types.Run.{OneOf, miss}
 use Rattle.states.specs.Search.{any, Search, must, given, named, or_else, each}
 use Rattle.states.specs.Sets.{capacity, mem, has, entry_at}
 use Rattle.states.specs.Relations.{rel}
@@ -28,7 +25,6 @@ use Rattle.semantics.proofs.Naming.{Finds, named_length}
 use Rattle.search.specs.declared.Named.{Named}
 use Rattle.search.specs.declared.Named.TheVariants.{Nothing, One, Two, Three}
 use Rattle.search.specs.Named.{states_found, listed, naming}
-use Rattle.search.specs.contracts.Named.{the_type}
 
 pub given_cong : (b : Bool) (x y : Search) → (b ≡ true → x ≡ y) → given b x ≡ given b y
 unfolding given
@@ -120,12 +116,20 @@ listed_naming (s ∷ t ∷ []) l = refl
 listed_naming (s ∷ t ∷ u ∷ []) l = refl
 listed_naming (s ∷ t ∷ u ∷ v ∷ rest) l = absurd (omega arith)
 
-tag_listed : (r : Named) → tag_of the_type r ≡ length (listed r)
+-- An answer that does not name one state, or not two, has another number of states.
+pub not_one : (r : Named) → ((s : ℕ) → r ≡ One s → ⊥) → length (listed r) ≡ 1 → ⊥
 unfolding listed
-tag_listed Nothing = refl
-tag_listed (One s) = refl
-tag_listed (Two s t) = refl
-tag_listed (Three s t u) = refl
+not_one Nothing other e = omega arith
+not_one (One s) other e = other s refl
+not_one (Two s t) other e = omega arith
+not_one (Three s t u) other e = omega arith
+
+pub not_two : (r : Named) → ((s t : ℕ) → r ≡ Two s t → ⊥) → length (listed r) ≡ 2 → ⊥
+unfolding listed
+not_two Nothing other e = omega arith
+not_two (One s) other e = omega arith
+not_two (Two s t) other e = other s t refl
+not_two (Three s t u) other e = omega arith
 
 -- What an answer says of its search, which names m states: what it found; nothing, if the answer has another number of states.
 module _ (m : ℕ) (few : m ≤ 3) (x : Search) (names : Names m x) (r : Named) (answered : r ≡ naming (states_found x)) where
@@ -143,12 +147,12 @@ module _ (m : ℕ) (few : m ≤ 3) (x : Search) (names : Names m x) (r : Named) 
           absurd (let z : ◌≡◌ {A = ℕ} 0 1 = cc in omega arith)
       by (some found) h = ap some (sym (lists found h) ∙ e)
 
-  found_none : (others : List ℕ) → T (not (has_key others m)) → OneOf others (tag_of the_type r) → x ≡ none
-  found_none others out tag = by x refl
+  found_none : (length (listed r) ≡ m → ⊥) → x ≡ none
+  found_none out = by x refl
     where
       by : (y : Search) → x ≡ y → y ≡ none
       by none h = refl
-      by (some found) h = absurd (miss others m out (subst (OneOf others) (tag_listed r ∙ ap length (lists found h) ∙ names found h) tag))
+      by (some found) h = absurd (out (ap length (lists found h) ∙ names found h))
 
 -- The invariant of a loop that takes the states below n out of a set, the least first, until the answer at one names a breach: through
 -- the states left the search finds what it finds through all. At a state it names m states.
@@ -160,10 +164,10 @@ pub record Searching (n m : ℕ) (f : ℕ → Search) (from rest : StateSet) : T
 
 -- The answer at k is not one of m states.
 pub searching_on : (n m : ℕ) (f : ℕ → Search) (from rest left : StateSet) (k : ℕ) → Taken (has rest) (has left) k → (r : Named)
-    → r ≡ naming (states_found (f k)) → (others : List ℕ) → T (not (has_key others m)) → OneOf others (tag_of the_type r)
+    → r ≡ naming (states_found (f k)) → (length (listed r) ≡ m → ⊥)
     → Searching n m f from rest → Searching n m f from left
 unfolding in_set given
-searching_on n m f from rest left k one r answered others out tag old = record {
+searching_on n m f from rest left k one r answered out old = record {
   few = old.few;
   names = old.names;
   low = λ s e. old.low s (and_left (has rest s) _ (sym (one.rest s) ∙ e));
@@ -177,7 +181,7 @@ searching_on n m f from rest left k one r answered others out tag old = record {
     clear false false x e = refl
 
     nothing : f k ≡ none
-    nothing = found_none m old.few (f k) (old.names k) r answered others out tag
+    nothing = found_none m old.few (f k) (old.names k) r answered out
 
     at : (s : ℕ) → (eqb k s ≡ true) ⊎ (eqb k s ≡ false) → given (has left s) (f s) ≡ given (has rest s) (f s)
     at s (inl e) = clear (has left s) (has rest s) (f s) (ap f (sym (eqb-true k s e)) ∙ nothing)

@@ -1,5 +1,7 @@
 // The least states that break a condition, by value. A search runs only after its condition failed: one for each shape of condition, the
 // states taken out one by one, the least first. Any n and any rows are accepted, and only the states below n are looked at.
+#![tactic(auto)]
+
 ghost use Rattle.std.specs.Prelude.{◌≡◌};
 ghost use Rattle.states.specs.Search.{must};
 ghost use Rattle.states.specs.Sets.{has};

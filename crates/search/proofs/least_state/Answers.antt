@@ -5,7 +5,6 @@ use mathlib.Core.Bool.{Bool, true, false, not, ◌&&◌}
 use mathlib.Core.List.{[], ◌∷◌}
 use mathlib.Core.Option.{none, some}
 use lib.Dec.{ltb}
-use borrow.Author.Rules.{rules}
 use Rattle.states.specs.Search.{must, given, each}
 use Rattle.states.specs.Sets.{capacity, has}
 use Rattle.states.specs.declared.StateSet.{StateSet}
@@ -15,8 +14,8 @@ use Rattle.states.proofs.Members.{start_below, start_same, least_of, none_in}
 use Rattle.semantics.specs.Conditions.{in_set}
 use Rattle.search.specs.Named.{states_found, naming}
 use Rattle.search.proofs.Breaches.{each_clear, each_first}
-use Rattle.search.proofs.least_state.Statement.{statement}
-use Rattle.search.proofs.least_state.Tie as tie
+use Rattle.search.proofs.least_state.Goals.{After-meet}
+use Rattle.search.proofs.least_state.Goals as goal
 
 -- `low` are the states of `from` below n, and `bad` those of them that are not good.
 module _ (n : ℕ) (from low good bad : StateSet) (start : (s : ℕ) → has low s ≡ (has from s && (ltb s capacity && ltb s n)))
@@ -43,25 +42,19 @@ module _ (n : ℕ) (from low good bad : StateSet) (start : (s : ℕ) → has low
       at_each ∙ each_first n k _ [] small (λ s l. ap (λ b. must (not b)) (least.less s l)) (ap (λ b. must (not b)) least.there)
 
 -- The states that break the condition.
-start : (c : tie.After-meet) → let a = c.before.before.args in
+start : (c : After-meet) → let a = c.args in
     (s : ℕ) → has c.meet.result s ≡ (has a.from s && (ltb s capacity && ltb s a.n))
-start c s = c.meet.ensures s ∙ ap (λ b. has c.before.before.args.from s && b) (c.before.below.ensures s)
+start c s = c.meet.ensures s ∙ ap (λ b. has c.args.from s && b) (c.below.ensures s)
 
-returns : tie.Need-returns
+pub returns-then-is_empty : goal.returns-then-is_empty
 unfolding naming states_found
-returns c =
-    let d = c.before.before in
-    sym (ap (λ x. naming (states_found x)) (none_bad _ _ _ _ _ (start d.before) d.narrow.ensures (none_in _ _ c.before.is-empty.ensures c.if1.true)))
+returns-then-is_empty c =
+    let d = c in
+    sym (ap (λ x. naming (states_found x)) (none_bad _ _ _ _ _ (start (goal.at.returns-then-is_empty c).After-meet) d.narrow-bad.ensures (none_in _ _ c.is_empty.ensures c.if-is_empty.true)))
 
-returns-2 : tie.Need-returns-2
+pub returns-else-is_empty : goal.returns-else-is_empty
 unfolding naming states_found
-returns-2 c =
-    let d = c.before.before.before in
-    sym (ap (λ x. naming (states_found x)) (least_bad _ _ _ _ _ (start d.before) d.narrow.ensures _
-    (least_of _ _ c.before.before.is-empty.ensures (ap not c.before.if1.false) _ c.least.ensures)))
-
-pub least-state-spec : {M : Type 1} → statement M
-least-state-spec =
-    tie.close
-    (tie.spec (λ c κs. search rules) (λ c κs. search rules) (λ c κs. search rules) (λ c κs. search rules) (λ c κs. search rules)
-    returns returns-2)
+returns-else-is_empty c =
+    let d = c in
+    sym (ap (λ x. naming (states_found x)) (least_bad _ _ _ _ _ (start (goal.at.returns-else-is_empty c).After-meet) d.narrow-bad.ensures _
+    (least_of _ _ c.is_empty.ensures (ap not c.if-is_empty.false) _ c.least.ensures)))

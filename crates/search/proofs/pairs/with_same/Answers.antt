@@ -1,5 +1,5 @@
 -- Row s is the row of the relation, joined with s. The loop has filled the rows below s.
-use Prim.Native.Nat.{ℕ, ◌<◌, ◌-◌}
+use Prim.Native.Nat.{ℕ, ◌<◌}
 use native.Mathlib.Omega.{arith}
 use mathlib.Core.Path.{◌≡◌, refl, ◌∙◌, ap₂}
 use mathlib.Core.Logic.{⊎_elim}
@@ -7,31 +7,14 @@ use mathlib.Core.Bool.{Bool, true, false, ◌&&◌, ◌||◌, and_assoc}
 use mathlib.Core.List.{List}
 use lib.Dec.{ltb, eqb}
 use borrow.Author.Tests.{lt-ltb, ltb-true, eqb-true}
-use borrow.Author.Rules.{rules}
 use Rattle.states.specs.Sets.{capacity}
 use Rattle.states.specs.Relations.{rel}
 use Rattle.states.proofs.Search.{and_left, and_right, and_both, or_left, or_right, or_cases, bool_ext}
 use Rattle.states.proofs.Rows.{rel_between}
-use Rattle.states.proofs.EntryLaws.{RowsFilled, rows_none, rows_more}
+use Rattle.states.proofs.EntryLaws.{rows_none, rows_more}
 use Rattle.search.proofs.Breaches.{rel_filled}
-use Rattle.search.proofs.pairs.with_same.Statement.{statement}
-use Rattle.search.proofs.pairs.with_same.Tie as tie
-
-abbrev filling : ℕ → List ℕ → ℕ → ℕ → Bool
-filling n rows s t = ltb t capacity && eqb s t || rel n rows s t
-
-abbrev invariant-loop : tie.invariant-loop
-invariant-loop n rows made₀ s₀ made s = RowsFilled (filling n rows) s made
-
-abbrev decreases-loop : tie.decreases-loop
-decreases-loop n rows made₀ s₀ made s = capacity - s
-
-loop-again : tie.Need-loop-preserved invariant-loop decreases-loop
-loop-again c =
-    let d = c.before.before in
-    rw c.before.put-entry.ensures
-    (rows_more _ _ _ _ (omega arith) (λ t. d.join.ensures t ∙ ap₂ ◌||◌ (d.before.before.single.ensures t) (d.before.row.ensures t))
-    d.before.before.before.before.before.loop.invariant)
+use Rattle.search.proofs.pairs.with_same.Invariants.{filling}
+use Rattle.search.proofs.pairs.with_same.Goals as goal
 
 -- The bounds of t follow from those of s, or from the pair.
 bounded : (n : ℕ) (rows : List ℕ) (s t : ℕ) → s < capacity → s < n → (ltb t n && filling n rows s t) ≡ (eqb s t || rel n rows s t)
@@ -52,15 +35,19 @@ and_given : (a b c : Bool) → (a ≡ true → b ≡ c) → (a && b) ≡ (a && c
 and_given true b c h = h refl
 and_given false b c h = refl
 
-returns : tie.Need-returns invariant-loop decreases-loop
+pub loop-s-preserved : goal.loop-s-preserved
+loop-s-preserved c =
+    let d = c in
+    rw c.put_entry.ensures
+    (rows_more _ _ _ _ (omega arith) (λ t. d.join.ensures t ∙ ap₂ ◌||◌ (d.single.ensures t) (d.row.ensures t))
+    d.loop-s.invariant)
+
+pub returns : goal.returns
 returns c s t =
-    let a = c.before.before.before.args in
-    rel_filled a.n _ _ _ c.loop-test.false c.before.loop.invariant s t ∙ and_assoc (ltb s capacity && ltb s a.n) _ _
+    let a = c.args in
+    rel_filled a.n _ _ _ c.loop-s-test.false c.loop-s.invariant s t ∙ and_assoc (ltb s capacity && ltb s a.n) _ _
     ∙ and_given (ltb s capacity && ltb s a.n) _ _ (λ h. bounded a.n a.rows.now s t
     (ltb-true s capacity (and_left _ (ltb s a.n) h)) (ltb-true s a.n (and_right (ltb s capacity) _ h)))
 
-pub with-same-spec : {M : Type 1} → statement M
-with-same-spec =
-    tie.close
-    (tie.spec invariant-loop decreases-loop (λ c. rows_none _) (λ c. search rules) (λ c. search rules) (λ c κs. search rules) (λ c κs. search rules)
-    (λ c κs. search rules) (λ c κs. search rules) (λ c. search rules) (λ c. search rules) loop-again returns)
+pub loop-s-init : goal.loop-s-init
+loop-s-init c = rows_none _
