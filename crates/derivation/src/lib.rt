@@ -1,4 +1,6 @@
 // The proof file, read from its bits once: the tables go into the caller's work words, and the nodes into a table, a word each.
+#![tactic(auto)]
+
 use semantics::Names;
 use states::{CAPACITY, SET_WORDS};
 
