@@ -49,14 +49,14 @@ struct Counts {
 }
 
 // For each set and each relation of a file the least one with equal members.
-#[derive(Drop)]
+#[derive(Clone, Copy)]
 struct Representatives {
     sets: [u64; MOST_TABLES],
     relations: [u64; MOST_TABLES],
 }
 
 // The tables of one kind: how many the form has, the representative of each in its order, and the number in the form of each table of the file.
-#[derive(Drop)]
+#[derive(Clone, Copy)]
 struct Naming {
     count: usize,
     order: [u64; MOST_TABLES],
@@ -64,7 +64,7 @@ struct Naming {
 }
 
 // The sets and the relations.
-#[derive(Drop)]
+#[derive(Clone, Copy)]
 struct Numbering {
     sets: Naming,
     relations: Naming,

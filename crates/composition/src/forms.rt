@@ -15,7 +15,7 @@ use derivation::{MOST_NODES, ProofFound, ProofHead};
 use semantics::Names;
 
 // The head of the form, the tables that its root names, and the table of its nodes.
-#[derive(Drop)]
+#[derive(Clone, Copy)]
 pub(crate) struct Form {
     pub head: ProofHead,
     pub names: Names,

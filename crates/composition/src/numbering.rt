@@ -17,7 +17,7 @@ use semantics::Names;
 use states::{RELATION_WORDS, StateSet};
 
 // How many sets the result has, and the numbers of those of both forms.
-#[derive(Drop)]
+#[derive(Clone, Copy)]
 pub(crate) struct SetNumbers {
     pub count: usize,
     pub first: [u64; MOST_TABLES],
@@ -25,7 +25,7 @@ pub(crate) struct SetNumbers {
 }
 
 // The numbers of a weaken node's R, G and Q and of the relations of the form below it, and how many relations there are then.
-#[derive(Drop)]
+#[derive(Clone, Copy)]
 pub(crate) struct SideNumbers {
     pub node: Three,
     pub names: [u64; MOST_TABLES],
@@ -33,7 +33,7 @@ pub(crate) struct SideNumbers {
 }
 
 // The numbers of the root's R, G and Q, and of both sides.
-#[derive(Drop)]
+#[derive(Clone, Copy)]
 pub(crate) struct RelationNumbers {
     pub root: Three,
     pub left: SideNumbers,

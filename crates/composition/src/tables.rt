@@ -12,7 +12,7 @@ use states::relations::{reach, row, union_of};
 use states::{CAPACITY, RELATION_WORDS, StateSet};
 
 // The root's tables, and the R of each weaken node; their G and Q are the sides' own.
-#[derive(Drop)]
+#[derive(Clone, Copy)]
 pub(crate) struct Roots {
     pub p: StateSet,
     pub r: [u64; RELATION_WORDS],

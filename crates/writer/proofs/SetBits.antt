@@ -10,7 +10,7 @@ use Rattle.states.specs.Sets.{bits_where}
 use Rattle.states.proofs.Where.{where_below, where_join}
 use Rattle.writer.specs.Writing.{put_bits, put_field}
 use Rattle.writer.specs.Sets.{put_set}
-use Rattle.writer.proofs.Laws.{length_put, put_join, has_room, field_put}
+use Rattle.writer.proofs.Laws.{length_put, put_join, has_room_lem, field_put}
 
 -- Bits that are given by a test: the first a, and then b more.
 pub put_where : (p : ℕ → Bool) (out : List ℕ) (at a b : ℕ)
@@ -22,7 +22,7 @@ put_where p out at a b =
 -- A set that fits is written.
 pub set_put : (s : List ℕ) (at n : ℕ) (p : ℕ → Bool) → at + n ≤ 8 * length s → at + n < 2 ^ 64 → put_set s at n p ≡ put_bits s at n (bits_where n p)
 unfolding put_set
-set_put s at n p inside fits = rw (has_room s at n inside fits)
+set_put s at n p inside fits = rw (has_room_lem s at n inside fits)
 
 -- The bits of n states that the first k words have.
 abbrev pub put_words : List ℕ → ℕ → ℕ → (ℕ → Bool) → ℕ → List ℕ

@@ -1,5 +1,7 @@
 // The packed writer: fields of 1 to 64 bits are put into lent bytes, most significant bit first. It accepts any bytes, cursor, width and
 // value, and assumes nothing about its host.
+#![tactic(auto)]
+
 ghost use Rattle.std.specs.Prelude.{◌≡◌, ◌+◌, ◌-◌, ◌*◌, ◌/◌, ◌%◌, ◌^◌, ◌≤◌, ◌<◌, min, length};
 ghost use Rattle.bits.specs.Fields.{bits_at};
 ghost use Rattle.writer.specs.Writing.{put_bits, put_field, has_room, copied, cleared};
