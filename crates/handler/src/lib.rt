@@ -1,4 +1,6 @@
 // The handler file, read once from front to back.
+#![tactic(auto)]
+
 use expressions::KindError;
 use head::Head;
 
