@@ -16,9 +16,7 @@ use Rattle.handler.specs.StatementTable.{statement_table}
 use Rattle.derivation.specs.declared.ProofHead.{ProofHead}
 use Rattle.derivation.specs.declared.ProofFound.TheVariants as ProofFound
 use Rattle.derivation.specs.Reading as Proofs
-use Rattle.pair.specs.declared.PairFound.{PairFound}
 use Rattle.pair.specs.declared.PairFound.TheVariants as found
-use Rattle.pair.specs.declared.PairFile.{PairFile}
 use Rattle.pair.specs.declared.PairSummary.{PairSummary}
 use Rattle.pair.specs.Reading.{Pair, handler_summary, proof_head, nothing_found, PairRead, pair, faulty, long, on_proof, on_handler, pair_file}
 use Rattle.pair.specs.Refinement.{file_over}

@@ -2,7 +2,6 @@
 use Prim.Native.Nat.{ℕ}
 use mathlib.Core.List.{List}
 use mathlib.Core.Path.{◌≡◌}
-use native.Mathlib.Omega.{arith}
 use Rattle.handler.proofs.Heads.{head_read}
 use Rattle.handler.proofs.Handlers.{known_handler}
 use Rattle.derivation.specs.Tables.{written}

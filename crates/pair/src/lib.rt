@@ -1,4 +1,6 @@
 // A pair of files, read: both within their length, the handler file, and then the proof file over its N.
+#![tactic(auto)]
+
 ghost use Rattle.std.specs.Prelude.{◌≡◌};
 ghost use Rattle.derivation.specs.Reading.{read_proof};
 ghost use Rattle.derivation.specs.Tables.{written};
