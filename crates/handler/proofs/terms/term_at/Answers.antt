@@ -2,14 +2,16 @@
 use mathlib.Core.Path.{◌≡◌, sym, ap, ◌∙◌}
 use lib.ListN.{get_or, get_or-eq_default}
 use Rattle.handler.specs.Terms.{term_of, term_in}
-use Rattle.handler.proofs.terms.term_at.Goals.{After-row_known-1, then-i-table, else-i-table}
+use Rattle.handler.proofs.terms.term_at.Goals.{then-i-table, else-i-table}
 use Rattle.handler.proofs.terms.term_at.Goals as goal
-
-word_is : (c : After-row_known-1) → let a = c.args in c.if-i-table.word ≡ get_or a.table.now a.i 0
-word_is c =
-    let a = c.args in
-    elim c.if-i-table.branch [ then-i-table w ↦ w.word-is | else-i-table w ↦ w.word-is ∙ sym (get_or-eq_default a.table.now 0 w.if-i-table.false) ]
 
 pub returns : goal.returns
 unfolding term_in term_of
-returns c = ap term_of (word_is c)
+returns c =
+    let a = c.args in
+    let word_is : c.if-i-table.word ≡ get_or a.table.now a.i 0 =
+    elim c.if-i-table.branch [
+      | then-i-table w ↦ w.word-is
+      | else-i-table w ↦ w.word-is ∙ sym (get_or-eq_default a.table.now 0 w.if-i-table.false)
+    ] in
+    ap term_of word_is
