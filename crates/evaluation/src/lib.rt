@@ -1,5 +1,7 @@
 // The values of the expressions of a handler file at its states, and where stores lead. An expression is walked once for all
 // states: each node gives a row, with a value for each state.
+#![tactic(auto)]
+
 mod pointwise;
 
 ghost use Rattle.std.specs.Prelude.{◌≡◌, true, cond, ◌&&◌, ℕ, ◌+◌, ◌≤◌, ◌<◌, ltb, pos, get_or};

@@ -1,0 +1,52 @@
+-- After the states below s, the set holds those of them at which the comparison is true.
+use Prim.Native.Nat.{ℕ, zero, suc, ◌-◌, ◌≤◌, ◌<◌}
+use native.Mathlib.Omega.{arith}
+use mathlib.Core.Bool.{Bool, true}
+use mathlib.Core.Option.{none, some}
+use mathlib.Core.Path.{◌≡◌, refl, ap, ap₂, ◌∙◌}
+use borrow.Author.Rules.{rules, sfits_of}
+use borrow.Author.Tests.{lt-ltb}
+use lib.IntN.{ℤ, pos}
+use lib.ListN.{get_or}
+use mir.Syntax.{w64}
+use mir.Facts.{to_z-of_z}
+use Rattle.semantics.specs.Language.{truth, of_integers}
+use Rattle.semantics.specs.States.{is_truth}
+use Rattle.evaluation.specs.Refinement.{less_code, and_code, integer_in}
+use Rattle.evaluation.proofs.Runs.{Holds, holds_no_state, holds_more}
+use Rattle.evaluation.proofs.pointwise.compared.Goals as goal
+
+-- A comparison of two integers gives a truth value.
+is_truth_lem : (o : ℕ) (a b : ℤ) → less_code ≤ o → o < and_code → some (truth (is_truth true (get_or (of_integers a b) o none))) ≡ get_or (of_integers a b) o none
+is_truth_lem zero a b more less = absurd (omega arith)
+is_truth_lem (suc zero) a b more less = absurd (omega arith)
+is_truth_lem (suc (suc zero)) a b more less = refl
+is_truth_lem (suc (suc (suc zero))) a b more less = refl
+is_truth_lem (suc (suc (suc (suc zero)))) a b more less = refl
+is_truth_lem (suc (suc (suc (suc (suc o))))) a b more less = absurd (omega arith)
+
+-- x and y are a and b as the code holds them.
+carried : (o : ℕ) (a b x y : ℤ) (r : Bool) → x ≡ a → y ≡ b → some (truth r) ≡ get_or (of_integers x y) o none
+    → r ≡ is_truth true (get_or (of_integers a b) o none)
+carried o a b x y r p q h = ap (is_truth true) (h ∙ ap₂ (λ i j. get_or (of_integers i j) o none) p q)
+
+pub loop-s-init : goal.loop-s-init
+loop-s-init c = (omega arith, holds_no_state _ _ c.empty-found.ensures)
+
+pub loop-s-preserved : goal.loop-s-preserved
+loop-s-preserved c = let k = c in
+    let args = k.args in
+    let a = integer_in args.left k.loop-s.s in
+    let b = integer_in args.right k.loop-s.s in (
+      omega arith,
+      holds_more (λ t. is_truth true (get_or (of_integers (integer_in args.left t) (integer_in args.right t)) args.o none)) _ _ _ _ (omega arith)
+          (carried args.o a b _ _ _ (to_z-of_z {w = w64} {z = a} (sfits_of (omega arith)))
+          (to_z-of_z {w = w64} {z = b} (sfits_of (omega arith))) c.compares.ensures)
+          c.with_state-found.ensures k.loop-s.invariant.1,
+    )
+
+pub returns : goal.returns
+returns c s l = let k = c in
+    let holds = rw (lt-ltb s c.loop-s.s (omega arith)) at (c.loop-s.invariant.1 s) in
+    ap (λ b. some (truth b)) holds
+    ∙ is_truth_lem k.args.o (integer_in k.args.left s) (integer_in k.args.right s) k.requires.1 k.requires.2
