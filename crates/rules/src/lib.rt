@@ -1,6 +1,8 @@
 // The conditions of each rule, on the tables in the work words, each equal to its definition. A rule checks its conditions in their order
 // and keeps the number of the first that failed; all are checked, because an accepted pair needs them all. The states that a failed
 // condition names are looked for afterwards, by its number, so an accepted pair does not pay for them.
+#![tactic(auto)]
+
 ghost use Rattle.std.specs.Prelude.{◌≡◌, Bool, [], ◌∷◌};
 ghost use Rattle.rules.specs.Words.{word_spec};
 ghost use Rattle.states.specs.Search.{must};

@@ -1,0 +1,18 @@
+-- s and the ends of W from s, met with p and the states where the test is false, lie in row s of Q.
+use mathlib.Core.Path.{◌∙◌, ap, ap₂}
+use mathlib.Core.Bool.{◌&&◌, ◌||◌}
+use borrow.Author.Rules.{rules}
+use Rattle.states.specs.Search.{implies}
+use Rattle.states.specs.Sets.{capacity, has}
+use Rattle.states.proofs.Search.{all_cong}
+use Rattle.rules.proofs.Rows.{or_itself}
+use Rattle.rules.proofs.iteration.exit_satisfies_post_at.Goals as goal
+
+pub returns : goal.returns
+returns c = let rounds = c in
+    let a = rounds.args in
+    c.included.ensures
+    ∙ all_cong capacity _ _ (λ t l. ap₂ implies
+    (c.meet-2.ensures t ∙ ap (λ b. b && has a.falsity t) (c.meet.ensures t ∙ ap (λ b. b && has a.p t)
+    (rounds.join-rounds.ensures t ∙ ap₂ ◌||◌ (rounds.single.ensures t) (rounds.row_at.ensures t) ∙ or_itself a.s t _ l)))
+    (c.row_at-2.ensures t))

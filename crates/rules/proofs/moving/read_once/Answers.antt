@@ -1,0 +1,8 @@
+-- The count is the definition's.
+use mathlib.Core.Path.{ap}
+use lib.Dec.{leb}
+use borrow.Author.Rules.{rules}
+use Rattle.rules.proofs.moving.read_once.Goals as goal
+
+pub returns : goal.returns
+returns c = ap (λ k. leb k 1) c.occurrences_at.ensures

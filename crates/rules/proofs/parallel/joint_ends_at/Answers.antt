@@ -1,0 +1,12 @@
+-- The two rows, met with the reach.
+use mathlib.Core.Path.{◌∙◌, ap₂}
+use mathlib.Core.Bool.{◌&&◌}
+use borrow.Author.Rules.{rules}
+use Rattle.rules.proofs.Words.{reached_set}
+use Rattle.rules.proofs.parallel.joint_ends_at.Goals as goal
+
+pub returns : goal.returns
+returns c low t = let both = c in
+    c.meet.ensures t
+    ∙ ap₂ ◌&&◌ (both.meet-both.ensures t ∙ ap₂ ◌&&◌ (both.row_at.ensures t) (both.row_at-2.ensures t))
+    (reached_set _ _ _ _ _ low c.single.ensures c.reach.ensures t)

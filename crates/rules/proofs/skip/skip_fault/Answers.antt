@@ -1,0 +1,9 @@
+-- 30 to 33, then 35.
+use borrow.Author.Rules.{rules}
+use Rattle.rules.proofs.Asking.{asked_then}
+use Rattle.rules.proofs.skip.skip_fault.Goals as goal
+
+pub returns : goal.returns
+returns c = asked_then 35 _
+    c.common-found.ensures
+    c.ask.ensures c.reflexive.ensures

@@ -1,0 +1,12 @@
+-- The sets given by their members.
+use mathlib.Core.Path.{◌∙◌, ap₂}
+use mathlib.Core.Bool.{◌&&◌}
+use borrow.Author.Rules.{rules}
+use Rattle.rules.proofs.Words.{same_cong}
+use Rattle.rules.proofs.tables.row_ends_in.Goals as goal
+
+pub returns : goal.returns
+returns c = let a = c.args in
+    c.same_set.ensures
+    ∙ same_cong a.n _ _ _ _ c.row_at.ensures
+    (λ t. c.meet.ensures t ∙ ap₂ ◌&&◌ (c.row_at-2.ensures t) (c.set_at.ensures t))

@@ -1,0 +1,6 @@
+-- The rows of relation r start at entry 16 + capacity * r.
+use borrow.Author.Rules.{rules}
+use Rattle.rules.proofs.tables.rows_of.Goals as goal
+
+pub returns : goal.returns
+returns c = c.entries_from.ensures
