@@ -37,8 +37,12 @@ accepted_is_sound hb pb mode words = record {
 -- If the verdict and the work words are those of the answer, the whole contract holds.
 pub promised : (hb pb : List ℕ) (mode : Mode) (work after : List ℕ) (v : Verdict) (a : CheckResult) → answer hb pb mode (length work) ≡ a → v ≡ a.verdict
     → after ≡ cond a.writes (written a.words work) work
-    → (v ≡ (answer hb pb mode (length work)).verdict) × ((after ≡ work_after hb pb mode work) × AcceptedIsSound hb pb mode v)
+    → record { verdict : v ≡ (answer hb pb mode (length work)).verdict; words : after ≡ work_after hb pb mode work; promise : AcceptedIsSound hb pb mode v }
 unfolding work_after
 promised hb pb mode work after v a is verdict words =
     let v-is : v ≡ (answer hb pb mode (length work)).verdict = verdict ∙ sym (ap (λ x. x.verdict) is) in
-    (v-is, (rw is words, subst (AcceptedIsSound hb pb mode) (sym v-is) (accepted_is_sound hb pb mode (length work))))
+    record {
+      verdict = v-is;
+      words = rw is words;
+      promise = subst (AcceptedIsSound hb pb mode) (sym v-is) (accepted_is_sound hb pb mode (length work));
+    }

@@ -1,4 +1,6 @@
 // The check of two files: both are read once, and then the loop over the nodes checks the conditions of each.
+#![tactic(auto)]
+
 ghost use Rattle.std.specs.Prelude.{◌≡◌, length};
 ghost use Rattle.derivation.specs.Tables.{written};
 ghost use Rattle.pair.specs.Reading.{pair};

@@ -11,7 +11,6 @@ use lib.ListN.{length}
 use Rattle.semantics.specs.Runs.{steps_made}
 use Rattle.pair.specs.Modes.{rows}
 use Rattle.checker.specs.declared.Verdict.{Verdict}
-use Rattle.checker.specs.declared.Verdict.TheVariants as Verdict
 use Rattle.checker.specs.Verdicts.{AcceptedIsSound, answer}
 use Rattle.checker.specs.Verdicts as Verdicts
 use Rattle.frame.specs.declared.Slot.{Slot}

@@ -1,4 +1,4 @@
--- The record of some slots, and what a well_formed_lem record is.
+-- The record of some slots, and what a well-formed record is.
 use Prim.Native.Nat.{ℕ, suc, ◌+◌, ◌-◌, ◌≤◌, ◌<◌}
 use native.Mathlib.Omega.{arith}
 use mathlib.Core.Bool.{true, ◌&&◌}
@@ -47,7 +47,7 @@ last_of n xs s =
     ap (λ k. get_or ((xs ++ (s ∷ [])) ++ rest) k no_slot) at ∙ ap (λ l. get_or l (length xs) no_slot) (append_snoc xs s rest)
     ∙ get_or-append_seam xs s rest no_slot
 
--- A well_formed_lem record, part by part.
+-- A well-formed record, part by part.
 pub record Well (f : Frame) : Type 0 where
   pub length_least : 1 ≤ f.length
   pub length_most : f.length ≤ 1000000
@@ -75,7 +75,7 @@ well f h =
       own_places = and_right (ends && fits) _ within;
     }
 
--- Guests at places of their own whose needs fit into the frame have a well_formed_lem record.
+-- Guests at places of their own whose needs fit into the frame have a well-formed record.
 pub well_of : (n : ℕ) (xs : List Slot) → 1 ≤ n → n ≤ 1000000 → total xs ≤ n → apart places xs ≡ true → well_formed (frame_of n (laid_from 0 xs)) ≡ true
 unfolding well_formed laid_within frame_of
 well_of n xs least most fits own =

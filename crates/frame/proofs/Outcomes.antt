@@ -1,4 +1,4 @@
--- The outcomes of a call by cases, each with what is known in it. A call that was done had a well_formed_lem record, and if this was read from
+-- The outcomes of a call by cases, each with what is known in it. A call that was done had a well-formed record, and if this was read from
 -- numbers, there were 50.
 use Prim.Native.Nat.{ℕ, ◌+◌, ◌*◌, ◌≤◌, ◌<◌}
 use mathlib.Core.Bool.{Bool, true, false, not, cond, ◌||◌, false≢true}
@@ -11,7 +11,6 @@ use lib.Dec.{ltb, eqb}
 use lib.ListN.{length, get_or}
 use Rattle.checker.specs.declared.Fault.{Fault}
 use Rattle.checker.specs.declared.Verdict.{Verdict}
-use Rattle.checker.specs.declared.Verdict.TheVariants as Verdict
 use Rattle.frame.specs.declared.Slot.{Slot}
 use Rattle.frame.specs.declared.Frame.{Frame}
 use Rattle.frame.specs.declared.Answer.{Answer}
@@ -76,7 +75,7 @@ module _ (P : Outcome → Type 0) (f : Frame) where
           by (Verdict.Refused fault) refused full done = refused fault refl
           by (Verdict.Accepted k) refused full done = need_cases place (k * ticks) (full k refl) (done k refl)
 
--- A call that was done had a well_formed_lem record.
+-- A call that was done had a well-formed record.
 module _ (f : Frame) (place : ℕ) where
   turned : false ≡ true → well_formed f ≡ true
   turned d = absurd (false≢true d)
@@ -89,7 +88,7 @@ module _ (f : Frame) (place : ℕ) where
   pub released_well : is_done (released f place).answer ≡ true → well_formed f ≡ true
   released_well = released_cases (λ o. is_done o.answer ≡ true → well_formed f ≡ true) f place turned turned turned (λ well d. well)
 
--- A well_formed_lem record has a frame, so it was read from 50 numbers.
+-- A well-formed record has a frame, so it was read from 50 numbers.
 pub well_whole : (numbers : List ℕ) → well_formed (frame_in numbers) ≡ true → length numbers ≡ 50
 unfolding frame_in
 well_whole numbers so = by (eqb (length numbers) 50) refl (well (frame_in numbers) so).length_least

@@ -9,7 +9,6 @@ use lib.Dec.{eqb}
 use lib.ListN.{length}
 use Rattle.pair.specs.Modes.{rows}
 use Rattle.checker.specs.declared.Verdict.{Verdict}
-use Rattle.checker.specs.declared.Verdict.TheVariants as Verdict
 use Rattle.checker.specs.Verdicts.{AcceptedIsSound}
 use Rattle.checker.specs.Verdicts as Verdicts
 use Rattle.checker.proofs.Promised.{accepted_is_sound}

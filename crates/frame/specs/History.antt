@@ -2,7 +2,6 @@
 use Rattle.std.specs.Prelude.{ℕ, ◌+◌, ◌*◌, ◌≤◌, ◌<◌, true, cond, List, [], ◌∷◌, ◌++◌, map, ◌≡◌}
 use Rattle.pair.specs.Modes.{rows}
 use Rattle.checker.specs.declared.Verdict.{Verdict}
-use Rattle.checker.specs.declared.Verdict.TheVariants as Verdict
 use Rattle.checker.specs.Verdicts as Verdicts
 use Rattle.frame.specs.declared.Slot.{Slot}
 use Rattle.frame.specs.declared.Frame.{Frame}

@@ -1,5 +1,7 @@
 // What a core's frame holds, which calls are turned away, and what holds after any calls (specs/, proofs/). The crate `admission` has the
 // functions; here are the types.
+#![tactic(auto)]
+
 use checker::Fault;
 
 // How many guest places a core has.

@@ -1,11 +1,11 @@
 -- What is shown where files are made of two pairs. Both pairs are accepted, and the check accepts the two files with both step numbers plus
 -- 1: the handler file is read as the parallel of both handlers (`HandlerFile`), the proof file as the joined derivation (`Forms` of `form`),
 -- which has no fault (`Joined`). So what acceptance promises holds of them. What is known where nothing is made is in `Outcomes`.
-use Prim.Native.Nat.{ℕ, ◌+◌, ◌-◌, ◌*◌, ◌^◌, ◌≤◌, ◌<◌}
+use Prim.Native.Nat.{ℕ, ◌+◌, ◌*◌, ◌^◌, ◌≤◌, ◌<◌}
 use mathlib.Core.Bool.{true, and-eq-true_iff}
 use mathlib.Core.List.{List}
 use mathlib.Core.Option.{none}
-use mathlib.Core.Path.{◌≡◌, refl, sym, ◌∙◌, subst}
+use mathlib.Core.Path.{◌≡◌, sym, ◌∙◌, subst}
 use native.Mathlib.Omega.{arith}
 use borrow.Author.Tests.{leb-true}
 use lib.ListN.{length}

@@ -1,5 +1,5 @@
 -- What is left in the work words where neither 1 nor 2 is the answer: the table words are 0, and those past them are as they were.
-use Prim.Native.Nat.{ℕ, ◌≤◌, ◌<◌, min}
+use Prim.Native.Nat.{ℕ, ◌≤◌, ◌<◌}
 use mathlib.Core.Bool.{false}
 use mathlib.Core.List.{List}
 use mathlib.Core.Path.{◌≡◌}
