@@ -6,7 +6,7 @@
    handover_states gives the states that break a condition, and handover_view the bytes at the place of the fault.
    handover_canonical writes a proof file in its one form, so that equal proofs are equal files. handover_compose writes the two
    files of the parallel of two accepted pairs. handover_admit gives an accepted pair a slot in the frame of a core, and
-   handover_release takes it back. All eight are in target/staticlib/libhost.a, which `rt staticlib host` writes: an archive for
+   handover_release takes it back. All eight are in crates/host/out/libhost.a, which `rt lib` in crates/host writes: an archive for
    x86-64 and the System V calling convention that has no other global symbols.
 
    docs/FORMAT.md describes the two files, docs/RULES.md the rules and what acceptance promises, docs/COMPOSITION.md the parallel of

@@ -22,9 +22,9 @@ fn facts() -> BTreeMap<u32, (Place, usize)> {
     let (table, _) = rest.split_once("∷ []").expect("its end");
     let fact = |entry: &str| match entry.trim().split_once(' ') {
         Some(("node", states)) => Some((Place::Node, states.parse().expect(states))),
-        None if entry.trim() == "inHandler" => Some((Place::Handler, 0)),
-        None if entry.trim() == "inProof" => Some((Place::Proof, 0)),
-        None if entry.trim() == "noPlace" => None,
+        None if entry.trim() == "in_handler" => Some((Place::Handler, 0)),
+        None if entry.trim() == "in_proof" => Some((Place::Proof, 0)),
+        None if entry.trim() == "no_place" => None,
         _ => panic!("{entry}"),
     };
     let numbered = (0..).zip(table.split('∷').map(fact));
