@@ -1,4 +1,6 @@
 // A verdict as the check program's line and as one number.
+#![tactic(auto)]
+
 ghost use Rattle.std.specs.Prelude.{◌≡◌, ◌+◌, ◌≤◌, ◌<◌, ◌++◌, length, take};
 ghost use Rattle.search.specs.Named.{listed};
 ghost use Rattle.report.specs.Code.{code_of};

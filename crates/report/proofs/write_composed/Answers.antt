@@ -1,0 +1,8 @@
+-- The definition's line is that of its word and the step number.
+use borrow.Author.Rules.{rules}
+use Rattle.report.specs.Line.{composed_line}
+use Rattle.report.proofs.write_composed.Goals as goal
+
+pub returns : goal.returns
+unfolding composed_line
+returns c = c.write_named.ensures
