@@ -1,5 +1,7 @@
 // What a verdict means, in words and bytes. Public functions with an equation in their contract compute a definition of specs/; the
 // others lay out what those answer.
+#![tactic(auto)]
+
 ghost use Rattle.std.specs.Prelude.{◌≤◌, length};
 
 use checker::{Fault, Place, WORK_WORDS};

@@ -1,17 +1,11 @@
 -- What was written is within the room that was lent for it, and so are both files of a composition.
-use Prim.Native.Nat.{ℕ, ◌≤◌}
-use mathlib.Core.Bool.{Bool, true, false, cond, ◌&&◌}
-use mathlib.Core.Path.{◌≡◌, refl, ap, subst}
-use native.Mathlib.Omega.{arith}
-use lib.Dec.{ltb, leb}
-use lib.ListN.{length}
-use borrow.Author.Tests.{ltb-false, leb-true}
+use Rattle.std.proofs.Common.{◌≡◌, refl, ap, subst, ℕ, ◌≤◌, Bool, true, false, cond, length, arith, ltb-false, leb-true}
+use Rattle.std.specs.Prelude.{◌&&◌, ltb, leb}
 use Rattle.canonical.specs.declared.Outcome.{Outcome}
 use Rattle.canonical.specs.declared.Outcome.TheVariants.{Written, Refused}
 use Rattle.canonical.specs.Canonical.{Form, form, fault, outcome, turned_away}
 use Rattle.composition.specs.declared.Made.{Made}
 use Rattle.composition.specs.declared.Composed.{Composed}
-use Rattle.composition.specs.declared.Composed.TheVariants as Composed
 use Rattle.joint.specs.Composing.{Composition, made, refused, with_room, plain}
 use Rattle.composition.specs.Answers.{composed}
 

@@ -2,3 +2,4 @@
 pub mod Reading
 pub mod Number
 pub mod Guest
+pub mod Path

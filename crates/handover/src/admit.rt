@@ -57,29 +57,29 @@ pub(crate) fn guests_among(count: usize) -> usize
 }
 
 // Reads argument i as a number, and names it on standard error if it is none.
-fn read_number(i: usize) -> Number {
+fn read_number(rt: &HostRuntime, i: usize) -> Number {
     let mut text = [0u8; ARGUMENT_BYTES];
-    let n = argument(i, &mut text);
+    let n = argument(rt, i, &mut text);
     let number = number_in(&text[..n]);
     if let Number::Nothing = number {
-        save::report(&text[..n], b": Not a number from 0 to 4294967295\n");
+        save::report(rt, &text[..n], b": Not a number from 0 to 4294967295\n");
     }
     number
 }
 
 // Reads the guest that the arguments from `first` on give: the ticks per step, the handler file and the proof file.
-fn read_guest(first: usize, handler: &mut [u8], proof: &mut [u8]) -> GuestReading
+fn read_guest(rt: &HostRuntime, first: usize, handler: &mut [u8], proof: &mut [u8]) -> GuestReading
     requires { first ≤ 48 }
     ensures result_in_bounds { handler_amount result ≤ length handler.old }
     ensures result_in_bounds_2 { proof_amount result ≤ length proof.old }
 {
-    let Number::Value(ticks) = read_number(first) else {
+    let Number::Value(ticks) = read_number(rt, first) else {
         return GuestReading::Failed;
     };
-    let Reading::Bytes(n) = read_argument(first + 1, handler) else {
+    let Reading::Bytes(n) = read_argument(rt, first + 1, handler) else {
         return GuestReading::Failed;
     };
-    let Reading::Bytes(m) = read_argument(first + 2, proof) else {
+    let Reading::Bytes(m) = read_argument(rt, first + 2, proof) else {
         return GuestReading::Failed;
     };
     GuestReading::Guest(Guest {
@@ -112,7 +112,7 @@ fn write_outcome(place: u32, outcome: Outcome, out: &mut [u8]) -> usize
 }
 
 // Tries the guests on a frame of this length, and writes a line for each and the one of the ticks that are left over.
-fn write_table(frame_length: u32, guests: usize, table: &mut [u8]) -> Reading
+fn write_table(rt: &HostRuntime, frame_length: u32, guests: usize, table: &mut [u8]) -> Reading
     requires { guests ≤ 16 }
     ensures { amount result ≤ length table.old }
 {
@@ -123,7 +123,7 @@ fn write_table(frame_length: u32, guests: usize, table: &mut [u8]) -> Reading
         let first = FIRST_GUEST + GUEST_ARGUMENTS * i;
         let mut handler = [0u8; HANDLER_BYTES];
         let mut proof = [0u8; PROOF_BYTES];
-        let GuestReading::Guest(guest) = read_guest(first, &mut handler, &mut proof) else {
+        let GuestReading::Guest(guest) = read_guest(rt, first, &mut handler, &mut proof) else {
             return Reading::Failed;
         };
         let handler = &handler[..guest.handler];
@@ -137,15 +137,15 @@ fn write_table(frame_length: u32, guests: usize, table: &mut [u8]) -> Reading
 }
 
 // Tries the guests that the arguments name, and prints the table, unless an argument cannot be read.
-pub(crate) fn admit_arguments(guests: usize)
+pub(crate) fn admit_arguments(rt: &HostRuntime, guests: usize)
     requires { guests ≤ 16 }
 {
-    let Number::Value(frame_length) = read_number(FRAME_LENGTH) else {
+    let Number::Value(frame_length) = read_number(rt, FRAME_LENGTH) else {
         return;
     };
     let mut table = [0u8; TABLE_BYTES];
-    let Reading::Bytes(n) = write_table(frame_length, guests, &mut table) else {
+    let Reading::Bytes(n) = write_table(rt, frame_length, guests, &mut table) else {
         return;
     };
-    print_front(&table, n);
+    print_front(rt, &table, n);
 }

@@ -7,8 +7,12 @@
 // for each of 1 to 16 guests, its ticks per step and its two files; then a line for each guest says its slot or why it was turned away.
 // Any other arguments print the usage on standard error. A number that is none, and a file that cannot be opened, read or written, are
 // named on standard error. In all these cases no line is printed.
+#![tactic(auto)]
+
 mod admit;
 mod compose;
+mod failure;
+mod files;
 mod number;
 mod save;
 
@@ -17,8 +21,11 @@ ghost use Rattle.handover.specs.Reading.{amount};
 
 use canonical::{MOST_FORM_BYTES, Outcome};
 use checker::{Fault, Verdict, WORK_WORDS};
-use libc::{STDERR_FILENO, STDOUT_FILENO};
+use failure::{fail, write_error};
 use pair::{MOST_HANDLER_BYTES, MOST_PROOF_BYTES};
+use std::env::FillError;
+use std::io::Read;
+use std::rt::Env;
 use viewer::File;
 
 // What is to be done with the two files.
@@ -37,92 +44,103 @@ enum Reading {
 }
 
 // Reads until the file ends or `buf` is full.
-fn read_to_end(fd: i32, path: &[u8], buf: &mut [u8]) -> Reading
+fn read_to_end<R: Read>(rt: &HostRuntime, file: &mut R, path: &[u8], buf: &mut [u8]) -> Reading
     ensures { amount result ≤ length buf.old }
 {
     let mut done = 0;
     while done < buf.len() {
-        let got = libc::read(fd, &mut buf[done..]);
-        if got < 0 {
-            os::fail(path);
-            return Reading::Failed;
+        match file.read(&mut buf[done..]) {
+            Ok(more) => {
+                if more == 0 {
+                    break;
+                }
+                done += more;
+            }
+            Err(error) => {
+                fail(rt, path, &error);
+                return Reading::Failed;
+            }
         }
-        let more = io::count(got, &buf[done..]);
-        if more == 0 {
-            break;
-        }
-        done += more;
     }
     Reading::Bytes(done)
 }
 
 // Reads the front of the file at `path`, as much as `buf` holds.
-fn read_file(path: &[u8], buf: &mut [u8]) -> Reading
+fn read_file(rt: &HostRuntime, path: &[u8], buf: &mut [u8]) -> Reading
     ensures { amount result ≤ length buf.old }
 {
-    let fd = os::open_read(path);
-    if fd < 0 {
-        os::fail(path);
-        return Reading::Failed;
+    match files::open_read(rt, path) {
+        Ok(mut file) => read_to_end(rt, &mut file, path, buf),
+        Err(error) => {
+            fail(rt, path, &error);
+            Reading::Failed
+        }
     }
-    let read = read_to_end(fd, path, buf);
-    libc::close(fd);
-    read
 }
 
 // Prints bytes, and answers whether they were written.
-fn print(text: &[u8]) -> bool {
-    if io::write_all(STDOUT_FILENO, text) {
-        return true;
+fn print(rt: &HostRuntime, text: &[u8]) -> bool {
+    match rt.write_all(text) {
+        Ok(()) => true,
+        Err(error) => {
+            fail(rt, b"standard output", &error);
+            false
+        }
     }
-    os::fail(b"standard output");
-    false
 }
 
 // Prints the first n bytes of a text.
-fn print_front(text: &[u8], n: usize) -> bool
+fn print_front(rt: &HostRuntime, text: &[u8], n: usize) -> bool
     requires { n ≤ length text.now }
 {
-    print(&text[..n])
+    print(rt, &text[..n])
 }
 
 // Prints the line.
-fn print_line(v: Verdict) -> bool {
+fn print_line(rt: &HostRuntime, v: Verdict) -> bool {
     let mut line = [0u8; report::LINE_BYTES];
     let n = report::write_line(v, &mut line);
-    print_front(&line, n)
+    print_front(rt, &line, n)
 }
 
 // Prints the line of a file that was written.
-fn print_length(length: u32) -> bool {
+fn print_length(rt: &HostRuntime, length: u32) -> bool {
     let mut line = [0u8; report::LINE_BYTES];
     let n = report::write_length(length, &mut line);
-    print_front(&line, n)
+    print_front(rt, &line, n)
 }
 
 // Prints the name of a file and its bytes from an index on.
-fn print_bytes(path: &[u8], file: &[u8], from: usize) {
+fn print_bytes(rt: &HostRuntime, path: &[u8], file: &[u8], from: usize) {
     let mut text = [0u8; explain::TEXT_BYTES];
     let n = explain::write_bytes(file, from, &mut text);
-    if print(path) {
-        print_front(&text, n);
+    if print(rt, path) {
+        print_front(rt, &text, n);
     }
 }
 
 // Prints the bytes from the place of a refusal on.
-fn print_place(handler_path: &[u8], proof_path: &[u8], handler: &[u8], proof: &[u8], fault: Fault) {
+fn print_place(
+    rt: &HostRuntime,
+    handler_path: &[u8],
+    proof_path: &[u8],
+    handler: &[u8],
+    proof: &[u8],
+    fault: Fault,
+) {
     let place = fault.place;
     let at = viewer::locate(handler, proof, fault.number, place);
     let file = at.file;
     let index = at.index;
     match file {
-        File::Handler => print_bytes(handler_path, handler, index),
-        File::Proof => print_bytes(proof_path, proof, index),
+        File::Handler => print_bytes(rt, handler_path, handler, index),
+        File::Proof => print_bytes(rt, proof_path, proof, index),
     }
 }
 
 // Prints what a refusal means, and then the bytes at its place.
 fn explain_refusal(
+    rt: &HostRuntime,
     handler_path: &[u8],
     proof_path: &[u8],
     handler: &[u8],
@@ -131,44 +149,51 @@ fn explain_refusal(
 ) {
     let mut text = [0u8; explain::TEXT_BYTES];
     let n = explain::write_refusal(handler, proof, fault, &mut text);
-    if print_front(&text, n) & (fault.number >= explain::FIRST_IN_A_FILE) {
-        print_place(handler_path, proof_path, handler, proof, fault);
+    if print_front(rt, &text, n) & (fault.number >= explain::FIRST_IN_A_FILE) {
+        print_place(rt, handler_path, proof_path, handler, proof, fault);
     }
 }
 
 // Prints what an accepted pair of files is about.
-fn explain_accepted(handler: &[u8], proof: &[u8], work: &[u64]) {
+fn explain_accepted(rt: &HostRuntime, handler: &[u8], proof: &[u8], work: &[u64]) {
     let mut text = [0u8; explain::TEXT_BYTES];
     let n = explain::write_accepted(handler, proof, work, &mut text);
-    print_front(&text, n);
+    print_front(rt, &text, n);
 }
 
 // Checks the two files, prints the line and, if asked to, explains it.
-fn judge(handler_path: &[u8], proof_path: &[u8], handler: &[u8], proof: &[u8], explaining: bool) {
+fn judge(
+    rt: &HostRuntime,
+    handler_path: &[u8],
+    proof_path: &[u8],
+    handler: &[u8],
+    proof: &[u8],
+    explaining: bool,
+) {
     let mut work = [0u64; WORK_WORDS];
     let v = checker::check(handler, proof, pair::rows(), &mut work);
-    if print_line(v) & explaining {
+    if print_line(rt, v) & explaining {
         match v {
-            Verdict::Accepted(_) => explain_accepted(handler, proof, &work),
+            Verdict::Accepted(_) => explain_accepted(rt, handler, proof, &work),
             Verdict::Refused(fault) => {
-                explain_refusal(handler_path, proof_path, handler, proof, fault)
+                explain_refusal(rt, handler_path, proof_path, handler, proof, fault)
             }
         }
     }
 }
 
 // Writes the proof file in its one form to the file at `out` and prints its length, or the line of a refusal.
-fn write_form(handler: &[u8], proof: &[u8], out: &[u8]) {
+fn write_form(rt: &HostRuntime, handler: &[u8], proof: &[u8], out: &[u8]) {
     let mut form = [0u8; MOST_FORM_BYTES];
     let outcome = canonical::write_form(handler, proof, &mut form);
     match outcome {
         Outcome::Written(length) => {
-            if save::save(out, &form[..length as usize]) {
-                print_length(length);
+            if save::save(rt, out, &form[..length as usize]) {
+                print_length(rt, length);
             }
         }
         Outcome::Refused(fault) => {
-            print_line(Verdict::Refused(fault));
+            print_line(rt, Verdict::Refused(fault));
         }
     }
 }
@@ -179,21 +204,21 @@ const HANDLER_BYTES: usize = MOST_HANDLER_BYTES + 1;
 const PROOF_BYTES: usize = MOST_PROOF_BYTES + 1;
 
 // Reads the files at the two paths and does the task with them, unless one of them cannot be read. Only Write looks at `out`.
-fn do_with_files(handler_path: &[u8], proof_path: &[u8], out: &[u8], task: Task) {
+fn do_with_files(rt: &HostRuntime, handler_path: &[u8], proof_path: &[u8], out: &[u8], task: Task) {
     let mut handler = [0u8; HANDLER_BYTES];
-    let Reading::Bytes(n) = read_file(handler_path, &mut handler) else {
+    let Reading::Bytes(n) = read_file(rt, handler_path, &mut handler) else {
         return;
     };
     let mut proof = [0u8; PROOF_BYTES];
-    let Reading::Bytes(m) = read_file(proof_path, &mut proof) else {
+    let Reading::Bytes(m) = read_file(rt, proof_path, &mut proof) else {
         return;
     };
     let handler = &handler[..n];
     let proof = &proof[..m];
     match task {
-        Task::Check => judge(handler_path, proof_path, handler, proof, false),
-        Task::Explain => judge(handler_path, proof_path, handler, proof, true),
-        Task::Write => write_form(handler, proof, out),
+        Task::Check => judge(rt, handler_path, proof_path, handler, proof, false),
+        Task::Explain => judge(rt, handler_path, proof_path, handler, proof, true),
+        Task::Write => write_form(rt, handler, proof, out),
     }
 }
 
@@ -202,36 +227,38 @@ const ARGUMENT_BYTES: usize = 131072;
 
 // Puts argument i at the start of `name` and answers its length. One that does not fit fills `name`: the file is then reported
 // under the bytes that fit.
-fn argument(i: usize, name: &mut [u8]) -> usize
+fn argument(rt: &HostRuntime, i: usize, name: &mut [u8]) -> usize
     ensures { result ≤ length name.old }
 {
-    let n = os::arg(i, name);
-    if os::errno() == libc::ENAMETOOLONG {
-        return name.len();
+    match rt.arg(i, name) {
+        Ok(n) => n,
+        Err(FillError::TooLong) => {
+            return name.len();
+        }
+        Err(FillError::NotPresent) => 0,
     }
-    n
 }
 
 // Reads the file that argument i names, as much as `buf` holds.
-fn read_argument(i: usize, buf: &mut [u8]) -> Reading
+fn read_argument(rt: &HostRuntime, i: usize, buf: &mut [u8]) -> Reading
     ensures { amount result ≤ length buf.old }
 {
     let mut name = [0u8; ARGUMENT_BYTES];
-    let n = argument(i, &mut name);
-    read_file(&name[..n], buf)
+    let n = argument(rt, i, &mut name);
+    read_file(rt, &name[..n], buf)
 }
 
 // Does the task with the files that the arguments from `first` on name: the handler, the proof and, for Write, the file to be written.
-fn do_with_arguments(first: usize, task: Task)
+fn do_with_arguments(rt: &HostRuntime, first: usize, task: Task)
     requires { first < 3 }
 {
     let mut handler = [0u8; ARGUMENT_BYTES];
-    let n = argument(first, &mut handler);
+    let n = argument(rt, first, &mut handler);
     let mut proof = [0u8; ARGUMENT_BYTES];
-    let m = argument(first + 1, &mut proof);
+    let m = argument(rt, first + 1, &mut proof);
     let mut out = [0u8; ARGUMENT_BYTES];
-    let k = argument(first + 2, &mut out);
-    do_with_files(&handler[..n], &proof[..m], &out[..k], task);
+    let k = argument(rt, first + 2, &mut out);
+    do_with_files(rt, &handler[..n], &proof[..m], &out[..k], task);
 }
 
 // Whether the bytes are those of a word.
@@ -248,14 +275,14 @@ fn is_word(given: &[u8], word: &[u8]) -> bool {
 }
 
 // Whether the first argument is a command, a word of less than 16 bytes. One that is longer fills the 16 bytes.
-fn asks_to(command: &[u8]) -> bool {
+fn asks_to(rt: &HostRuntime, command: &[u8]) -> bool {
     let mut given = [0u8; 16];
-    let n = argument(1, &mut given);
+    let n = argument(rt, 1, &mut given);
     is_word(&given[..n], command)
 }
 
 // Prints on standard error how the program is called and what its line means.
-fn print_usage() {
+fn print_usage(rt: &HostRuntime) {
     let usage =
         b"usage: handover                                     checks handler.bin and proof.bin of the working folder
        handover HANDLER PROOF                       checks these two files
@@ -265,11 +292,11 @@ fn print_usage() {
        handover admit FRAME TICKS HANDLER PROOF ..  gives guests slots in a frame, each by its ticks per step and its files
 Checks a handler against its proof and prints one line, the verdict:
   accepted K               the proof is right: while others keep its rely, the handler takes at most K steps
-  refused NUMBER bit B     a file is too long or ill_formed: the first fault is at its bit B
-  refused NUMBER node D    the files are well_formed_lem: the first fault is at node D of the proof
+  refused NUMBER bit B     a file is too long or ill-formed: the first fault is at its bit B
+  refused NUMBER node D    the files are well-formed: the first fault is at node D of the proof
 With canonical the line is one of these:
   written LENGTH           OUT holds the form, of so many bytes
-  refused NUMBER bit B     a file is too long or ill_formed, and OUT is as it was
+  refused NUMBER bit B     a file is too long or ill-formed, and OUT is as it was
 With compose the line is one of these:
   composed K               HOUT and POUT hold the handler and its proof, which the check accepts with K
   refused .. first pair    the first pair is refused, or a file of it is too long; HOUT and POUT are as they were
@@ -282,26 +309,37 @@ ticks, is 1 to 1000000, and TICKS 1 to 1000:
   left over N                the last N ticks of the frame are no guest's
 The numbers are explained in docs/FAULTS.md. The exit status is always 0.
 ";
-    io::write_all(STDERR_FILENO, usage);
+    write_error(rt, usage);
 }
 
-// Chooses by the number of arguments. The program's own name is one of those that `os` counts.
-fn main() {
-    let count = os::arg_count();
+// How many arguments the program was started with, its own name among them.
+fn argument_count(rt: &HostRuntime) -> usize {
+    for i in 0..usize::MAX {
+        if let Err(FillError::NotPresent) = rt.arg(i, &mut [0u8; 1]) {
+            return i;
+        }
+    }
+    usize::MAX
+}
+
+// Chooses by the number of arguments. The program's own name is one of those that are counted.
+fn main(rt: HostRuntime) {
+    let rt = &rt;
+    let count = argument_count(rt);
     let guests = admit::guests_among(count);
     if count < 2 {
-        do_with_files(b"handler.bin", b"proof.bin", b"", Task::Check);
+        do_with_files(rt, b"handler.bin", b"proof.bin", b"", Task::Check);
     } else if count == 3 {
-        do_with_arguments(1, Task::Check);
-    } else if (count == 4) & asks_to(b"explain") {
-        do_with_arguments(2, Task::Explain);
-    } else if (count == 5) & asks_to(b"canonical") {
-        do_with_arguments(2, Task::Write);
-    } else if (count == 8) & asks_to(b"compose") {
-        compose::compose_arguments();
-    } else if (guests > 0) & asks_to(b"admit") {
-        admit::admit_arguments(guests);
+        do_with_arguments(rt, 1, Task::Check);
+    } else if (count == 4) & asks_to(rt, b"explain") {
+        do_with_arguments(rt, 2, Task::Explain);
+    } else if (count == 5) & asks_to(rt, b"canonical") {
+        do_with_arguments(rt, 2, Task::Write);
+    } else if (count == 8) & asks_to(rt, b"compose") {
+        compose::compose_arguments(rt);
+    } else if (guests > 0) & asks_to(rt, b"admit") {
+        admit::admit_arguments(rt, guests);
     } else {
-        print_usage();
+        print_usage(rt);
     }
 }

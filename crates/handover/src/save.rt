@@ -2,17 +2,24 @@
 //
 // Whatever fails is named on standard error; the old file is then as it was, and the new one is removed.
 ghost use Rattle.std.specs.Prelude.{◌≡◌, ◌<◌, length};
-ghost use Rattle.libc.specs.Io.{Ended};
+ghost use Rattle.handover.specs.Path.{Ended};
 
-use libc::{PATH_MAX, STDERR_FILENO};
+use super::failure::{fail, write_error};
+use super::files::{create, has_link, open_update, rename, unlink};
+use std::fs::File;
+use std::io;
+use std::io::{ErrorKind, Write};
+
+// The longest path that the system takes, with C's 0.
+const PATH_MAX: usize = 4096;
 
 // The new file has the name of the old one and the 4 bytes of .new; the longest name leaves room for them and for C's 0.
 const LONGEST: usize = PATH_MAX - 5;
 
 // Says on standard error what is wrong with a path, where there is no error of the system.
-pub(crate) fn report(path: &[u8], text: &[u8]) {
-    io::write_all(STDERR_FILENO, path);
-    io::write_all(STDERR_FILENO, text);
+pub(crate) fn report(rt: &HostRuntime, path: &[u8], text: &[u8]) {
+    write_error(rt, path);
+    write_error(rt, text);
 }
 
 // A path and then zeros, as C reads it.
@@ -20,7 +27,7 @@ fn ended(path: &[u8]) -> [u8; PATH_MAX]
     requires { length path.now < 4096 }
     ensures { Ended result }
 {
-    let mut name = io::buffer();
+    let mut name = [0u8; PATH_MAX];
     for i in 0..path.len() {
         name[i] = path[i];
     }
@@ -29,137 +36,148 @@ fn ended(path: &[u8]) -> [u8; PATH_MAX]
 }
 
 // Whether a path names a symbolic link.
-fn is_link(path: &[u8]) -> bool
+fn is_link(rt: &HostRuntime, path: &[u8]) -> bool
     requires { length path.now < 4096 }
 {
-    let name = ended(path);
-    let mut text = [0u8; 1];
-    libc::readlink(&name, &mut text) >= 0
+    has_link(rt, path).unwrap_or(false)
 }
 
 // Whether an open file is a regular one: the system can wait for its bytes to reach a device, and of a terminal or a pipe it cannot.
-fn is_regular(fd: i32, path: &[u8]) -> bool {
-    let regular = libc::fdatasync(fd) == 0;
-    if !regular {
-        if os::errno() == libc::EINVAL {
-            report(path, b": Not a regular file\n");
-        } else {
-            os::fail(path);
+fn is_regular(rt: &HostRuntime, file: &File, path: &[u8]) -> bool {
+    match file.sync_data() {
+        Ok(()) => true,
+        Err(error) => {
+            if error.kind() == ErrorKind::InvalidInput {
+                report(rt, path, b": Not a regular file\n");
+            } else {
+                fail(rt, path, &error);
+            }
+            false
         }
     }
-    libc::close(fd);
-    regular
 }
 
 // Whether a path is free, or has a file that the user may write. Links, folders, devices and pipes are not replaced.
-fn may_replace(path: &[u8]) -> bool
+fn may_replace(rt: &HostRuntime, path: &[u8]) -> bool
     requires { length path.now < 4096 }
 {
-    if is_link(path) {
-        report(path, b": Is a symbolic link\n");
+    if is_link(rt, path) {
+        report(rt, path, b": Is a symbolic link\n");
         return false;
     }
-    let fd = os::open_update(path);
-    if fd >= 0 {
-        return is_regular(fd, path);
+    match open_update(rt, path) {
+        Ok(file) => is_regular(rt, &file, path),
+        Err(error) => {
+            if error.kind() == ErrorKind::NotFound {
+                return true;
+            }
+            fail(rt, path, &error);
+            false
+        }
     }
-    if os::errno() == libc::ENOENT {
-        return true;
-    }
-    os::fail(path);
-    false
 }
 
 // Puts the bytes into an open file, and waits until they have reached its device.
-fn fill(fd: i32, bytes: &[u8]) -> bool {
-    if !io::write_all(fd, bytes) {
-        return false;
-    }
-    libc::fsync(fd) == 0
+fn fill(file: &mut File, bytes: &[u8]) -> io::Result<()> {
+    file.write_all(bytes)?;
+    file.sync_all()
 }
 
 // Writes a new file, and answers whether it is there in full.
-fn write_new(path: &[u8], bytes: &[u8]) -> bool {
-    let fd = os::create(path);
-    if fd < 0 {
-        os::fail(path);
-        return false;
+fn write_new(rt: &HostRuntime, path: &[u8], bytes: &[u8]) -> bool {
+    match create(rt, path) {
+        Ok(mut file) => {
+            let filled = fill(&mut file, bytes);
+            drop(file);
+            match filled {
+                Ok(()) => true,
+                Err(error) => {
+                    fail(rt, path, &error);
+                    remove(rt, path);
+                    false
+                }
+            }
+        }
+        Err(error) => {
+            fail(rt, path, &error);
+            false
+        }
     }
-    if !fill(fd, bytes) {
-        os::fail(path);
-        libc::close(fd);
-        os::unlink(path);
-        return false;
-    }
-    if libc::close(fd) < 0 {
-        os::fail(path);
-        os::unlink(path);
-        return false;
-    }
-    true
+}
+
+// Removes a new file that is not wanted. If that fails, it is left.
+fn remove(rt: &HostRuntime, path: &[u8]) {
+    let _ = unlink(rt, path);
 }
 
 // Lets the new file beside the one at a path take its name, or removes it.
-fn take_name(path: &[u8], beside: &[u8]) -> bool {
-    if os::rename(beside, path) < 0 {
-        os::fail(path);
-        os::unlink(beside);
-        return false;
+fn take_name(rt: &HostRuntime, path: &[u8], beside: &[u8]) -> bool {
+    match rename(rt, beside, path) {
+        Ok(()) => true,
+        Err(error) => {
+            fail(rt, path, &error);
+            remove(rt, beside);
+            false
+        }
     }
-    true
 }
 
 // Writes a new file beside the one at a path, and lets it take that name.
-fn replace(path: &[u8], beside: &[u8], bytes: &[u8]) -> bool {
-    if !write_new(beside, bytes) {
+fn replace(rt: &HostRuntime, path: &[u8], beside: &[u8], bytes: &[u8]) -> bool {
+    if !write_new(rt, beside, bytes) {
         return false;
     }
-    take_name(path, beside)
+    take_name(rt, path, beside)
 }
 
 // Whether there is no file at a path.
-fn is_free(path: &[u8]) -> bool {
-    let fd = os::open_update(path);
-    if fd >= 0 {
-        libc::close(fd);
-        return false;
+fn is_free(rt: &HostRuntime, path: &[u8]) -> bool {
+    match open_update(rt, path) {
+        Ok(_) => false,
+        Err(error) => error.kind() == ErrorKind::NotFound,
     }
-    os::errno() == libc::ENOENT
 }
 
 // Writes two new files, or none. A free path that is taken then is the second new file's own name.
-fn write_two(path: &[u8], beside: &[u8], bytes: &[u8], other: &[u8], more: &[u8]) -> bool {
-    let free = is_free(path);
-    if !write_new(beside, bytes) {
+fn write_two(
+    rt: &HostRuntime,
+    path: &[u8],
+    beside: &[u8],
+    bytes: &[u8],
+    other: &[u8],
+    more: &[u8],
+) -> bool {
+    let free = is_free(rt, path);
+    if !write_new(rt, beside, bytes) {
         return false;
     }
-    if write_new(other, more) {
-        if free == is_free(path) {
+    if write_new(rt, other, more) {
+        if free == is_free(rt, path) {
             return true;
         }
-        report(path, b": Is the name of a new file\n");
-        os::unlink(other);
+        report(rt, path, b": Is the name of a new file\n");
+        remove(rt, other);
     }
-    os::unlink(beside);
+    remove(rt, beside);
     false
 }
 
 // Lets two new files take their names, both or neither; only if the second one fails after the first one, the first is left, and named.
-fn take_names(path: &[u8], beside: &[u8], second: &[u8], other: &[u8]) -> bool {
-    if !take_name(path, beside) {
-        os::unlink(other);
+fn take_names(rt: &HostRuntime, path: &[u8], beside: &[u8], second: &[u8], other: &[u8]) -> bool {
+    if !take_name(rt, path, beside) {
+        remove(rt, other);
         return false;
     }
-    if !take_name(second, other) {
-        report(path, b": Written, but not the other file\n");
+    if !take_name(rt, second, other) {
+        report(rt, path, b": Written, but not the other file\n");
         return false;
     }
     true
 }
 
 // Says that a path is too long for the new file's name.
-fn too_long(path: &[u8]) -> bool {
-    report(path, b": File name too long\n");
+fn too_long(rt: &HostRuntime, path: &[u8]) -> bool {
+    report(rt, path, b": File name too long\n");
     false
 }
 
@@ -178,37 +196,43 @@ fn new_name(path: &[u8]) -> [u8; PATH_MAX]
 }
 
 // Makes the bytes the file at a path, and answers whether that was done.
-pub(crate) fn save(path: &[u8], bytes: &[u8]) -> bool {
+pub(crate) fn save(rt: &HostRuntime, path: &[u8], bytes: &[u8]) -> bool {
     let n = path.len();
     if n > LONGEST {
-        return too_long(path);
+        return too_long(rt, path);
     }
-    if !may_replace(path) {
+    if !may_replace(rt, path) {
         return false;
     }
     let beside = new_name(path);
-    replace(path, &beside[..n + 4], bytes)
+    replace(rt, path, &beside[..n + 4], bytes)
 }
 
 // Does the same with two files, both or neither.
-pub(crate) fn save_both(path: &[u8], bytes: &[u8], second: &[u8], more: &[u8]) -> bool {
+pub(crate) fn save_both(
+    rt: &HostRuntime,
+    path: &[u8],
+    bytes: &[u8],
+    second: &[u8],
+    more: &[u8],
+) -> bool {
     let n = path.len();
     let m = second.len();
     if n > LONGEST {
-        return too_long(path);
+        return too_long(rt, path);
     }
     if m > LONGEST {
-        return too_long(second);
+        return too_long(rt, second);
     }
-    if !may_replace(path) | !may_replace(second) {
+    if !may_replace(rt, path) | !may_replace(rt, second) {
         return false;
     }
     let beside = new_name(path);
     let other = new_name(second);
     let beside = &beside[..n + 4];
     let other = &other[..m + 4];
-    if !write_two(path, beside, bytes, other, more) {
+    if !write_two(rt, path, beside, bytes, other, more) {
         return false;
     }
-    take_names(path, beside, second, other)
+    take_names(rt, path, beside, second, other)
 }

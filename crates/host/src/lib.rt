@@ -1,6 +1,8 @@
 // The C interface for hosts (include/handover.h): the check of two files with the verdict as one number, the states that its refusal
 // names, the root of two files, where a refusal is shown, the one form of a proof file, the composition of two pairs, and the admission of
 // guests to a core.
+#![tactic(auto)]
+
 ghost use Rattle.std.specs.Prelude.{◌≡◌, eqb, length};
 ghost use Rattle.pair.specs.Modes.{rows};
 ghost use Rattle.checker.specs.Verdicts.{answer, work_after, AcceptedIsSound};
@@ -43,7 +45,7 @@ pub extern "C" fn handover_states(handler: &[u8], proof: &[u8], work: &mut [u64]
     report::states_code(checker::check(handler, proof, pair::rows(), work))
 }
 
-// N and the numbers of the root's P, R, G and Q, 8 bits each, or 0 where a file is too long or ill_formed: what a host must know of a pair
+// N and the numbers of the root's P, R, G and Q, 8 bits each, or 0 where a file is too long or ill-formed: what a host must know of a pair
 // that it accepted, because it is the host that keeps R.
 #[unsafe(no_mangle)]
 pub extern "C" fn handover_root(handler: &[u8], proof: &[u8]) -> u64

@@ -36,14 +36,14 @@ module _ (sets relations : ℕ) (few_sets : sets ≤ most_tables) (few_relations
   bits_held i bit (sequence h l r) known room =
       rw (
         first_word_bit i bit (sequence h l r) known room,
-        map-append,
+        map-append bit_in,
         bits_held (suc i) (bit + 19) l known.1 (omega arith),
         bits_held (suc i + nodes l) (bit + 19 + node_bits l) r known.2 (omega arith),
       )
   bits_held i bit (parallel h l r) known room =
       rw (
         first_word_bit i bit (parallel h l r) known room,
-        map-append,
+        map-append bit_in,
         bits_held (suc i) (bit + 19) l known.1 (omega arith),
         bits_held (suc i + nodes l) (bit + 19 + node_bits l) r known.2 (omega arith),
       )

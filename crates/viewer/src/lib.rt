@@ -1,4 +1,6 @@
 // Shows a refusal: which of the two files it is about, and the bytes of that file from its place on.
+#![tactic(auto)]
+
 ghost use Rattle.std.specs.Prelude.{◌≡◌, ◌≤◌, ◌<◌, ◌^◌, length, drop};
 ghost use Rattle.checker.specs.declared.Place.TheVariants.{Bit, Node};
 ghost use Rattle.viewer.specs.View.{nothing_of, byte_of, location_of, viewed, location_by_kind, location_number, view_of};
@@ -123,6 +125,7 @@ fn number_of(at: Location) -> u64
 }
 
 // Where a number with a place is shown, where the kind of the place is a number: 0 for a bit, 1 for a node.
+#[tactic(auto, unfolding(crate::specs::View::location_by_kind))]
 fn locate_kind(handler: &[u8], proof: &[u8], number: u32, kind: u32, place: u64) -> Location
     ensures { result ≡ location_by_kind handler.now proof.now number kind place }
 {

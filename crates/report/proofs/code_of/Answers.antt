@@ -1,6 +1,5 @@
 -- Each arm is the definition's case; a bit adds 0 for its kind.
 use native.Mathlib.Omega.{arith}
-use borrow.Author.Rules.{rules}
 use Rattle.report.specs.Code.{place_kind, index_of, code_of}
 use Rattle.report.proofs.code_of.Goals as goal
 

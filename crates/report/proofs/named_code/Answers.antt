@@ -1,6 +1,5 @@
 -- Each arm is the definition's case.
 use native.Mathlib.Omega.{arith}
-use borrow.Author.Rules.{rules}
 use Rattle.search.specs.Named.{listed}
 use Rattle.report.specs.States.{states_number}
 use Rattle.report.proofs.named_code.Goals as goal

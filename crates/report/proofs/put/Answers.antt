@@ -1,29 +1,23 @@
 -- After k rounds the first k bytes of the text are pasted; `pasted` gives the result for all of them.
-use Prim.Native.Nat.{◌-◌, ◌≤◌}
 use mathlib.Core.Path.{◌≡◌}
 use native.Mathlib.Omega.{arith}
 use native.Mathlib.Numerals.{add-one}
 use borrow.Author.Rules.{rules}
 use lib.ListN.{length, length-set}
-use lib.Seq.{paste, paste-zero, paste-suc}
+use lib.Seq.{paste-zero, paste-suc}
 use Rattle.report.proofs.Writing.{pasted}
 use Rattle.report.proofs.put.Goals as goal
 
 pub loop-k-init : goal.loop-k-init
-loop-k-init c = (search rules, search rules, paste-zero c.args.out.now c.args.at c.args.text.now)
+loop-k-init c = paste-zero c.args.out.now c.args.at c.args.text.now
 
 pub loop-k-preserved : goal.loop-k-preserved
 loop-k-preserved c =
     let a = c.args in
-    let k = c.loop-k.k in (
-      search rules,
-      simp length-set (search rules),
-      rw (add-one, c.loop-k.invariant.2)
-          (paste-suc a.out.now a.at a.text.now k 0 (omega arith) (omega arith)),
-    )
+    rw (add-one, c.loop-k.invariant) (paste-suc a.out.now a.at a.text.now c.loop-k.k 0 (omega arith) (omega arith))
 
 pub returns : goal.returns
 returns c =
     let a = c.args in
     let all : c.loop-k.k ≡ length a.text.now = omega arith in
-    rw (c.loop-k.invariant.2, all) (pasted a.out.now a.at a.text.now (omega arith))
+    rw (c.loop-k.invariant, all) (pasted a.out.now a.at a.text.now (omega arith))

@@ -6,13 +6,13 @@ use Rattle.report.proofs.put_place.Goals as goal
 pub returns-in-Bit : goal.returns-in-Bit
 unfolding place_text
 returns-in-Bit c = record {
-      put = rw c.in-Bit.is c.put_named.ensures.put;
-      upper_bound = search rules;
-    }
+  put = rw c.in-Bit.is c.put_named.ensures.put;
+  upper_bound = search rules;
+}
 
 pub returns-in-Node : goal.returns-in-Node
 unfolding place_text
 returns-in-Node c = record {
-      put = rw c.in-Node.is c.put_named-in-Node.ensures.put;
-      upper_bound = search rules;
-    }
+  put = rw c.in-Node.is c.put_named-in-Node.ensures.put;
+  upper_bound = search rules;
+}

@@ -7,14 +7,14 @@ use Rattle.report.proofs.put_words.Goals as goal
 pub returns-in-Accepted : goal.returns-in-Accepted
 unfolding verdict_text
 returns-in-Accepted c = record {
-      put = rw c.in-Accepted.is c.put_named.ensures.put;
-      upper_bound = search rules;
-    }
+  put = rw c.in-Accepted.is c.put_named.ensures.put;
+  upper_bound = search rules;
+}
 
 pub returns-in-Refused : goal.returns-in-Refused
 unfolding verdict_text
 returns-in-Refused c = record {
-      put = rw c.in-Refused.is
+  put = rw c.in-Refused.is
       (put_then c.put_named-next.ensures.put c.put_place.ensures.put);
-      upper_bound = search rules;
-    }
+  upper_bound = search rules;
+}

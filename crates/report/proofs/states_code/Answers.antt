@@ -1,5 +1,4 @@
 -- Accepted or refused.
-use borrow.Author.Rules.{rules}
 use Rattle.report.specs.States.{states_of, states_number}
 use Rattle.report.proofs.states_code.Goals as goal
 

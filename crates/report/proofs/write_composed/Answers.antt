@@ -1,5 +1,4 @@
 -- The definition's line is that of its word and the step number.
-use borrow.Author.Rules.{rules}
 use Rattle.report.specs.Line.{composed_line}
 use Rattle.report.proofs.write_composed.Goals as goal
 

@@ -1,5 +1,4 @@
 -- The definition's line is that of its word and the ticks.
-use borrow.Author.Rules.{rules}
 use Rattle.report.specs.Line.{left_line}
 use Rattle.report.proofs.write_left.Goals as goal
 

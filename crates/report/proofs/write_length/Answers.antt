@@ -1,5 +1,4 @@
 -- The definition's line is that of its word and the length.
-use borrow.Author.Rules.{rules}
 use Rattle.report.specs.Line.{written_line}
 use Rattle.report.proofs.write_length.Goals as goal
 

@@ -1,5 +1,4 @@
 -- The line is built in 80 bytes, which hold every line; its text is that of the verdict, and then that of the pair.
-use borrow.Author.Rules.{rules}
 use Rattle.report.specs.Line.{pair_line}
 use Rattle.report.proofs.Writing.{put_then}
 use Rattle.report.proofs.write_pair.Goals as goal
@@ -7,6 +6,4 @@ use Rattle.report.proofs.write_pair.Goals as goal
 pub returns : goal.returns
 unfolding pair_line
 returns c =
-    let p = c in
-    let q = p in
-    rw (put_then q.put_words-words.ensures.put q.put_pair-end.ensures.put).front at p.put_line.ensures
+    rw (put_then c.put_words-words.ensures.put c.put_pair-end.ensures.put).front at c.put_line.ensures

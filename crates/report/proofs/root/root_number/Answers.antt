@@ -1,6 +1,5 @@
--- By cases of what the pair found. The first node of the table is the root (`root_names`).
+-- By cases of what reading the pair found. The first node of the table is the root (`root_names`).
 use mathlib.Core.Path.{◌≡◌, sym, ◌∙◌, ap}
-use borrow.Author.Rules.{rules}
 use Rattle.semantics.specs.Derivations.{names_of}
 use Rattle.handler.specs.Header.{head_of}
 use Rattle.derivation.specs.NodeTable.{node_in}
@@ -12,6 +11,7 @@ use Rattle.report.proofs.RootTables.{names_small, root_names}
 use Rattle.report.proofs.root.root_number.Goals.{After-node_at-root}
 use Rattle.report.proofs.root.root_number.Goals as goal
 
+-- The pair that was found.
 held : (c : After-node_at-root) → let a = c.args in FoundPair (read_pair a.handler.now a.proof.now) c.in-Pair.field-0
 held c = found_pair _ _ (sym (ap (λ f. f.found) c.read_pair-file.ensures) ∙ c.in-Pair.is)
 
@@ -25,7 +25,9 @@ names c =
     ∙ root_names _ _ _ _ _ _ (read_holds _ _ _ f.read).proof_read
 
 pub pack-requires : goal.pack-requires
-pack-requires c = rw (names (goal.at.pack-requires c).After-node_at-root) (names_small _ _ _ _ _ _ (read_holds _ _ _ (held (goal.at.pack-requires c).After-node_at-root).read).proof_read)
+pack-requires c =
+    let p = (goal.at.pack-requires c).After-node_at-root in
+    rw (names p) (names_small _ _ _ _ _ _ (read_holds _ _ _ (held p).read).proof_read)
 
 pub returns-in-TooLong : goal.returns-in-TooLong
 unfolding root_of
@@ -38,7 +40,7 @@ returns-in-Fault c = rw (found_fault _ _ _ (sym (ap (λ f. f.found) c.read_pair-
 pub returns-in-Pair : goal.returns-in-Pair
 unfolding root_of pair_file head_of
 returns-in-Pair c =
-    let r = c in
-    let f = held (goal.at.returns-in-Pair c).After-node_at-root in
-    let states = ap (λ y. y.head.states) (r.read_pair-file.ensures ∙ ap pair_file f.read) in
-    rw f.read (c.pack.ensures ∙ (λ j. root_number (states j) (names (goal.at.returns-in-Pair c).After-node_at-root j)))
+    let p = (goal.at.returns-in-Pair c).After-node_at-root in
+    let f = held p in
+    let states = ap (λ y. y.head.states) (c.read_pair-file.ensures ∙ ap pair_file f.read) in
+    rw f.read (c.pack.ensures ∙ (λ j. root_number (states j) (names p j)))
