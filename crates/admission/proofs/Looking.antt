@@ -108,7 +108,7 @@ module _ (last tick : ℕ) (s : Slot) (rest : List Slot) where
   pub laid_twice : holds s.place rest ≡ true → laid_within last tick (s ∷ rest) ≡ false
   laid_twice h = refuted (λ e. true≢false (sym h ∙ (laid_parts e).1))
 
--- A well_formed_lem record has a length and a count in range, and then the slots decide.
+-- A well-formed record has a length and a count in range, and then the slots decide.
 module _ (f : Frame) where
   pub ill_length : (ltb f.length 1 || ltb 1000000 f.length) ≡ true → well_formed f ≡ false
   ill_length out =

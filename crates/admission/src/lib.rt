@@ -1,4 +1,6 @@
 // Admission of guests to a core (docs/ADMISSION.md). Each call takes the record and hands it back with the answer.
+#![tactic(auto)]
+
 ghost use Rattle.std.specs.Prelude.{true, false, ◌≡◌, ◌<◌, length};
 ghost use Rattle.frame.specs.Slots.{places, held, total, holds, well_formed, last_slot, left_over};
 ghost use Rattle.frame.specs.Slots as Slots;

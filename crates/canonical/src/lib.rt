@@ -1,4 +1,6 @@
 // The one form of a proof file (docs/FORMAT.md, "One form"): tables numbered by first mention, equal ones merged, unmentioned ones dropped.
+#![tactic(auto)]
+
 ghost use Rattle.std.specs.Prelude.{◌≡◌, length};
 ghost use Rattle.report.specs.Code.{code_of, decoded};
 ghost use Rattle.form.specs.Members.{by_members};

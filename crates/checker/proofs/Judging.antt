@@ -19,7 +19,7 @@ use Rattle.derivation.specs.Tables.{work_words}
 use Rattle.derivation.proofs.Files.{Shown, read_known}
 use Rattle.pair.specs.declared.Mode.{Mode}
 use Rattle.pair.specs.declared.PairSummary.{PairSummary}
-use Rattle.pair.specs.Reading.{Pair, states_of, steps_of, PairRead, pair, faulty, long, read_pair}
+use Rattle.pair.specs.Reading.{Pair, states_of, steps_of, PairRead, pair, read_pair}
 use Rattle.pair.specs.Modes.{tables_in, table_words}
 use Rattle.pair.proofs.Cases.{Holds, read_holds, exprs_read}
 use Rattle.checker.specs.declared.Place.TheVariants.{Bit}

@@ -1,8 +1,6 @@
 -- The byte of the bit is read if there is one; past the end every bit is 0.
-use Prim.Native.Nat.{◌/◌}
 use mathlib.Core.Path.{refl, sym}
 use native.Mathlib.Omega.{arith}
-use borrow.Author.Rules.{rules}
 use Rattle.bits.specs.Fields.{bit_at}
 use Rattle.bits.proofs.Laws.{bit_past}
 use Rattle.bits.proofs.bit.Goals as goal

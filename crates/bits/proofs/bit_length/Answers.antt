@@ -1,5 +1,4 @@
 -- `bits::bit_length` meets its contract: the test on the length says which side of the minimum holds.
-use borrow.Author.Rules.{rules}
 use native.Mathlib.Omega.{arith}
 use Rattle.bits.specs.Fields.{bit_length}
 use Rattle.bits.proofs.bit_length.Goals as goal

@@ -1,7 +1,6 @@
 -- A byte of the file is the value of its 8 bits; past the end these bits are 0.
 use mathlib.Core.Path.{sym, ◌∙◌}
 use native.Mathlib.Omega.{arith}
-use borrow.Author.Rules.{rules}
 use lib.ListN.{get_or-eq_default}
 use Rattle.bits.proofs.Bytes.{byte_bits}
 use Rattle.bits.proofs.byte.Goals as goal

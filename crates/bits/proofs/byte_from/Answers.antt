@@ -1,7 +1,6 @@
 -- The 8 bits lie within the two bytes that are read.
 use Prim.Native.Nat.{◌+◌, ◌*◌, ◌^◌, ◌<◌}
 use native.Mathlib.Omega.{arith}
-use borrow.Author.Rules.{rules}
 use Rattle.bits.proofs.Laws.{bits_below}
 use Rattle.bits.proofs.Bytes.{window}
 use Rattle.bits.proofs.byte_from.Goals as goal

@@ -1,7 +1,6 @@
 -- The four pairs of bytes are adjacent, and their value fits in 64 bits.
 use Prim.Native.Nat.{◌+◌, ◌*◌, ◌^◌, ◌<◌}
 use native.Mathlib.Omega.{arith}
-use borrow.Author.Rules.{rules}
 use Rattle.bits.proofs.Laws.{bits_below}
 use Rattle.bits.proofs.Bytes.{bytes_join}
 use Rattle.bits.proofs.eight_bytes.Goals as goal

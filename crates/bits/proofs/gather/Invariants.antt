@@ -1,12 +1,7 @@
 -- After each round the value is that of the first `done` bits. At most 8 bits are left, all among the 8 bits that are read last.
-use Prim.Native.Nat.{ℕ, ◌+◌, ◌-◌, ◌*◌, ◌/◌, ◌%◌, ◌^◌, ◌≤◌, ◌<◌}
-use mathlib.Core.List.{List}
-use mathlib.Core.Path.{◌≡◌, refl, ◌∙◌}
-use native.Mathlib.Omega.{arith}
-use borrow.Author.Rules.{rules}
+use Prim.Native.Nat.{◌-◌, ◌%◌, ◌≤◌}
+use mathlib.Core.Path.{◌≡◌}
 use Rattle.bits.specs.Fields.{bits_at}
-use Rattle.bits.proofs.Laws.{bits_join, bits_fit}
-use Rattle.bits.proofs.Bytes.{bits_left}
 use Rattle.bits.proofs.gather.Given as goal
 
 abbrev pub invariant-loop-done : goal.invariant-loop-done

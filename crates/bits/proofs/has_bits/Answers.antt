@@ -1,7 +1,6 @@
 -- The bits are there if the bytes that hold them are: the whole bytes of `at` and of `count`, and at most two for the remainders.
 use Prim.Native.Nat.{◌+◌, ◌*◌}
 use native.Mathlib.Omega.{arith}
-use borrow.Author.Rules.{rules}
 use borrow.Author.Tests.{le-leb, leb-true, leb-false}
 use lib.ListN.{length}
 use Rattle.bits.specs.Fields.{has_bits}

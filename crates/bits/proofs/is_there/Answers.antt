@@ -2,7 +2,6 @@
 use mathlib.Core.Bool.{not-eq-not, false}
 use mathlib.Core.Path.{sym}
 use native.Mathlib.Omega.{arith}
-use borrow.Author.Rules.{rules}
 use borrow.Author.Tests.{ltb-true, ltb-false}
 use Rattle.bits.proofs.Laws.{same_test, is_there_lem, in_full}
 use Rattle.bits.proofs.is_there.Goals.{then-width-lt1-via-then-width-lt1, then-width-lt1-via-else-width-lt1+then-width-gt64, then-width-lt1-via-else-width-lt1+else-width-gt64+then-width-at}
@@ -15,9 +14,9 @@ returns-then-width-lt1 c =
     ((not-eq-not {b = false}).0 (λ e.
     let t = in_full a.src.now a.at a.width e in
     elim c.then-width-lt1.branch [
-      then-width-lt1-via-then-width-lt1 w ↦ omega arith
-    | then-width-lt1-via-else-width-lt1+then-width-gt64 w ↦ omega arith
-    | then-width-lt1-via-else-width-lt1+else-width-gt64+then-width-at w ↦ omega arith
+      | then-width-lt1-via-then-width-lt1 w ↦ omega arith
+      | then-width-lt1-via-else-width-lt1+then-width-gt64 w ↦ omega arith
+      | then-width-lt1-via-else-width-lt1+else-width-gt64+then-width-at w ↦ omega arith
     ]))
 
 pub overflow_add-result : goal.overflow_add-result

@@ -1,7 +1,6 @@
 -- The bits before the cursor are shifted out, and those of the ninth byte are shifted in.
 use Prim.Native.Nat.{◌+◌, ◌/◌}
 use native.Mathlib.Omega.{arith}
-use borrow.Author.Rules.{rules}
 use Rattle.bits.proofs.Laws.{bits_fit}
 use Rattle.bits.proofs.Bytes.{byte_bits, wide_window}
 use Rattle.bits.proofs.nine_bytes.Goals as goal

@@ -1,7 +1,6 @@
 -- The first test is that of the definition; at most 64 bits are the number's.
-use mathlib.Core.Path.{◌≡◌, sym, ◌∙◌}
+use mathlib.Core.Path.{sym, ◌∙◌}
 use native.Mathlib.Omega.{arith}
-use borrow.Author.Rules.{rules}
 use borrow.Author.Tests.{lt-leb}
 use Rattle.bits.specs.Fields.{number_at}
 use Rattle.bits.proofs.Laws.{number_bits}

@@ -2,7 +2,6 @@
 use Prim.Native.Nat.{◌+◌}
 use mathlib.Core.Path.{sym}
 use native.Mathlib.Omega.{arith}
-use borrow.Author.Rules.{rules}
 use Rattle.bits.specs.Fields.{bits_at, field_at}
 use Rattle.bits.proofs.Laws.{There, in_full, found}
 use Rattle.bits.proofs.read.Goals.{Then-is_there}

@@ -1,15 +1,7 @@
 -- As long as the bits passed are zero, the first set bit of all is the first of those left.
-use Prim.Native.Nat.{ℕ, suc, ◌+◌, ◌-◌, ◌%◌, ◌≤◌, ◌<◌}
-use mathlib.Core.Bool.{cond}
-use mathlib.Core.List.{List}
-use mathlib.Core.Option.{some}
-use mathlib.Core.Path.{◌≡◌, ◌∙◌}
-use native.Mathlib.Nat.{add-zero, sub-zero}
-use native.Mathlib.Omega.{arith}
-use borrow.Author.Rules.{rules}
-use borrow.Author.Tests.{eq-eqb, ne_eqb}
-use lib.Dec.{eqb}
-use Rattle.bits.specs.Fields.{bit_at, first_set, fill_bits, fill_from, fill_at}
+use Prim.Native.Nat.{◌+◌, ◌-◌, ◌≤◌}
+use mathlib.Core.Path.{◌≡◌}
+use Rattle.bits.specs.Fields.{first_set, fill_from, fill_at}
 use Rattle.bits.proofs.read_fill.Given as goal
 
 abbrev pub invariant-loop-k : goal.invariant-loop-k

@@ -1,7 +1,6 @@
 -- Each byte is the value of its 8 bits, and the two bytes are adjacent.
 use Prim.Native.Nat.{◌+◌}
 use native.Mathlib.Omega.{arith}
-use borrow.Author.Rules.{rules}
 use Rattle.bits.proofs.Bytes.{byte_bits, bytes_join}
 use Rattle.bits.proofs.two_bytes.Goals as goal
 

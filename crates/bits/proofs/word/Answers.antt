@@ -1,5 +1,4 @@
 -- Both ways read the same bits.
-use borrow.Author.Rules.{rules}
 use Rattle.bits.proofs.word.Goals as goal
 
 pub returns-then-at-src : goal.returns-then-at-src

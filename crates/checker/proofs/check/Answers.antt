@@ -2,14 +2,11 @@
 use Prim.Native.Nat.{ℕ, ◌≤◌}
 use mathlib.Core.Path.{◌≡◌, refl, sym, ◌∙◌, ap}
 use native.Mathlib.Omega.{arith}
-use borrow.Author.Rules.{rules}
 use lib.ListN.{length, replicate, length-replicate}
-use Rattle.handler.specs.Header.{head_of}
-use Rattle.derivation.specs.Tables.{work_words, written}
-use Rattle.pair.specs.Reading.{PairRead, pair, read_pair, pair_file}
+use Rattle.derivation.specs.Tables.{work_words}
+use Rattle.pair.specs.Reading.{read_pair, pair_file}
 use Rattle.pair.specs.Modes.{work_read}
-use Rattle.pair.proofs.Found.{FoundPair, found_long, found_fault, found_pair}
-use Rattle.checker.specs.Verdicts.{on_pair}
+use Rattle.pair.proofs.Found.{found_long, found_fault, found_pair}
 use Rattle.checker.specs.Refinement.{Loaded}
 use Rattle.checker.proofs.Judging.{few_words, as_read, writes}
 use Rattle.checker.proofs.Promised.{promised}

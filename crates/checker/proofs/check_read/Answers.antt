@@ -1,7 +1,5 @@
 -- What the loop finds decides the verdict; then by cases of the verdict.
-use mathlib.Core.List.{List}
 use mathlib.Core.Path.{◌≡◌, sym, ◌∙◌, ap}
-use borrow.Author.Rules.{rules}
 use Rattle.derivation.specs.Tables.{written}
 use Rattle.derivation.proofs.Buffers.{written_again}
 use Rattle.pair.specs.Reading.{pair}

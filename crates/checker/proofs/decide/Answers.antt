@@ -1,5 +1,4 @@
 -- Each result of the loop is a case of `decided`, and the limit says which of the last two holds.
-use borrow.Author.Rules.{rules}
 use borrow.Author.Tests.{lt-ltb, le-ltb}
 use Rattle.checker.proofs.decide.Goals as goal
 

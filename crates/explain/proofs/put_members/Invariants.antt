@@ -1,5 +1,5 @@
 -- The buffer keeps its length.
-use Rattle.std.proofs.Common.{◌≡◌, ◌-◌, ◌≤◌, length, rules}
+use Rattle.std.proofs.Common.{◌≡◌, ◌-◌, ◌≤◌, length}
 use Rattle.explain.proofs.put_members.Given as goal
 
 abbrev pub invariant-loop-s : goal.invariant-loop-s

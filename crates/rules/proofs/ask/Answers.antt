@@ -1,5 +1,4 @@
 -- By cases: what was found before, and whether the condition holds.
-use borrow.Author.Rules.{rules}
 use Rattle.rules.specs.Asking.{asked}
 use Rattle.rules.proofs.ask.Goals as goal
 

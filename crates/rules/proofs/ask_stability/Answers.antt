@@ -1,6 +1,5 @@
 -- 31 to 33, one after the other.
 use mathlib.Core.Path.{refl}
-use borrow.Author.Rules.{rules}
 use Rattle.rules.proofs.Asking.{asked_then}
 use Rattle.rules.proofs.ask_stability.Goals as goal
 

@@ -1,6 +1,5 @@
 -- 30, and then 31 to 33.
 use mathlib.Core.Path.{refl, sym}
-use borrow.Author.Rules.{rules}
 use Rattle.states.proofs.Search.{holds_must}
 use Rattle.rules.proofs.Asking.{asked_then}
 use Rattle.rules.proofs.common.Goals as goal

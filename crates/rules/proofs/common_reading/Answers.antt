@@ -1,6 +1,5 @@
 -- 30, then the condition on what is read, then 31 to 33; the code's n is the machine's.
 use mathlib.Core.Path.{◌∙◌, refl, sym}
-use borrow.Author.Rules.{rules}
 use Rattle.states.proofs.Search.{holds_must}
 use Rattle.handler.specs.Terms.{expr_in}
 use Rattle.rules.proofs.Asking.{asked_then}

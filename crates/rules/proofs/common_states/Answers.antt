@@ -1,7 +1,6 @@
 -- By cases on the number: a search of the code is the condition's.
 use native.Mathlib.Omega.{arith}
 use mathlib.Core.Path.{sym, ap, refl}
-use borrow.Author.Rules.{rules}
 use borrow.Author.Tests.{ne_eqb}
 use Rattle.states.specs.Search.{given}
 use Rattle.semantics.specs.Conditions.{c31, c32, c33}
@@ -14,7 +13,6 @@ use Rattle.rules.proofs.common_states.Goals as goal
 pub returns-in_default : goal.returns-in_default
 unfolding naming
 returns-in_default c fits =
-   
     sym (ap naming (silent _ _ (plain fits refl (other (ne_eqb _ 31 (omega arith)) (other (ne_eqb _ 32 (omega arith)) (other (ne_eqb _ 33 (omega arith)) done))))))
 
 pub returns-in-31 : goal.returns-in-31

@@ -1,6 +1,5 @@
 -- The states of the first broken condition are those that its number gives.
 use mathlib.Core.Path.{sym, ◌∙◌}
-use borrow.Author.Rules.{rules}
 use Rattle.rules.specs.Obligations.{obligations_in}
 use Rattle.rules.proofs.Asking.{no_fault, one_fault}
 use Rattle.rules.proofs.node_fault.Goals as goal

@@ -1,6 +1,5 @@
 -- By cases on the rule's code; the code's n is the machine's.
 use native.Mathlib.Omega.{arith}
-use borrow.Author.Rules.{rules}
 use borrow.Author.Tests.{ne_eqb}
 use Rattle.rules.specs.Obligations.{obligations_in}
 use Rattle.rules.proofs.node_verdict.Goals as goal

@@ -1,7 +1,5 @@
 -- The places of the code are those of the table of facts, and past it there is none.
 use mathlib.Core.Path.{sym, ap}
-use native.Mathlib.Omega.{arith}
-use borrow.Author.Rules.{rules}
 use lib.ListN.{get_or-map, get_or-eq_default}
 use Rattle.semantics.specs.Facts.{Fact, no_place, facts}
 use Rattle.semantics.proofs.place_of.Goals as goal

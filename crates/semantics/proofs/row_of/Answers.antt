@@ -1,7 +1,6 @@
 -- `semantics::row_of` meets its contract: the test on the code says which case of `row_of` holds. `refl` is written out so that a
 -- refusal shows where the two sides differ.
 use mathlib.Core.Path.{refl}
-use borrow.Author.Rules.{rules}
 use borrow.Author.Tests.{lt-ltb, le-ltb}
 use Rattle.semantics.proofs.row_of.Goals as goal
 

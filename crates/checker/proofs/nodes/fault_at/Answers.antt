@@ -1,7 +1,6 @@
 -- The records in the tables at i, at the next node and at the one that node i names.
 use mathlib.Core.Path.{◌∙◌, ap}
 use native.Mathlib.Numerals.{add-one}
-use borrow.Author.Rules.{rules}
 use Rattle.derivation.specs.NodeTable.{node_in}
 use Rattle.semantics.specs.Checking.{first_broken}
 use Rattle.rules.specs.Asking.{fault_of}

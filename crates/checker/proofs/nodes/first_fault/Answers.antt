@@ -1,9 +1,8 @@
 -- The first fault of all nodes is that of the nodes from i on. `goes_on` passes over a node whose conditions hold.
-use Prim.Native.Nat.{◌-◌, ◌≤◌}
+use Prim.Native.Nat.{◌-◌}
 use native.Mathlib.Omega.{arith}
 use native.Mathlib.Nat.{le_trans}
 use mathlib.Core.Path.{◌≡◌, sym, ◌∙◌, ap}
-use borrow.Author.Rules.{rules}
 use Rattle.checker.specs.Nodes.{faults_from, fault_found}
 use Rattle.checker.proofs.Rounds.{goes_on, ends_at, no_more, after_least}
 use Rattle.checker.proofs.nodes.first_fault.Goals as goal

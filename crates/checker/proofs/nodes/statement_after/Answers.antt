@@ -1,6 +1,5 @@
 -- By cases: a weaken or another rule.
 use native.Mathlib.Numerals.{add-one}
-use borrow.Author.Rules.{rules}
 use borrow.Author.Tests.{eq-eqb, ne_eqb}
 use Rattle.checker.specs.Nodes.{statement_after}
 use Rattle.checker.proofs.nodes.statement_after.Goals as goal

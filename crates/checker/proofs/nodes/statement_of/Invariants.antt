@@ -1,12 +1,7 @@
 -- After i rounds s is the statement at hand for node i, and no more than i.
 use Prim.Native.Nat.{◌-◌, ◌≤◌}
-use mathlib.Core.Path.{◌≡◌, refl, ◌∙◌, ap}
-use native.Mathlib.Nat.{le_trans}
-use native.Mathlib.Numerals.{add-one}
-use native.Mathlib.Omega.{arith}
-use borrow.Author.Rules.{rules}
+use mathlib.Core.Path.{◌≡◌}
 use Rattle.checker.specs.Nodes.{statement_at}
-use Rattle.checker.proofs.Rounds.{after_least}
 use Rattle.checker.proofs.nodes.statement_of.Given as goal
 
 abbrev pub invariant-loop-i : goal.invariant-loop-i

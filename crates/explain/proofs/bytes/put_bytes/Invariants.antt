@@ -1,5 +1,5 @@
 -- The buffer keeps its length.
-use Rattle.std.proofs.Common.{◌≡◌, ◌-◌, ◌≤◌, length, rules}
+use Rattle.std.proofs.Common.{◌≡◌, ◌-◌, ◌≤◌, length}
 use Rattle.explain.proofs.bytes.put_bytes.Given as goal
 
 abbrev pub invariant-loop-k : goal.invariant-loop-k

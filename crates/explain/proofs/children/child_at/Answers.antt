@@ -1,5 +1,5 @@
 -- By the rule of the node; a sequence and a parallel by whether what they ask of their left child holds.
-use Rattle.std.proofs.Common.{sym, ◌∙◌, rules, eq-eqb, ne_eqb}
+use Rattle.std.proofs.Common.{sym, ◌∙◌, eq-eqb, ne_eqb}
 use Rattle.explain.specs.Children.{side_by, child_at}
 use Rattle.explain.proofs.children.child_at.Goals as goal
 

@@ -1,5 +1,5 @@
 -- The node and its children are those of the table.
-use Rattle.std.proofs.Common.{sym, ap, ◌∙◌, add-one, rules}
+use Rattle.std.proofs.Common.{sym, ap, ◌∙◌, add-one}
 use Rattle.derivation.specs.NodeTable.{node_in}
 use Rattle.explain.specs.Children.{child_at, child_of}
 use Rattle.explain.proofs.children.child_of.Goals as goal

@@ -1,6 +1,6 @@
 -- Each comparison is the one that the condition names.
 use mathlib.Core.Bool.{and-true}
-use Rattle.std.proofs.Common.{sym, ◌∙◌, rules}
+use Rattle.std.proofs.Common.{sym, ◌∙◌}
 use Rattle.states.proofs.Search.{holds_must}
 use Rattle.semantics.specs.Conditions.{c36, c37}
 use Rattle.explain.specs.Children.{left_of_sequence}

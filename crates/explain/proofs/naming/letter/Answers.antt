@@ -1,5 +1,5 @@
 -- By the order of the state, and then by the number.
-use Rattle.std.proofs.Common.{rules, eq-eqb, ne_eqb}
+use Rattle.std.proofs.Common.{eq-eqb, ne_eqb}
 use Rattle.explain.specs.Naming.{letter_of}
 use Rattle.explain.proofs.naming.letter.Goals as goal
 

@@ -1,5 +1,5 @@
 -- The weight and the size of a variable are not 0 (`variable_small`); where the numbers make no head, both are 1.
-use Rattle.std.proofs.Common.{◌≡◌, ℕ, ◌/◌, Bool, true, false, refl, ap, ◌∙◌, rules}
+use Rattle.std.proofs.Common.{◌≡◌, ℕ, ◌/◌, Bool, true, false, refl, ap, ◌∙◌}
 use native.Mathlib.Nat.{mod-one}
 use Rattle.handler.specs.declared.head.Head.{Head}
 use Rattle.handler.specs.Header.{is_head}

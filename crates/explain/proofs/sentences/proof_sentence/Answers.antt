@@ -1,6 +1,6 @@
 -- Each arm puts the sentence of its number; the last one passes the number on.
 use native.Mathlib.Omega.{arith}
-use Rattle.std.proofs.Common.{rules, ne_eqb}
+use Rattle.std.proofs.Common.{ne_eqb}
 use Rattle.explain.specs.Sentences.{proof_on}
 use Rattle.explain.proofs.sentences.proof_sentence.Goals as goal
 

@@ -1,6 +1,6 @@
 -- Each arm puts the sentence of its number; the last one, of a number that is in no list, puts no bytes.
 use native.Mathlib.Omega.{arith}
-use Rattle.std.proofs.Common.{rules, ne_eqb}
+use Rattle.std.proofs.Common.{ne_eqb}
 use Rattle.explain.specs.Sentences.{weakens_on}
 use Rattle.explain.proofs.sentences.weaken_sentence.Goals as goal
 

@@ -1,7 +1,6 @@
 -- After k rounds the first k bytes of the text are in the buffer (`paste`).
-use Rattle.std.proofs.Common.{◌≡◌, ◌-◌, ◌≤◌, min, length, refl, add-one, arith, length-set, rules}
-use lib.Seq.{paste, paste-zero, paste-suc}
-use Rattle.explain.specs.Text.{fitting, text_in, text_end}
+use Rattle.std.proofs.Common.{◌≡◌, ◌-◌, ◌≤◌, min, length}
+use lib.Seq.{paste}
 use Rattle.explain.proofs.text.put.Given as goal
 
 abbrev pub invariant-loop-k : goal.invariant-loop-k

@@ -1,6 +1,5 @@
 -- 30, 41, 31 to 33, then 42 and 43; the code's n is the machine's, and the rows say where a store leads.
 use mathlib.Core.Path.{◌∙◌, ap}
-use borrow.Author.Rules.{rules}
 use Rattle.states.specs.Search.{holds}
 use Rattle.semantics.specs.Conditions.{c41}
 use Rattle.handler.specs.Header.{machine_in}

@@ -1,7 +1,6 @@
 -- By cases on the number; the code's n is the machine's, and the rows say where a store leads.
 use native.Mathlib.Omega.{arith}
 use mathlib.Core.Path.{◌∙◌, sym, ap, refl}
-use borrow.Author.Rules.{rules}
 use lib.Dec.{eqb}
 use borrow.Author.Tests.{ne_eqb}
 use Rattle.states.specs.Search.{given}
@@ -19,7 +18,6 @@ use Rattle.rules.proofs.assignment.assignment_states.Goals as goal
 pub returns-in_default : goal.returns-in_default
 unfolding c41
 returns-in_default c fits =
-   
     rw c.states_in-n.ensures at (c.common_states.ensures fits)
     ∙ sym (ap naming (reading_silent _ _ 41 _ _ _ _ (other refl (other refl (other refl done))) (other (ne_eqb _ 42 (omega arith)) (other (ne_eqb _ 43 (omega arith)) done))))
 

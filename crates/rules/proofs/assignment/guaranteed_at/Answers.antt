@@ -1,7 +1,6 @@
 -- The end of the store is s or lies in row s of G.
 use mathlib.Core.Path.{◌∙◌, ap₂}
 use mathlib.Core.Bool.{◌||◌}
-use borrow.Author.Rules.{rules}
 use Rattle.states.specs.Sets.{capacity}
 use Rattle.states.specs.Search.{implies}
 use Rattle.states.proofs.Search.{all_cong}

@@ -1,19 +1,15 @@
 -- The loop keeps whether 43 holds at the states taken out of P; those left are still to be checked. `passed_more` checks the least.
 use Prim.Native.Nat.{ℕ}
-use mathlib.Core.Path.{◌∙◌, sym}
 use mathlib.Core.Bool.{◌||◌}
 use mathlib.Core.List.{List}
 use lib.Dec.{eqb}
-use borrow.Author.Rules.{rules}
 use Rattle.states.specs.Search.{Search, must, holds}
 use Rattle.states.specs.Sets.{capacity, has}
 use Rattle.states.specs.Relations.{rel}
 use Rattle.states.proofs.Reach.{count}
-use Rattle.states.proofs.Members.{Passed, passed_none, passed_more, LeastTaken, take_least, none_left}
+use Rattle.states.proofs.Members.{Passed}
 use Rattle.semantics.specs.Conditions.{in_set}
 use Rattle.rules.specs.Words.{word_relation}
-use Rattle.rules.proofs.Searches.{passed_search}
-use Rattle.rules.proofs.Words.{set_small}
 use Rattle.rules.proofs.assignment.store_in_guarantee.Given as goal
 
 abbrev pub guaranteed : ℕ → List ℕ → ℕ → List ℕ → ℕ → Search

@@ -1,6 +1,5 @@
 -- The pairs of the rows that start in P are in Q.
 use mathlib.Core.Path.{◌∙◌}
-use borrow.Author.Rules.{rules}
 use Rattle.rules.specs.Words.{word_relation}
 use Rattle.rules.proofs.Rows.{pairs_within}
 use Rattle.rules.proofs.assignment.store_in_post.Goals as goal

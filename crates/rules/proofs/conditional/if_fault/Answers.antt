@@ -1,6 +1,5 @@
 -- 30, 45, 31 to 33, then the child's tables and 46; the code's n is the machine's, and the sets are the states where the test is true and false.
 use mathlib.Core.Path.{◌∙◌, ap, fun_ext}
-use borrow.Author.Rules.{rules}
 use Rattle.states.specs.Search.{holds}
 use Rattle.semantics.specs.Conditions.{c45, c46}
 use Rattle.rules.specs.Words.{word_spec}

@@ -1,7 +1,6 @@
 -- The pairs (s,s) of the states of P where the test is false are in Q.
 use mathlib.Core.Path.{◌∙◌, ap, fun_ext}
 use mathlib.Core.Bool.{◌&&◌}
-use borrow.Author.Rules.{rules}
 use Rattle.states.specs.Search.{must, holds}
 use Rattle.states.specs.Sets.{has}
 use Rattle.semantics.specs.Conditions.{in_set, c46}

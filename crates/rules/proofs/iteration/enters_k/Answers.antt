@@ -1,6 +1,5 @@
 -- P met with the states where the test is true lies in K, and this is the same over all states that a set can hold as over the n.
 use mathlib.Core.Path.{◌∙◌, ap}
-use borrow.Author.Rules.{rules}
 use Rattle.states.specs.Search.{holds}
 use Rattle.states.specs.Sets.{has}
 use Rattle.states.proofs.Search.{and_left}

@@ -1,15 +1,11 @@
 -- The loop keeps whether 56 holds at the states taken out of P; those left are still to be checked. `passed_more` checks the least.
-use Prim.Native.Nat.{ℕ}
 use mathlib.Core.Path.{◌∙◌, sym, ap, fun_ext}
-use mathlib.Core.Bool.{Bool, ◌&&◌, ◌||◌}
-use mathlib.Core.List.{List}
+use mathlib.Core.Bool.{◌||◌}
 use lib.Dec.{eqb}
-use borrow.Author.Rules.{rules}
-use Rattle.states.specs.Search.{Search, must, holds}
-use Rattle.states.specs.Sets.{capacity, has}
+use Rattle.states.specs.Search.{holds}
+use Rattle.states.specs.Sets.{has}
 use Rattle.states.proofs.Search.{and_left, and_right}
-use Rattle.states.proofs.Reach.{count}
-use Rattle.states.proofs.Members.{Passed, passed_none, passed_more, LeastTaken, take_least, none_left}
+use Rattle.states.proofs.Members.{passed_none, passed_more, LeastTaken, take_least, none_left}
 use Rattle.semantics.specs.Conditions.{in_set, c56}
 use Rattle.rules.specs.Words.{word_set, word_relation}
 use Rattle.rules.proofs.Searches.{StatesOnly, small_within, passed_search}

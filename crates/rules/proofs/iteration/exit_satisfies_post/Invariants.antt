@@ -1,19 +1,14 @@
 -- The loop keeps whether 56 holds at the states taken out of P; those left are still to be checked. `passed_more` checks the least.
 use Prim.Native.Nat.{ℕ}
-use mathlib.Core.Path.{◌∙◌, sym, ap, fun_ext}
 use mathlib.Core.Bool.{Bool, ◌&&◌, ◌||◌}
 use mathlib.Core.List.{List}
 use lib.Dec.{eqb}
-use borrow.Author.Rules.{rules}
 use Rattle.states.specs.Search.{Search, must, holds}
 use Rattle.states.specs.Sets.{capacity, has}
-use Rattle.states.proofs.Search.{and_left, and_right}
 use Rattle.states.proofs.Reach.{count}
-use Rattle.states.proofs.Members.{Passed, passed_none, passed_more, LeastTaken, take_least, none_left}
-use Rattle.semantics.specs.Conditions.{in_set, c56}
-use Rattle.rules.specs.Words.{word_set, word_relation}
-use Rattle.rules.proofs.Searches.{StatesOnly, small_within, passed_search}
-use Rattle.rules.proofs.Words.{set_small}
+use Rattle.states.proofs.Members.{Passed}
+use Rattle.semantics.specs.Conditions.{in_set}
+use Rattle.rules.specs.Words.{word_relation}
 use Rattle.rules.proofs.iteration.exit_satisfies_post.Given as goal
 
 abbrev pub exits : ℕ → List ℕ → ℕ → ℕ → (ℕ → Bool) → (ℕ → Bool) → ℕ → Search

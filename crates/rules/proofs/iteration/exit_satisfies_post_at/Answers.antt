@@ -1,7 +1,6 @@
 -- s and the ends of W from s, met with p and the states where the test is false, lie in row s of Q.
 use mathlib.Core.Path.{◌∙◌, ap, ap₂}
 use mathlib.Core.Bool.{◌&&◌, ◌||◌}
-use borrow.Author.Rules.{rules}
 use Rattle.states.specs.Search.{implies}
 use Rattle.states.specs.Sets.{capacity, has}
 use Rattle.states.proofs.Search.{all_cong}

@@ -1,7 +1,6 @@
 -- A row, joined with s alone, met with the set.
 use mathlib.Core.Path.{◌∙◌, ap}
 use mathlib.Core.Bool.{◌&&◌}
-use borrow.Author.Rules.{rules}
 use borrow.Author.Tests.{lt-ltb}
 use Rattle.states.specs.Sets.{capacity, has}
 use Rattle.rules.proofs.iteration.exits.Goals as goal

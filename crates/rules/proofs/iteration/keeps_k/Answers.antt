@@ -1,7 +1,6 @@
 -- R leads from P met with K into K.
 use mathlib.Core.Path.{◌∙◌, ap, ap₂}
 use mathlib.Core.Bool.{◌&&◌}
-use borrow.Author.Rules.{rules}
 use Rattle.states.specs.Search.{holds}
 use Rattle.semantics.specs.Conditions.{c53}
 use Rattle.rules.proofs.Searches.{in_set_and}

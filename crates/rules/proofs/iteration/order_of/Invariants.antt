@@ -1,16 +1,11 @@
 -- The loop keeps whether each search finds nothing below s. `holds_next` adds the next state to each.
 use Prim.Native.Nat.{ℕ, ◌≤◌, ◌-◌}
-use native.Mathlib.Omega.{arith}
-use mathlib.Core.Path.{◌≡◌, ◌∙◌, sym, ap, ap₂}
-use mathlib.Core.Bool.{not, ◌&&◌}
+use mathlib.Core.Path.{◌≡◌}
+use mathlib.Core.Bool.{not}
 use mathlib.Core.List.{List}
-use borrow.Author.Rules.{rules}
 use Rattle.states.specs.Search.{Search, must, each, holds}
-use Rattle.states.proofs.Search.{holds_must}
-use Rattle.semantics.specs.Conditions.{in_set, c51, c57}
+use Rattle.semantics.specs.Conditions.{in_set}
 use Rattle.rules.specs.Words.{word_relation}
-use Rattle.rules.proofs.Searches.{none_held, holds_next, each_done}
-use Rattle.rules.proofs.Words.{leads_cong}
 use Rattle.rules.proofs.iteration.order_of.Given as goal
 
 -- The two searches at a state.

@@ -1,14 +1,11 @@
 -- The loop keeps whether 55 holds at the states below s. `holds_next` adds the next.
 use Prim.Native.Nat.{◌≤◌, ◌-◌}
-use native.Mathlib.Omega.{arith}
-use mathlib.Core.Path.{◌≡◌, ◌∙◌, ap₂}
-use mathlib.Core.Bool.{◌&&◌, ◌||◌}
-use borrow.Author.Rules.{rules}
+use mathlib.Core.Path.{◌≡◌}
+use mathlib.Core.Bool.{◌||◌}
 use lib.Dec.{eqb}
 use Rattle.states.specs.Search.{must, given, each, holds}
-use Rattle.semantics.specs.Conditions.{in_set, c55}
+use Rattle.semantics.specs.Conditions.{in_set}
 use Rattle.rules.specs.Words.{word_set, word_relation}
-use Rattle.rules.proofs.Searches.{none_held, holds_next, each_done}
 use Rattle.rules.proofs.iteration.rely_descends.Given as goal
 
 abbrev pub invariant-loop-s : goal.invariant-loop-s

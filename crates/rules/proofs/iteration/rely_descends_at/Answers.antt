@@ -3,7 +3,6 @@ use mathlib.Core.Path.{◌∙◌, sym, ap, ap₂}
 use mathlib.Core.Bool.{◌&&◌, ◌||◌}
 use lib.Dec.{eqb}
 use borrow.Author.Tests.{lt-ltb}
-use borrow.Author.Rules.{rules}
 use Rattle.states.specs.Sets.{capacity}
 use Rattle.states.specs.Search.{implies}
 use Rattle.states.proofs.Search.{all_cong}

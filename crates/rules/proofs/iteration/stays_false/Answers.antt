@@ -1,7 +1,6 @@
 -- R leads from the states of P where the test is false to states where it is false.
 use mathlib.Core.Path.{◌∙◌, ap, refl}
 use mathlib.Core.Bool.{◌&&◌}
-use borrow.Author.Rules.{rules}
 use Rattle.states.specs.Search.{holds}
 use Rattle.states.specs.Sets.{has}
 use Rattle.semantics.specs.Conditions.{c54}

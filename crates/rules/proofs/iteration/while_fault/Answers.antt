@@ -1,7 +1,6 @@
 -- 30 to 33, then the child's tables and 50 to 57; the code's n is the machine's, and the sets are the states where the test is true and
 -- false.
 use mathlib.Core.Path.{◌∙◌, fun_ext}
-use borrow.Author.Rules.{rules}
 use Rattle.handler.specs.Terms.{expr_in}
 use Rattle.rules.proofs.Asking.{asked_then}
 use Rattle.rules.proofs.Movement.{read_once_50}

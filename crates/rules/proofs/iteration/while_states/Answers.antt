@@ -4,7 +4,6 @@ use Prim.Native.Nat.{ℕ}
 use mathlib.Core.Path.{◌≡◌, ◌∙◌, sym, ap, ap₂, refl}
 use mathlib.Core.Bool.{◌&&◌}
 use lib.Dec.{eqb}
-use borrow.Author.Rules.{rules}
 use borrow.Author.Tests.{ne_eqb}
 use Rattle.states.specs.Search.{given}
 use Rattle.semantics.specs.Conditions.{is_true, is_false, c34, c36, c37, c38, c50, c51, c52, c53, c54, c55, c56, c57}
@@ -20,7 +19,6 @@ use Rattle.rules.proofs.iteration.while_states.Goals as goal
 pub returns-in_default : goal.returns-in_default
 unfolding c34 c36 c37 c38 c50
 returns-in_default c fits child =
-   
     rw c.states_in-n.ensures at (c.common_states.ensures fits)
     ∙ sym (ap naming (before_silent _ _ _ (plain _ refl (plain _ refl (plain _ refl (plain _ refl (plain _ refl
     (other (ne_eqb _ 51 (omega arith)) (other (ne_eqb _ 57 (omega arith)) (other (ne_eqb _ 52 (omega arith)) (other (ne_eqb _ 53 (omega arith))

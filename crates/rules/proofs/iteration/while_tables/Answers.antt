@@ -2,7 +2,6 @@
 use Prim.Native.Nat.{ℕ}
 use mathlib.Core.Path.{◌∙◌, sym, ap₂, refl}
 use mathlib.Core.Bool.{◌&&◌}
-use borrow.Author.Rules.{rules}
 use Rattle.states.proofs.Search.{holds_must}
 use Rattle.semantics.specs.Conditions.{c34, c36, c37, c38}
 use Rattle.rules.proofs.Asking.{asked_then}

@@ -1,22 +1,20 @@
 -- After the variables below v, the mask has those of them that R moves. `any_more` adds the next.
-use Prim.Native.Nat.{ℕ, ◌≤◌, ◌<◌, ◌-◌}
+use Prim.Native.Nat.{ℕ, ◌<◌}
 use native.Mathlib.Omega.{arith}
 use mathlib.Core.Path.{◌≡◌, ◌∙◌, sym, ap, ap₂}
 use mathlib.Core.Bool.{not, ◌&&◌, ◌||◌}
 use lib.Dec.{eqb}
-use borrow.Author.Rules.{rules}
 use Rattle.states.specs.Search.{any}
 use Rattle.states.proofs.Search.{any_none, any_more, any_done}
 use Rattle.states.specs.Sets.{has}
 use Rattle.states.proofs.Members.{none_in}
 use Rattle.handler.specs.Header.{machine_in}
-use Rattle.evaluation.specs.Values.{in_mask, agree}
+use Rattle.evaluation.specs.Values.{agree}
 use Rattle.handler.proofs.Heads.{known_head}
 use Rattle.evaluation.proofs.Laws.{state_head}
 use Rattle.rules.specs.Words.{word_relation}
 use Rattle.rules.proofs.Movement.{moved_from, mask_moves, mask_none, moves_none, none_start, starts_moved}
 use Rattle.rules.proofs.moving.moved.Goals.{After-meet-from}
-use Rattle.std.proofs.lemmas.Bool.{not_from_false, not_from_true}
 use Rattle.rules.proofs.moving.moved.Goals as goal
 
 -- It is enough to look at the states of P that start a pair.
@@ -55,11 +53,11 @@ with_variable-mask-requires c = let k = c in
 
 pub loop-v-preserved : goal.loop-v-preserved
 loop-v-preserved c = let l = c.loop-v in (
-      omega arith,
-      λ u. c.with_variable-mask.ensures u
-          ∙ ap₂ ◌||◌ (l.invariant.1 u) (ap (λ b. b && eqb l.v u) (c.moves_variable.ensures ∙ enough (goal.at.loop-v-preserved c).After-meet-from l.v))
-          ∙ sym (any_more _ _),
-    )
+  omega arith,
+  λ u. c.with_variable-mask.ensures u
+      ∙ ap₂ ◌||◌ (l.invariant.1 u) (ap (λ b. b && eqb l.v u) (c.moves_variable.ensures ∙ enough (goal.at.loop-v-preserved c).After-meet-from l.v))
+      ∙ sym (any_more _ _),
+)
 
 pub returns : goal.returns
 returns c v = let d = c in

@@ -3,17 +3,14 @@
 use Prim.Native.Nat.{ℕ}
 use mathlib.Core.Path.{◌≡◌, ◌∙◌, sym, ap, ap₂, refl}
 use mathlib.Core.Bool.{Bool, true, false, not, ◌&&◌, ◌||◌, and-false}
-use mathlib.Core.List.{List}
 use lib.Dec.{ltb, eqb}
-use borrow.Author.Rules.{rules}
 use borrow.Author.Tests.{lt-ltb, eq-eqb}
 use Rattle.states.specs.Search.{implies, all, any}
 use Rattle.states.specs.Sets.{capacity, has}
 use Rattle.states.proofs.Search.{and_left, and_both, or_right, any_cong}
-use Rattle.states.proofs.Reach.{count, count_more}
-use Rattle.states.proofs.Members.{least_of, none_left, start_below, start_same, Passed, passed_none, passed_part, passed_all}
+use Rattle.states.proofs.Reach.{count_more}
+use Rattle.states.proofs.Members.{least_of, none_left, start_below, start_same, passed_none, passed_part, passed_all}
 use Rattle.handler.specs.Header.{machine_in}
-use Rattle.evaluation.specs.declared.Variable.{Variable}
 use Rattle.evaluation.specs.Values.{agree, agree_in}
 use Rattle.evaluation.proofs.Laws.{agree_variable}
 use Rattle.rules.specs.Words.{word_relation}

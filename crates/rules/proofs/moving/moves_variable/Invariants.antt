@@ -1,24 +1,15 @@
 -- From the states taken out of the set, r leads to states that agree; those left are still to be checked. `passed_part` checks all that
 -- agree with the least, and `passed_not` ends the loop if the check fails.
 use Prim.Native.Nat.{ℕ}
-use mathlib.Core.Path.{◌≡◌, ◌∙◌, sym, ap, ap₂, refl}
-use mathlib.Core.Bool.{Bool, true, false, not, ◌&&◌, ◌||◌, and-false}
+use mathlib.Core.Bool.{Bool, true}
 use mathlib.Core.List.{List}
-use lib.Dec.{ltb, eqb}
-use borrow.Author.Rules.{rules}
-use borrow.Author.Tests.{lt-ltb, eq-eqb}
-use Rattle.states.specs.Search.{implies, all, any}
+use Rattle.states.specs.Search.{implies, all}
 use Rattle.states.specs.Sets.{capacity, has}
-use Rattle.states.proofs.Search.{and_left, and_both, or_right, any_cong}
-use Rattle.states.proofs.Reach.{count, count_more}
-use Rattle.states.proofs.Members.{least_of, none_left, start_below, start_same, Passed, passed_none, passed_part, passed_all}
-use Rattle.handler.specs.Header.{machine_in}
+use Rattle.states.proofs.Reach.{count}
+use Rattle.states.proofs.Members.{Passed}
 use Rattle.evaluation.specs.declared.Variable.{Variable}
-use Rattle.evaluation.specs.Values.{agree, agree_in}
-use Rattle.evaluation.proofs.Laws.{agree_variable}
+use Rattle.evaluation.specs.Values.{agree_in}
 use Rattle.rules.specs.Words.{word_relation}
-use Rattle.rules.proofs.Words.{leads_cong}
-use Rattle.rules.proofs.Movement.{alike, alike_within, not_kept, passed_not}
 use Rattle.rules.proofs.moving.moves_variable.Given as goal
 
 -- r leads from s to states that agree with it.

@@ -1,7 +1,6 @@
 -- The count is the definition's.
 use mathlib.Core.Path.{ap}
 use lib.Dec.{leb}
-use borrow.Author.Rules.{rules}
 use Rattle.rules.proofs.moving.read_once.Goals as goal
 
 pub returns : goal.returns

@@ -1,7 +1,6 @@
 -- The count is the definition's.
 use mathlib.Core.Path.{ap}
 use lib.Dec.{eqb}
-use borrow.Author.Rules.{rules}
 use Rattle.rules.proofs.moving.unmoved.Goals as goal
 
 pub returns : goal.returns

@@ -6,7 +6,6 @@ use mathlib.Core.Path.{◌≡◌, ◌∙◌, sym, ap}
 use mathlib.Core.Bool.{◌&&◌, ◌||◌, or-false}
 use lib.Dec.{eqb}
 use lib.Pow.{shl_exact}
-use borrow.Author.Rules.{rules}
 use Rattle.states.proofs.Bits.{or_bits, bit_power}
 use Rattle.evaluation.specs.Values.{in_mask}
 use Rattle.rules.proofs.moving.with_variable.Goals as goal

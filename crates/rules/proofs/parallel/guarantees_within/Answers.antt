@@ -1,7 +1,6 @@
 -- Both inclusions hold.
 use mathlib.Core.Path.{◌∙◌, sym, ap₂}
 use mathlib.Core.Bool.{◌&&◌}
-use borrow.Author.Rules.{rules}
 use Rattle.states.proofs.Search.{holds_must}
 use Rattle.semantics.specs.Conditions.{c65}
 use Rattle.rules.proofs.parallel.guarantees_within.Goals as goal

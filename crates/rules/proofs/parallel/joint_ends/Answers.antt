@@ -1,16 +1,10 @@
 -- The loop has filled the rows below s.
-use Prim.Native.Nat.{◌-◌}
 use native.Mathlib.Omega.{arith}
-use mathlib.Core.Bool.{◌&&◌}
-use borrow.Author.Rules.{rules}
-use Rattle.states.specs.Sets.{capacity}
-use Rattle.states.specs.Relations.{rel, reach}
 use Rattle.states.proofs.Search.{and_left}
 use Rattle.states.proofs.Rows.{rel_between}
-use Rattle.states.proofs.EntryLaws.{RowsFilled, rows_none, rows_more}
+use Rattle.states.proofs.EntryLaws.{rows_none, rows_more}
 use Rattle.rules.specs.Words.{word_relation}
 use Rattle.search.proofs.Breaches.{rel_pairs}
-use Rattle.std.proofs.lemmas.Bool.{not_from_false, not_from_true}
 use Rattle.rules.proofs.parallel.joint_ends.Goals as goal
 
 pub loop-s-init : goal.loop-s-init

@@ -1,7 +1,6 @@
 -- The two rows, met with the reach.
 use mathlib.Core.Path.{◌∙◌, ap₂}
 use mathlib.Core.Bool.{◌&&◌}
-use borrow.Author.Rules.{rules}
 use Rattle.rules.proofs.Words.{reached_set}
 use Rattle.rules.proofs.parallel.joint_ends_at.Goals as goal
 

@@ -2,7 +2,6 @@
 use Prim.Native.Nat.{ℕ}
 use mathlib.Core.Path.{◌≡◌, ◌∙◌, sym, ap, ap₂}
 use mathlib.Core.Bool.{Bool, true, ◌&&◌}
-use borrow.Author.Rules.{rules}
 use Rattle.states.specs.Search.{implies, all, must, given, holds}
 use Rattle.states.specs.Sets.{capacity, has}
 use Rattle.states.proofs.Search.{and_left, all_cong}

@@ -1,5 +1,4 @@
 -- 30 to 33, then the children's tables, 65 and 66.
-use borrow.Author.Rules.{rules}
 use Rattle.rules.proofs.Asking.{asked_then}
 use Rattle.rules.proofs.parallel.parallel_fault.Goals as goal
 

@@ -1,20 +1,14 @@
 -- The loop keeps whether 66 holds at the states below s. `holds_next` adds the next, whose reach by the rows is the whole reach.
 use Prim.Native.Nat.{ℕ, ◌≤◌, ◌-◌}
-use native.Mathlib.Omega.{arith}
-use mathlib.Core.Path.{◌≡◌, ◌∙◌, ap, ap₂, fun_ext}
+use mathlib.Core.Path.{◌≡◌}
 use mathlib.Core.Bool.{Bool, ◌&&◌}
 use mathlib.Core.List.{List}
-use lib.Dec.{ltb}
-use borrow.Author.Rules.{rules}
-use Rattle.states.specs.Sets.{capacity}
 use Rattle.states.specs.Search.{Search, must, given, each, holds}
-use Rattle.states.specs.Relations.{rel, reach}
-use Rattle.semantics.specs.Conditions.{in_set, c66}
+use Rattle.states.specs.Relations.{reach}
+use Rattle.semantics.specs.Conditions.{in_set}
 use Rattle.semantics.specs.declared.Names.{Names}
 use Rattle.rules.specs.Words.{word_set, word_relation}
-use Rattle.rules.proofs.Searches.{none_held, holds_next, each_done}
-use Rattle.search.proofs.Breaches.{given_cong}
-use Rattle.rules.proofs.Words.{set_small, anyone, anyone_reach}
+use Rattle.rules.proofs.Words.{anyone}
 use Rattle.rules.proofs.parallel.parallel_post.Given as goal
 
 -- The condition at a state, with the reach by given changes; and the changes that 66 names.

@@ -1,7 +1,6 @@
 -- By cases on the number; the reach by the rows is the whole reach.
 use mathlib.Core.Path.{◌∙◌, sym, ap, refl}
 use mathlib.Core.Bool.{◌&&◌}
-use borrow.Author.Rules.{rules}
 use borrow.Author.Tests.{ne_eqb}
 use Rattle.states.specs.Search.{given}
 use Rattle.states.specs.Relations.{reach}

@@ -1,6 +1,5 @@
 -- Each comparison is the one that the condition names.
 use mathlib.Core.Path.{◌∙◌, sym, refl}
-use borrow.Author.Rules.{rules}
 use Rattle.states.proofs.Search.{holds_must}
 use Rattle.semantics.specs.Conditions.{c36}
 use Rattle.rules.proofs.Asking.{asked_then}

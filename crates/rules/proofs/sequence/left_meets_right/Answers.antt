@@ -1,6 +1,5 @@
 -- Left Q leads from P into right P.
 use mathlib.Core.Path.{◌∙◌}
-use borrow.Author.Rules.{rules}
 use Rattle.semantics.specs.Conditions.{c60}
 use Rattle.rules.proofs.Words.{leads_cong}
 use Rattle.rules.proofs.sequence.left_meets_right.Goals as goal

@@ -1,5 +1,4 @@
 -- 30 to 33, then the children's tables, 60 and 61.
-use borrow.Author.Rules.{rules}
 use Rattle.rules.proofs.Asking.{asked_then}
 use Rattle.rules.proofs.sequence.sequence_fault.Goals as goal
 

@@ -1,6 +1,5 @@
 -- From P, left Q and then right Q is in Q.
 use mathlib.Core.Path.{◌∙◌}
-use borrow.Author.Rules.{rules}
 use Rattle.semantics.specs.Conditions.{c61}
 use Rattle.rules.proofs.Words.{all_through}
 use Rattle.rules.proofs.sequence.sequence_post.Goals as goal

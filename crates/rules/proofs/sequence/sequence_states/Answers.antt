@@ -1,7 +1,6 @@
 -- By cases on the number.
 use native.Mathlib.Omega.{arith}
 use mathlib.Core.Path.{◌∙◌, sym, ap, refl}
-use borrow.Author.Rules.{rules}
 use borrow.Author.Tests.{ne_eqb}
 use Rattle.states.specs.Search.{given}
 use Rattle.semantics.specs.Conditions.{c34, c36, c37, c60, c61}
@@ -14,7 +13,6 @@ use Rattle.rules.proofs.sequence.sequence_states.Goals as goal
 pub returns-in_default : goal.returns-in_default
 unfolding c34 c36 c37
 returns-in_default c fits =
-   
     c.common_states.ensures fits
     ∙ sym (ap naming (before_silent _ _ _ (plain _ refl (plain _ refl (plain _ refl (plain _ refl (plain _ refl
     (other (ne_eqb _ 60 (omega arith)) (other (ne_eqb _ 61 (omega arith)) done)))))))))

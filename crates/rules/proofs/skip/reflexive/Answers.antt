@@ -1,6 +1,5 @@
 -- The pairs (s,s) with s in P are in Q.
 use mathlib.Core.Path.{◌∙◌, ap, fun_ext}
-use borrow.Author.Rules.{rules}
 use Rattle.states.specs.Search.{must, holds}
 use Rattle.semantics.specs.Conditions.{in_set, c35}
 use Rattle.rules.specs.Words.{word_relation}

@@ -1,6 +1,5 @@
 -- By cases on the number.
 use mathlib.Core.Path.{◌∙◌, sym, ap}
-use borrow.Author.Rules.{rules}
 use borrow.Author.Tests.{ne_eqb}
 use Rattle.states.specs.Search.{given}
 use Rattle.semantics.specs.Conditions.{c35}

@@ -3,7 +3,6 @@ use Prim.Native.Nat.{ℕ}
 use mathlib.Core.Path.{◌≡◌, ◌∙◌, sym, ap}
 use mathlib.Core.Bool.{◌&&◌}
 use lib.Dec.{ltb}
-use borrow.Author.Rules.{rules}
 use Rattle.states.specs.Search.{any}
 use Rattle.states.specs.Sets.{capacity, has}
 use Rattle.states.proofs.Members.{none_in}
@@ -48,6 +47,6 @@ returns c =
     let p = m.set_at-p.ensures in record {
       pre = c.leads_into.ensures ∙ leads_cong _ _ _ _ _ _ (from (goal.at.returns c).After-meet-from) p ∙ in_set_starting _ _ _ _ _ small (starts (goal.at.returns c).After-starting-starts);
       before = c.chains_into.ensures ∙ all_through a.n a.work.now a.own.r _ _ _ _ (from (goal.at.returns c).After-meet-from) c.below-states.ensures
-            ∙ in_set_starting _ _ _ _ _ small (starts (goal.at.returns c).After-starting-starts);
+          ∙ in_set_starting _ _ _ _ _ small (starts (goal.at.returns c).After-starting-starts);
       after = c.chains_into-2.ensures ∙ in_set_same _ _ _ _ _ p (λ s. in_set_starting _ _ _ _ _ (ends s) (starts (goal.at.returns c).After-starting-starts));
     }

@@ -4,13 +4,8 @@ use Prim.Native.Nat.{ℕ}
 use mathlib.Core.Path.{◌≡◌, ◌∙◌, ap}
 use mathlib.Core.Bool.{◌&&◌}
 use lib.Dec.{ltb}
-use borrow.Author.Rules.{rules}
-use Rattle.states.specs.Search.{must, holds}
 use Rattle.states.specs.Sets.{capacity, has}
-use Rattle.states.proofs.Reach.{count}
-use Rattle.states.proofs.Members.{start_below, start_same, Passed, passed_none, passed_more, LeastTaken, take_least, none_left}
-use Rattle.semantics.specs.Conditions.{in_set}
-use Rattle.rules.specs.Words.{word_relation}
+use Rattle.states.proofs.Members.{start_below, start_same, passed_none, passed_more, LeastTaken, take_least, none_left}
 use Rattle.rules.proofs.Searches.{passed_search}
 use Rattle.rules.proofs.tables.chains_into.Goals.{After-meet-rest, After-without_least-rest}
 use Rattle.std.proofs.lemmas.Bool.{not_from_false, not_from_true}

@@ -1,17 +1,12 @@
 -- The loop keeps whether the chains from the states taken out are in `whole`; those left are still to be
 -- checked. `passed_more` checks the least.
-use Prim.Native.Nat.{ℕ}
-use mathlib.Core.Path.{◌≡◌, ◌∙◌, ap}
 use mathlib.Core.Bool.{◌&&◌}
-use lib.Dec.{ltb}
-use borrow.Author.Rules.{rules}
 use Rattle.states.specs.Search.{must, holds}
 use Rattle.states.specs.Sets.{capacity, has}
 use Rattle.states.proofs.Reach.{count}
-use Rattle.states.proofs.Members.{start_below, start_same, Passed, passed_none, passed_more, LeastTaken, take_least, none_left}
+use Rattle.states.proofs.Members.{Passed}
 use Rattle.semantics.specs.Conditions.{in_set}
 use Rattle.rules.specs.Words.{word_relation}
-use Rattle.rules.proofs.Searches.{passed_search}
 use Rattle.rules.proofs.tables.chains_into.Given as goal
 
 abbrev pub invariant-loop-through : goal.invariant-loop-through

@@ -1,12 +1,9 @@
 -- The loop keeps whether the rows of `part` below s are those of `a` met with the set. `all_next` adds the next.
 use Prim.Native.Nat.{◌≤◌, ◌-◌}
-use native.Mathlib.Omega.{arith}
-use mathlib.Core.Path.{◌≡◌, ◌∙◌, sym, ap₂}
+use mathlib.Core.Path.{◌≡◌}
 use mathlib.Core.Bool.{◌&&◌}
-use borrow.Author.Rules.{rules}
 use Rattle.states.specs.Search.{all}
-use Rattle.states.proofs.Search.{all_intro, all_next, all_done}
-use Rattle.semantics.specs.Conditions.{same_set, same_relation}
+use Rattle.semantics.specs.Conditions.{same_set}
 use Rattle.rules.specs.Words.{word_set, word_relation}
 use Rattle.rules.proofs.tables.is_ending_in.Given as goal
 

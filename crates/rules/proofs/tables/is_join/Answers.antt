@@ -1,14 +1,9 @@
 -- The loop keeps whether the rows of `whole` below s are the joined rows. `all_next` adds the next.
-use Prim.Native.Nat.{◌≤◌, ◌-◌}
 use native.Mathlib.Omega.{arith}
-use mathlib.Core.Path.{◌≡◌, ◌∙◌, sym, ap₂}
-use mathlib.Core.Bool.{◌&&◌, ◌||◌}
-use borrow.Author.Rules.{rules}
-use Rattle.states.specs.Search.{all}
+use mathlib.Core.Path.{◌∙◌, sym, ap₂}
+use mathlib.Core.Bool.{◌&&◌}
 use Rattle.states.proofs.Search.{all_intro, all_next, all_done}
-use Rattle.semantics.specs.Conditions.{same_set, same_relation}
-use Rattle.rules.specs.Words.{word_relation}
-use Rattle.std.proofs.lemmas.Bool.{not_from_false, not_from_true}
+use Rattle.semantics.specs.Conditions.{same_relation}
 use Rattle.rules.proofs.tables.is_join.Goals as goal
 
 pub loop-s-init : goal.loop-s-init

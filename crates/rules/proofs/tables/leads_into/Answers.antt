@@ -1,6 +1,5 @@
 -- The ends lie in the other set, and this is the same over all states that a set can hold as over the n.
 use mathlib.Core.Path.{◌∙◌}
-use borrow.Author.Rules.{rules}
 use Rattle.states.specs.Sets.{has}
 use Rattle.rules.specs.Words.{word_relation}
 use Rattle.rules.proofs.Searches.{small_all, ends_within}

@@ -1,14 +1,9 @@
 -- A table lies in itself. For two tables the loop keeps whether the rows below s lie in the other's, and `all_next` adds the next.
 use Prim.Native.Nat.{◌≤◌, ◌-◌}
-use native.Mathlib.Omega.{arith}
-use mathlib.Core.Path.{◌≡◌, ◌∙◌, sym, ap₂}
-use mathlib.Core.Bool.{◌&&◌}
-use borrow.Author.Rules.{rules}
+use mathlib.Core.Path.{◌≡◌}
 use Rattle.states.specs.Search.{all}
-use Rattle.states.proofs.Search.{all_intro, all_next, all_done}
-use Rattle.semantics.specs.Conditions.{set_lies_in, relation_lies_in}
+use Rattle.semantics.specs.Conditions.{set_lies_in}
 use Rattle.rules.specs.Words.{word_relation}
-use Rattle.rules.proofs.Searches.{lies_in_itself}
 use Rattle.rules.proofs.tables.lies_in.Given as goal
 
 abbrev pub invariant-loop-s : goal.invariant-loop-s

@@ -1,5 +1,4 @@
 -- Row s of the words from the first row on.
-use borrow.Author.Rules.{rules}
 use Rattle.rules.specs.Words.{word_relation}
 use Rattle.rules.proofs.tables.row_at.Goals as goal
 

@@ -1,7 +1,6 @@
 -- If whole relates s to every state, every chain ends in its row; else b leads from the ends of a into that row.
 use mathlib.Core.Path.{◌∙◌, sym, ap, ap₂}
 use mathlib.Core.Bool.{◌&&◌}
-use borrow.Author.Rules.{rules}
 use Rattle.states.specs.Search.{implies}
 use Rattle.states.specs.Sets.{capacity, has}
 use Rattle.states.proofs.Search.{all_cong}

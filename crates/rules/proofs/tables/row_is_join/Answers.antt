@@ -1,7 +1,6 @@
 -- The sets given by their members.
 use mathlib.Core.Path.{◌∙◌, ap₂}
 use mathlib.Core.Bool.{◌||◌}
-use borrow.Author.Rules.{rules}
 use Rattle.rules.proofs.Words.{same_cong}
 use Rattle.rules.proofs.tables.row_is_join.Goals as goal
 

@@ -1,6 +1,5 @@
 -- One row lies in the other, and this is the same over all states that a set can hold as over the n.
 use mathlib.Core.Path.{◌∙◌}
-use borrow.Author.Rules.{rules}
 use Rattle.semantics.specs.Conditions.{set_lies_in}
 use Rattle.rules.proofs.Searches.{small_all}
 use Rattle.rules.proofs.Words.{relation_small}

@@ -1,5 +1,4 @@
 -- The rows of relation r start at entry 16 + capacity * r.
-use borrow.Author.Rules.{rules}
 use Rattle.rules.proofs.tables.rows_of.Goals as goal
 
 pub returns : goal.returns

@@ -1,6 +1,5 @@
 -- The two sets by their members.
 use mathlib.Core.Path.{◌∙◌, sym}
-use borrow.Author.Rules.{rules}
 use Rattle.states.proofs.Search.{holds_must}
 use Rattle.semantics.specs.Conditions.{c34}
 use Rattle.rules.proofs.Words.{same_cong}

@@ -1,6 +1,5 @@
 -- A table is the same as itself; for two tables the rows are compared.
 use mathlib.Core.Path.{◌∙◌, sym, refl}
-use borrow.Author.Rules.{rules}
 use borrow.Author.Tests.{eq-eqb}
 use Rattle.semantics.specs.Conditions.{same_relation, same_set}
 use Rattle.rules.specs.Words.{word_relation}

@@ -1,6 +1,5 @@
 -- Both words are masked to the n states.
 use mathlib.Core.Path.{◌∙◌}
-use borrow.Author.Rules.{rules}
 use Rattle.rules.proofs.Words.{same_masked}
 use Rattle.rules.proofs.tables.same_set.Goals as goal
 

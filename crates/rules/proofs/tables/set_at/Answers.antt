@@ -1,7 +1,6 @@
 -- Entry i, masked to the states below n.
 use mathlib.Core.Path.{◌∙◌, ap₂}
 use mathlib.Core.Bool.{◌&&◌}
-use borrow.Author.Rules.{rules}
 use Rattle.states.specs.Sets.{mem, entry_at}
 use Rattle.states.proofs.EntryLaws.{entry_below}
 use Rattle.rules.specs.Words.{word_set}

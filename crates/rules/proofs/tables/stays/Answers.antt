@@ -1,15 +1,9 @@
 -- The loop keeps whether the relation has (u,u) for the states u of the set below s. `holds_next` adds the next.
-use Prim.Native.Nat.{◌≤◌, ◌-◌}
 use native.Mathlib.Omega.{arith}
-use mathlib.Core.Path.{◌≡◌, ◌∙◌, ap₂}
+use mathlib.Core.Path.{◌∙◌, ap₂}
 use mathlib.Core.Bool.{◌&&◌}
-use borrow.Author.Rules.{rules}
-use Rattle.states.specs.Search.{must, given, each, holds}
-use Rattle.states.specs.Sets.{has}
 use Rattle.semantics.specs.Conditions.{in_set}
-use Rattle.rules.specs.Words.{word_relation}
 use Rattle.rules.proofs.Searches.{none_held, holds_next, each_done}
-use Rattle.std.proofs.lemmas.Bool.{not_from_false, not_from_true}
 use Rattle.rules.proofs.tables.stays.Goals as goal
 
 pub loop-s-init : goal.loop-s-init

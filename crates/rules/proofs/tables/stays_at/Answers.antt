@@ -1,6 +1,5 @@
 -- The code tests membership in the set as the search does.
 use mathlib.Core.Path.{◌∙◌, sym}
-use borrow.Author.Rules.{rules}
 use Rattle.states.proofs.Search.{holds_must}
 use Rattle.rules.proofs.Searches.{at_member, at_other}
 use Rattle.rules.proofs.tables.stays_at.Goals as goal

@@ -1,6 +1,5 @@
 -- The child's G lies in G.
 use mathlib.Core.Path.{◌∙◌, sym}
-use borrow.Author.Rules.{rules}
 use Rattle.states.proofs.Search.{holds_must}
 use Rattle.semantics.specs.Conditions.{c72}
 use Rattle.rules.proofs.weaken.guarantee_within.Goals as goal

@@ -1,6 +1,5 @@
 -- The child's Q lies in Q.
 use mathlib.Core.Path.{◌∙◌, sym}
-use borrow.Author.Rules.{rules}
 use Rattle.states.proofs.Search.{holds_must}
 use Rattle.semantics.specs.Conditions.{c73}
 use Rattle.rules.proofs.weaken.post_within.Goals as goal

@@ -1,6 +1,5 @@
 -- One set lies in the other, and this is the same over all states that a set can hold as over the n.
 use mathlib.Core.Path.{◌∙◌, sym}
-use borrow.Author.Rules.{rules}
 use Rattle.states.proofs.Search.{holds_must}
 use Rattle.semantics.specs.Conditions.{set_lies_in, c70}
 use Rattle.rules.proofs.Searches.{small_all}

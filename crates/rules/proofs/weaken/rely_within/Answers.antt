@@ -1,6 +1,5 @@
 -- R lies in the child's R.
 use mathlib.Core.Path.{◌∙◌, sym}
-use borrow.Author.Rules.{rules}
 use Rattle.states.proofs.Search.{holds_must}
 use Rattle.semantics.specs.Conditions.{c71}
 use Rattle.rules.proofs.weaken.rely_within.Goals as goal

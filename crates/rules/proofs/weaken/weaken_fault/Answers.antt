@@ -1,5 +1,4 @@
 -- 30 to 33, then 70 to 73.
-use borrow.Author.Rules.{rules}
 use Rattle.rules.proofs.Asking.{asked_then}
 use Rattle.rules.proofs.weaken.weaken_fault.Goals as goal
 

@@ -2,7 +2,6 @@
 use Prim.Native.Nat.{◌-◌, ◌*◌, min}
 use mathlib.Core.Path.{◌≡◌}
 use native.Mathlib.Omega.{arith}
-use borrow.Author.Rules.{rules}
 use Rattle.states.specs.Sets.{words_in, has, bits_where}
 use Rattle.states.proofs.Words.{part_bits}
 use Rattle.states.proofs.StateSet.bits_of.Goals as goal

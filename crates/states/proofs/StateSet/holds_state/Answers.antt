@@ -1,6 +1,5 @@
 -- Bit s of the word, if s is one of the 64 states.
 use mathlib.Core.Path.{◌∙◌, sym}
-use borrow.Author.Rules.{rules}
 use borrow.Author.Tests.{lt-ltb, le-ltb}
 use Rattle.states.specs.Sets.{has}
 use Rattle.states.proofs.Words.{mem_bit}

@@ -5,7 +5,6 @@ use mathlib.Core.Bool.{cond}
 use mathlib.Core.List.{[], ◌∷◌}
 use lib.Bits.{bit_and}
 use borrow.Author.Tests.{eq-eqb, ne_eqb}
-use borrow.Author.Rules.{rules}
 use Rattle.states.specs.Sets.{mem, has}
 use Rattle.states.proofs.Words.{one_word, mem_lowered}
 use Rattle.states.proofs.StateSet.without_least.Goals as goal

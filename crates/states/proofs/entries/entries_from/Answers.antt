@@ -6,7 +6,6 @@ use mathlib.Core.Path.{◌≡◌, ◌∙◌, sym, ap}
 use mathlib.Core.List.{List}
 use lib.ListN.{length, take, drop, length-drop, drop_of_length-le}
 use lib.Seq.{take_all, drop-length}
-use borrow.Author.Rules.{rules}
 use Rattle.states.specs.Sets.{set_words}
 use Rattle.states.proofs.entries.entries_from.Goals as goal
 

@@ -1,7 +1,6 @@
 -- An entry is a word of the slice; past the end it has no member.
 use native.Mathlib.Omega.{arith}
 use mathlib.Core.Path.{◌∙◌, sym}
-use borrow.Author.Rules.{rules}
 use Rattle.states.specs.Sets.{has}
 use Rattle.states.proofs.EntryLaws.{entry_word_lem, entry_past}
 use Rattle.states.proofs.entries.entry_at.Goals as goal

@@ -4,11 +4,9 @@ use native.Mathlib.Omega.{arith}
 use mathlib.Core.Path.{◌≡◌, ◌∙◌, sym, ap}
 use mathlib.Core.Bool.{◌&&◌, ◌||◌}
 use lib.Dec.{ltb}
-use borrow.Author.Rules.{rules}
 use Rattle.states.specs.Sets.{capacity, has}
-use Rattle.states.proofs.Reach.{count}
 use Rattle.states.proofs.EntryLaws.{entry_word_lem}
-use Rattle.states.proofs.Members.{start_below, LeastTaken, least_of, take_least, none_left, Gathered, gathered_none, gathered_more, gathered_all}
+use Rattle.states.proofs.Members.{start_below, LeastTaken, least_of, take_least, none_left, gathered_none, gathered_more, gathered_all}
 use Rattle.states.proofs.relations.image.Goals.{After-meet-rest, After-without_least-rest}
 use Rattle.std.proofs.lemmas.Bool.{not_from_false, not_from_true}
 use Rattle.states.proofs.relations.image.Goals as goal

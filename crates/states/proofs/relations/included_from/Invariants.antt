@@ -1,13 +1,9 @@
 -- The loop keeps whether the rows below s of states in the set are included. `all_next` adds the next.
 use Prim.Native.Nat.{◌≤◌, ◌-◌}
-use native.Mathlib.Omega.{arith}
-use mathlib.Core.Path.{◌≡◌, ◌∙◌, sym, ap₂}
-use mathlib.Core.Bool.{◌&&◌}
-use borrow.Author.Rules.{rules}
+use mathlib.Core.Path.{◌≡◌}
 use Rattle.states.specs.Search.{all, implies}
 use Rattle.states.specs.Sets.{has}
 use Rattle.states.specs.Relations.{rel}
-use Rattle.states.proofs.Search.{all_intro, all_next, all_done}
 use Rattle.states.proofs.relations.included_from.Given as goal
 
 abbrev pub invariant-loop-s : goal.invariant-loop-s

@@ -1,15 +1,9 @@
 -- The pairs that start in what was reached before the last round end in what is reached. Where that round added no state, all is reached.
-use mathlib.Core.Path.{sym, ◌∙◌}
 use mathlib.Core.Bool.{not}
-use borrow.Author.Rules.{rules}
-use borrow.Author.Tests.{not-true, not-false}
 use Rattle.states.specs.Sets.{capacity, has}
 use Rattle.states.specs.Relations.{rel}
-use Rattle.states.proofs.Search.{implies_at, all_at}
-use Rattle.states.proofs.Rows.{rel_between}
 use Rattle.states.proofs.Reach.{count}
-use Rattle.states.proofs.Members.{has_below}
-use Rattle.states.proofs.Spread.{Spread, spread_none, spread_more, spread_less, spread_all}
+use Rattle.states.proofs.Spread.{Spread}
 use Rattle.states.proofs.relations.reach.Given as goal
 
 abbrev pub invariant-loop-earlier : goal.invariant-loop-earlier

@@ -2,7 +2,6 @@
 use native.Mathlib.Omega.{arith}
 use mathlib.Core.Path.{◌∙◌, sym, ap₂}
 use mathlib.Core.Bool.{◌&&◌}
-use borrow.Author.Rules.{rules}
 use Rattle.states.proofs.Search.{not_true_false}
 use Rattle.states.proofs.Rows.{rel_between, rel_row}
 use Rattle.states.proofs.relations.row.Goals as goal

@@ -1,6 +1,5 @@
 -- Inclusion of the two rows over all states is the same as over n states, and is tested only if s is in the set.
 use mathlib.Core.Path.{◌∙◌, refl, ap₂, sym}
-use borrow.Author.Rules.{rules}
 use Rattle.states.specs.Search.{implies}
 use Rattle.states.specs.Sets.{capacity}
 use Rattle.states.proofs.Search.{all_cong}

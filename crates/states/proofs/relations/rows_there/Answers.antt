@@ -1,6 +1,5 @@
 -- The lesser of the two bounds.
 use native.Mathlib.Omega.{arith}
-use borrow.Author.Rules.{rules}
 use Rattle.states.proofs.relations.rows_there.Goals as goal
 
 pub returns-then-held-rows : goal.returns-then-held-rows

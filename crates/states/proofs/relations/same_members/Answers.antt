@@ -1,11 +1,7 @@
 -- The loop keeps whether the rows below s have the same members. `all_next` adds the next.
-use Prim.Native.Nat.{◌≤◌, ◌-◌}
 use native.Mathlib.Omega.{arith}
-use mathlib.Core.Path.{◌≡◌, ◌∙◌, sym, ap₂}
-use mathlib.Core.Bool.{◌&&◌, beq}
-use borrow.Author.Rules.{rules}
-use Rattle.states.specs.Search.{all}
-use Rattle.states.specs.Relations.{rel}
+use mathlib.Core.Path.{◌∙◌, sym, ap₂}
+use mathlib.Core.Bool.{◌&&◌}
 use Rattle.states.proofs.Search.{all_intro, all_next, all_done}
 use Rattle.states.proofs.relations.same_members.Goals as goal
 

@@ -1,12 +1,9 @@
 -- The loop keeps whether the rows below s have the same members. `all_next` adds the next.
 use Prim.Native.Nat.{◌≤◌, ◌-◌}
-use native.Mathlib.Omega.{arith}
-use mathlib.Core.Path.{◌≡◌, ◌∙◌, sym, ap₂}
-use mathlib.Core.Bool.{◌&&◌, beq}
-use borrow.Author.Rules.{rules}
+use mathlib.Core.Path.{◌≡◌}
+use mathlib.Core.Bool.{beq}
 use Rattle.states.specs.Search.{all}
 use Rattle.states.specs.Relations.{rel}
-use Rattle.states.proofs.Search.{all_intro, all_next, all_done}
 use Rattle.states.proofs.relations.same_members.Given as goal
 
 abbrev pub invariant-loop-s : goal.invariant-loop-s

@@ -1,7 +1,6 @@
 -- Comparing the two rows over all states is the same as over n states.
 use mathlib.Core.Path.{◌∙◌, refl, ap₂}
 use mathlib.Core.Bool.{beq}
-use borrow.Author.Rules.{rules}
 use Rattle.states.specs.Sets.{capacity}
 use Rattle.states.proofs.Search.{all_cong}
 use Rattle.states.proofs.Rows.{row_all}

@@ -1,10 +1,8 @@
 -- After the rows below s, the set has the states below s that start a pair. `any_more` adds the next; a state past the rows starts none.
-use Prim.Native.Nat.{ℕ, ◌≤◌, ◌-◌}
 use native.Mathlib.Omega.{arith}
 use mathlib.Core.Path.{◌≡◌, ◌∙◌, sym, ap, ap₂}
 use mathlib.Core.Bool.{◌&&◌, ◌||◌}
 use lib.Dec.{ltb, eqb}
-use borrow.Author.Rules.{rules}
 use Rattle.states.specs.Search.{any}
 use Rattle.states.specs.Sets.{capacity, has}
 use Rattle.states.specs.Relations.{rel}
@@ -30,10 +28,10 @@ loop-s-init c = (omega arith, c.empty-found.ensures)
 
 pub loop-s-preserved : goal.loop-s-preserved
 loop-s-preserved c = let l = c.loop-s in (
-      omega arith,
-      λ t. c.with_start-found.ensures t ∙ ap₂ ◌||◌ (l.invariant.1 t) (ap (λ b. ltb t capacity && b && eqb l.s t) (row_ends (goal.at.loop-s-preserved c).After-meet)) ∙ sym
-          (any_more _ _),
-    )
+  omega arith,
+  λ t. c.with_start-found.ensures t ∙ ap₂ ◌||◌ (l.invariant.1 t) (ap (λ b. ltb t capacity && b && eqb l.s t) (row_ends (goal.at.loop-s-preserved c).After-meet)) ∙ sym
+      (any_more _ _),
+)
 
 pub returns : goal.returns
 returns c t = let l = c.before in

@@ -1,16 +1,11 @@
 -- After the rows below s, the set has the states below s that start a pair. `any_more` adds the next; a state past the rows starts none.
 use Prim.Native.Nat.{ℕ, ◌≤◌, ◌-◌}
-use native.Mathlib.Omega.{arith}
-use mathlib.Core.Path.{◌≡◌, ◌∙◌, sym, ap, ap₂}
-use mathlib.Core.Bool.{◌&&◌, ◌||◌}
+use mathlib.Core.Path.{◌≡◌}
+use mathlib.Core.Bool.{◌&&◌}
 use lib.Dec.{ltb, eqb}
-use borrow.Author.Rules.{rules}
 use Rattle.states.specs.Search.{any}
 use Rattle.states.specs.Sets.{capacity, has}
 use Rattle.states.specs.Relations.{rel}
-use Rattle.states.proofs.Search.{any_more, any_done, any_cong}
-use Rattle.states.proofs.EntryLaws.{entry_word_lem}
-use Rattle.states.proofs.Rows.{rel_row, row_any, row_starts}
 use Rattle.states.proofs.relations.starting.Given as goal
 
 abbrev pub invariant-loop-s : goal.invariant-loop-s

@@ -1,11 +1,9 @@
 -- Row s is the join of the two rows. The loop has filled the rows below s.
-use Prim.Native.Nat.{◌-◌}
 use native.Mathlib.Omega.{arith}
 use mathlib.Core.Path.{◌∙◌, ap₂}
 use mathlib.Core.Bool.{◌||◌}
-use borrow.Author.Rules.{rules}
-use Rattle.states.proofs.EntryLaws.{RowsFilled, rows_none, rows_more, rows_filled}
-use Rattle.states.proofs.Rows.{join_of, join_between}
+use Rattle.states.proofs.EntryLaws.{rows_none, rows_more, rows_filled}
+use Rattle.states.proofs.Rows.{join_between}
 use Rattle.states.proofs.relations.union_of.Goals as goal
 
 pub loop-s-init : goal.loop-s-init

@@ -1,7 +1,6 @@
 -- s is added if its row is not empty.
 use mathlib.Core.Path.{◌≡◌, ◌∙◌, sym, ap}
 use mathlib.Core.Bool.{not, ◌||◌, or-false, and-true, and-false}
-use borrow.Author.Rules.{rules}
 use lib.Dec.{ltb}
 use Rattle.states.specs.Search.{any}
 use Rattle.states.specs.Sets.{capacity, has}

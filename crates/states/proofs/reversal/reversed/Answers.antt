@@ -3,7 +3,6 @@ use Prim.Native.Nat.{ℕ}
 use mathlib.Core.List.{List, [], ◌∷◌}
 use mathlib.Core.Path.{◌≡◌, refl, ap, ◌∙◌}
 use native.Mathlib.Omega.{arith}
-use borrow.Author.Rules.{rules}
 use Rattle.states.specs.Search.{all}
 use Rattle.states.proofs.Swaps.{swap, swap_found, swaps, reversal}
 use Rattle.states.proofs.reversal.reversed.Goals.{After-swapped}
