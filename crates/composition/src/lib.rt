@@ -1,4 +1,6 @@
 // Two handlers on one core (docs/COMPOSITION.md): the parallel of two accepted pairs, with a proof of it.
+#![tactic(auto)]
+
 ghost use Rattle.std.specs.Prelude.{false, ◌≡◌, ◌≤◌, length};
 ghost use Rattle.derivation.specs.Tables.{work_words, written};
 ghost use Rattle.pair.specs.Limits.{too_long};

@@ -63,7 +63,7 @@ pub returns-then-out-length : goal.returns-then-out-length
 returns-then-out-length c =
     let out = c.args.out.now in
     let fails = λ (x : Read c.args.proof.now c.args.n c.args.head c.args.nodes.now). no_room _ out _
-        (long _ _ _ _ x _ (c.number-m.ensures x.d x.read) _ c.form_bits.ensures.0) c.if-out-length.true
+    (long _ _ _ _ x _ (c.number-m.ensures x.d x.read) _ c.form_bits.ensures.0) c.if-out-length.true
     in record {
       answer = λ x. c.refused.ensures ∙ (fails x).0;
       bytes = λ x. (fails x).1;

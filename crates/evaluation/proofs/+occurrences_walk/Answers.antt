@@ -31,8 +31,10 @@ overflow_add-i t c =
 
 pub overflow_add-result : goal.overflow_add-result
 overflow_add-result t c =
-    omega (arith,
-    sum_small _ c.requires (pos_of_ne-zero c.if-levels-eq0.false) _ _ c.occurrences_walk-left.ensures.1 c.occurrences_walk-right.ensures.1)
+    omega (
+      arith,
+      sum_small _ c.requires (pos_of_ne-zero c.if-levels-eq0.false) _ _ c.occurrences_walk-left.ensures.1 c.occurrences_walk-right.ensures.1,
+    )
 
 pub returns : goal.returns
 returns t c =

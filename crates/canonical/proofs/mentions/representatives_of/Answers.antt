@@ -16,6 +16,6 @@ representatives-relations-requires c = let start = c in
 
 pub returns : goal.returns
 returns c = let a = c.args in record {
-      sets = subst (λ run. Leasts (members_in a.src.now run) a.head.sets c.representatives-sets.result) c.set_run.ensures c.representatives-sets.ensures;
-      relations = subst (λ run. Leasts (members_in a.src.now run) a.head.relations c.representatives-relations.result) c.relation_run.ensures c.representatives-relations.ensures;
-    }
+  sets = subst (λ run. Leasts (members_in a.src.now run) a.head.sets c.representatives-sets.result) c.set_run.ensures c.representatives-sets.ensures;
+  relations = subst (λ run. Leasts (members_in a.src.now run) a.head.relations c.representatives-relations.result) c.relation_run.ensures c.representatives-relations.ensures;
+}

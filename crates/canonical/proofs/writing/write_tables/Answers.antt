@@ -35,8 +35,8 @@ loop-k-preserved c =
     -- The buffer keeps its length.
     let kept : length l.out ≡ length a.out.now = ap length l.invariant.1 ∙ length_parts a.out.now a.at _ in
     let fits =
-        copied_fits l.out (a.at + a.run.width * l.k) a.src.now c.table_cursor.result a.run.width
-        (omega (arith, within, kept)) (omega (arith, within)) (omega (arith, c.table_cursor.ensures.1))
+    copied_fits l.out (a.at + a.run.width * l.k) a.src.now c.table_cursor.result a.run.width
+    (omega (arith, within, kept)) (omega (arith, within)) (omega (arith, c.table_cursor.ensures.1))
     in (
       omega arith,
       c.copy.ensures ∙ rw (fits, c.table_cursor.ensures.0, l.invariant.1)

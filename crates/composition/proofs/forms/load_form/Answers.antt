@@ -1,0 +1,28 @@
+-- The form is written at the front of the bytes, and what is loaded from it is what is taken from the pair.
+use Prim.Native.Nat.{ℕ}
+use mathlib.Core.Path.{sym}
+use borrow.Author.Rules.{rules}
+use lib.ListN.{length-replicate}
+use lib.Seq.{length-take-le}
+use Rattle.pair.specs.Limits.{most_proof_bytes}
+use Rattle.composition.proofs.Loading.{front_fits, front_is, form_loaded}
+use Rattle.composition.proofs.forms.load_form.Goals as goal
+
+pub slice_bounds-bytes-end : goal.slice_bounds-bytes-end
+slice_bounds-bytes-end c =
+    let wrote = c in
+    let start = wrote in
+    front_fits _ _ start.requires.0 _ (length-replicate {A = ℕ} most_proof_bytes 0) _ wrote.write_form.ensures.answer _ c.written_bytes-length.ensures _
+    wrote.write_form.ensures.bytes
+
+pub slice_bounds-load_file-end : goal.slice_bounds-load_file-end
+slice_bounds-load_file-end c = sym (length-take-le _ _ (slice_bounds-bytes-end c))
+
+pub returns : goal.returns
+returns c = let load = c in
+    let count = load in
+    let wrote = count in
+    let pre = wrote.requires in
+    let front = front_is _ _ pre.0 _ (length-replicate {A = ℕ} most_proof_bytes 0) _ wrote.write_form.ensures.answer _ count.written_bytes-length.ensures _
+    wrote.write_form.ensures.bytes in
+    form_loaded _ _ pre.0 _ pre.2 _ _ _ pre.1 _ front load.load_file.ensures.answer load.load_file.ensures.tables

@@ -1,0 +1,15 @@
+-- G and Q are rows of the words.
+use mathlib.Core.Path.{ap}
+use borrow.Author.Rules.{rules}
+use Rattle.states.specs.Relations.{rel}
+use Rattle.rules.specs.Words.{word_relation}
+use Rattle.form.specs.Members.{relation_where}
+use Rattle.composition.proofs.Mentioning.{three_by}
+use Rattle.composition.proofs.numbering.mention_side.Goals as goal
+
+pub returns : goal.returns
+unfolding word_relation
+returns c seen k = let m = c in
+    let n = m.args.n in
+    three_by _ _ _ _ _ _ _ _ (ap (λ w. relation_where n (rel n w)) m.rows_of.ensures)
+    (ap (λ w. relation_where n (rel n w)) m.rows_of-2.ensures) (m.mention_three.ensures seen k)

@@ -1,0 +1,15 @@
+-- The root's relations, then those of both sides.
+use borrow.Author.Rules.{rules}
+use Rattle.derivation.proofs.Buffers.{length_tabulate}
+use Rattle.composition.specs.Refinement.{relations_held}
+use Rattle.composition.proofs.Places.{relations_numbered}
+use Rattle.composition.proofs.numbering.number_relations.Goals as goal
+
+pub returns : goal.returns
+unfolding relations_held
+returns c = let right = c in
+    let left = right in
+    let root = left in
+    let three = root.mention_root-root.ensures in
+    let a = left.number_side-left.ensures _ three.kept in
+    relations_numbered _ _ _ _ _ _ _ _ _ _ _ _ _ _ _ _ _ three a (right.number_side-right.ensures _ a.kept) (length_tabulate _ _) (length_tabulate _ _)

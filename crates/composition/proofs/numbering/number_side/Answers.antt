@@ -1,0 +1,13 @@
+-- The weaken node's relations, then those of the form.
+use borrow.Author.Rules.{rules}
+use Rattle.derivation.proofs.Buffers.{length_tabulate}
+use Rattle.composition.specs.Refinement.{relations_held}
+use Rattle.composition.proofs.Places.{side_numbered}
+use Rattle.composition.proofs.numbering.number_side.Goals as goal
+
+pub returns : goal.returns
+unfolding relations_held
+returns c seen k = let rest = c in
+    let node = rest in
+    let three = node.mention_side-node.ensures seen k in
+    side_numbered seen _ _ _ _ _ _ _ _ _ three (rest.mention_relations-count.ensures _ three.kept) (length_tabulate _ _)

@@ -1,0 +1,25 @@
+-- The rows below s are stored.
+use Prim.Native.Nat.{◌-◌, ◌≤◌}
+use mathlib.Core.Path.{◌≡◌}
+use native.Mathlib.Omega.{arith}
+use borrow.Author.Rules.{rules}
+use Rattle.states.specs.Relations.{rel}
+use Rattle.composition.proofs.Stored.{RowsStored, rows_start, rows_next, relation_stored}
+use Rattle.composition.proofs.pool.store_relation.Goals as goal
+
+pub loop-s-init : goal.loop-s-init
+loop-s-init c = (omega arith, rows_start _ _ _)
+
+pub loop-s-smaller : goal.loop-s-smaller
+loop-s-smaller c = let d = c in
+    let l = d in
+    let so = l.loop-s.invariant.1 in
+    (omega arith, rw d.put_entry.ensures (rows_next _ _ _ _ _ _ (omega (arith, so.long)) d.row.ensures so))
+
+pub loop-s-preserved : goal.loop-s-preserved
+loop-s-preserved c = c.loop-s.invariant.1.long
+
+pub returns : goal.returns
+returns c = let start = c in
+    let all : c.loop-s.s ≡ start.args.n = omega arith in
+    relation_stored _ start.requires.0 _ _ _ _ (rw all at c.loop-s.invariant.1)
