@@ -16,7 +16,8 @@ slice_bounds-bytes-end c =
     wrote.write_form.ensures.bytes
 
 pub slice_bounds-load_file-end : goal.slice_bounds-load_file-end
-slice_bounds-load_file-end c = sym (length-take-le _ _ (slice_bounds-bytes-end c))
+slice_bounds-load_file-end c = sym (length-take-le _ _ (front_fits _ _ c.requires.0 _ (length-replicate {A = ℕ} most_proof_bytes 0) _ c.write_form.ensures.answer _ c.written_bytes-length.ensures _
+    c.write_form.ensures.bytes))
 
 pub returns : goal.returns
 returns c = let load = c in

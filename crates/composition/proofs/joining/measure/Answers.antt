@@ -1,14 +1,12 @@
 -- The statement of the first file ends at its end.
 use mathlib.Core.Path.{◌∙◌, ap}
 use native.Mathlib.Omega.{arith}
-use borrow.Author.Rules.{rules}
 use Rattle.writer.specs.Packing.{bytes_for}
 use Rattle.composition.proofs.joining.measure.Goals as goal
 
 pub returns : goal.returns
-returns c = let first = c in
-    let start = first in
+returns c =
     record {
-      handler_is = first.file_bytes-handler.ensures ∙ ap bytes_for (omega (arith, start.requires.3.starts));
+      handler_is = c.file_bytes-handler.ensures ∙ ap bytes_for (omega (arith, c.requires.3.starts));
       proof_is = c.file_bytes-proof.ensures ∙ ap bytes_for c.proof_bits.ensures.0;
     }

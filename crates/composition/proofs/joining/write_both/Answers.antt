@@ -3,107 +3,107 @@ use Prim.Native.Nat.{ℕ}
 use mathlib.Core.List.{List}
 use mathlib.Core.Path.{◌≡◌, sym, ◌∙◌, ap}
 use native.Mathlib.Omega.{arith}
-use borrow.Author.Rules.{rules}
 use lib.ListN.{length}
 use Rattle.writer.specs.Packing.{bytes_for, packed}
 use Rattle.writer.proofs.Packed.{length_packed}
 use Rattle.derivation.proofs.Buffers.{length_tabulate}
 use Rattle.composition.specs.declared.Composed.TheVariants.{Made, Refused}
+use Rattle.composition.specs.declared.forms.Form.{Form}
+use Rattle.composition.specs.declared.joining.Handlers.{Handlers}
+use Rattle.composition.specs.declared.joining.Lengths.{Lengths}
+use Rattle.composition.specs.declared.numbering.SetNumbers.{SetNumbers}
+use Rattle.composition.specs.declared.numbering.RelationNumbers.{RelationNumbers}
 use Rattle.joint.specs.Composing.{plain, handler_after, proof_after}
 use Rattle.composition.specs.Answers.{composed}
-use Rattle.composition.specs.Refinement.{sets_held, relations_held, node_parts, proof_parts, both_parts, length_fault}
+use Rattle.composition.specs.Refinement.{LengthsAre, sets_held, relations_held, node_parts, proof_parts, both_parts, length_fault}
 use Rattle.composition.proofs.HandlerFields.{width_handler}
 use Rattle.composition.proofs.NewNodes.{proof_length}
 use Rattle.composition.proofs.Deciding.{no_fault, some_fault, Within, within_all}
-use Rattle.composition.proofs.joining.write_both.Goals.{After-length_fault-fault, After-measure-l, Else-fault-ne0, Start}
 use Rattle.composition.proofs.joining.write_both.Goals as goal
 
--- Both files.
-abbrev handlerOf : Start → List ℕ
-handlerOf c = let a = c.args in packed (both_parts a.first.now a.second.now a.both)
+-- Both files and their lengths.
+module _ (n : ℕ) (first second : List ℕ) (both : Handlers) (f g : Form) (sets : List ℕ) (m : SetNumbers) (relations : List ℕ) (k : RelationNumbers) where
+  abbrev handler_of : List ℕ
+  handler_of = packed (both_parts first second both)
 
-abbrev proofOf : Start → List ℕ
-proofOf c =
-    let a = c.args in
-    packed (proof_parts a.n (sets_held a.n a.sets.now a.m.count) (relations_held a.n a.relations.now a.k.right.count)
-    (node_parts a.k a.m a.f a.g))
+  abbrev proof_of : List ℕ
+  proof_of = packed (proof_parts n (sets_held n sets m.count) (relations_held n relations k.right.count) (node_parts k m f g))
 
--- Where the lengths were measured.
+  module _ (l : Lengths) (are : LengthsAre n both f g m k l) where
+    handler_length : l.handler ≡ length handler_of
+    handler_length = are.handler_is ∙ sym (length_packed _ ∙ ap bytes_for (width_handler first both.first.at _ second both.second.at _))
 
+    proof_long : l.proof ≡ length proof_of
+    unfolding sets_held relations_held
+    proof_long = are.proof_is ∙ sym (proof_length n _ _ m k f g (length_tabulate _ _) (length_tabulate _ _))
 
-handler_length : (c : After-measure-l) → c.measure-l.result.handler ≡ length (handlerOf c)
-handler_length c =
-    let a = c.args in
-    c.measure-l.ensures.handler_is ∙ sym (length_packed _ ∙ ap bytes_for (width_handler a.first.now a.both.first.at _ a.second.now a.both.second.at _))
-
-proof_long : (c : After-measure-l) → c.measure-l.result.proof ≡ length (proofOf c)
-unfolding sets_held relations_held
-proof_long c =
-    let a = c.args in
-    c.measure-l.ensures.proof_is ∙ sym (proof_length a.n _ _ a.m a.k a.f a.g (length_tabulate _ _) (length_tabulate _ _))
-
--- The fault of the files.
-fault_is : (c : After-length_fault-fault) → let s = c in
-    c.length_fault-fault.result
-    ≡ length_fault (length (handlerOf s)) (length (proofOf s)) s.args.both.steps (length s.args.hout.now) (length s.args.pout.now)
-fault_is c =
-    let m = c in
-    let s = m in
-    c.length_fault-fault.ensures
-    ∙ (λ i. length_fault (handler_length m i) (proof_long m i) s.args.both.steps (length s.args.hout.now) (length s.args.pout.now))
-
--- Without a fault all lengths are within their limits and have room.
-within : (c : Else-fault-ne0) → let m = c in let l = m.measure-l.result in let a = m.args in
-    Within l.handler l.proof a.both.steps (length a.hout.now) (length a.pout.now)
-within c = within_all _ _ _ _ _ (sym c.length_fault-fault.ensures ∙ c.if-fault-ne0.false)
-
--- That point, from where the handler file is written, and this one from where the proof file is.
-
-
-
-
-pub write-both-spec : {M : Type 1} → statement M
-write-both-spec =
-    tie.close
-    (tie.spec (λ c. search rules) (λ c. search rules) (λ c. search rules) returns-then-fault-ne0
-    (λ c. let e = c in
-    let m = e in
-    let p = m.requires in
-    (p.5.starts, omega (arith, p.5.ends), p.6.starts, omega (arith, p.6.ends), rw (← m.measure-l.ensures.handler_is) (within e).handler_room))
-    (λ c. let e = c in
-    let m = e in
-    let p = m.pre in
-    (p.0, p.1, p.2, p.3, p.4, (within e).proof_room, m.measure-l.ensures.proof_is))
-    (λ c. omega (arith, within (bothFit (c))))
-    (λ c. omega (arith, within (bothFit (c))))
-    (λ c. omega (arith, within (bothFit (c))))
-    (λ c. search rules) (λ c. search rules)
-    (λ c. let proof = c in
-    let handler = proof in
-    let fit = handler in
-    let d = fit in
-    let m = d in
-    let s = m in
-    let a = s.args in
-    let e = no_fault (handlerOf s) (proofOf s) a.both.steps (length a.hout.now) (length a.pout.now)
-    (sym (fault_is d) ∙ fit.if-fault-ne0.left)
-    in (
-      (λ i. Made (record { steps = a.both.steps; handler = handler_length m i; proof = proof_long m i })) ∙ sym (ap composed e),
-      (
-        handler.write_handler.ensures ∙ sym (ap (λ o. handler_after o a.hout.now) e),
-        proof.write_proof.ensures ∙ sym (ap (λ o. proof_after o a.pout.now) e),
-      ),
-    )))
+    -- The fault of the files.
+    fault_is : (room space : ℕ) → length_fault l.handler l.proof both.steps room space
+        ≡ length_fault (length handler_of) (length proof_of) both.steps room space
+    fault_is room space = λ i. length_fault (handler_length i) (proof_long i) both.steps room space
 
 -- The answer is that of the fault.
 pub returns-then-fault-ne0 : goal.returns-then-fault-ne0
 returns-then-fault-ne0 c =
-    let d = c in
-    let s = d in
-    let a = s.args in
-    let is = fault_is (goal.at.returns-then-fault-ne0 c).After-length_fault-fault in
-    let e = some_fault (handlerOf s) (proofOf s) a.both.steps (length a.hout.now) (length a.pout.now) (λ z. c.if-fault-ne0.true (is ∙ z)) in record {
+    let a = c.args in
+    let H = handler_of a.n a.first.now a.second.now a.both a.f a.g a.sets.now a.m a.relations.now a.k in
+    let P = proof_of a.n a.first.now a.second.now a.both a.f a.g a.sets.now a.m a.relations.now a.k in
+    let is = c.length_fault-fault.ensures ∙ fault_is a.n a.first.now a.second.now a.both a.f a.g a.sets.now a.m a.relations.now a.k _ c.measure-l.ensures
+    (length a.hout.now) (length a.pout.now)
+    in
+    let e = some_fault H P a.both.steps (length a.hout.now) (length a.pout.now) (λ z. c.if-fault-ne0.true (is ∙ z)) in record {
       answer = c.refused.ensures ∙ ap (λ k. Refused 0 (plain k)) is ∙ sym (ap composed e);
       handler = sym (ap (λ o. handler_after o a.hout.now) e);
       proof = sym (ap (λ o. proof_after o a.pout.now) e);
+    }
+
+-- Without a fault all lengths are within their limits and have room.
+pub write_handler-requires : goal.write_handler-requires
+write_handler-requires c =
+    let p = c.requires in
+    let within = within_all _ _ _ _ _ (sym c.length_fault-fault.ensures ∙ c.if-fault-ne0.false) in
+    (p.5.starts, omega (arith, p.5.ends), p.6.starts, omega (arith, p.6.ends), rw (← c.measure-l.ensures.handler_is) within.handler_room)
+
+pub write_proof-requires : goal.write_proof-requires
+write_proof-requires c =
+    let p = c.requires in
+    let within = within_all _ _ _ _ _ (sym c.length_fault-fault.ensures ∙ c.if-fault-ne0.false) in
+    (p.0, p.1, p.2, p.3, p.4, within.proof_room, c.measure-l.ensures.proof_is)
+
+pub overflow_cast-result : goal.overflow_cast-result
+overflow_cast-result c =
+    let within : Within c.measure-l.result.handler c.measure-l.result.proof c.args.both.steps (length c.args.hout.now) (length c.args.pout.now) =
+    within_all _ _ _ _ _ (sym c.length_fault-fault.ensures ∙ c.if-fault-ne0.false)
+    in
+    omega (arith, within)
+
+pub overflow_cast-result-2 : goal.overflow_cast-result-2
+overflow_cast-result-2 c =
+    let within : Within c.measure-l.result.handler c.measure-l.result.proof c.args.both.steps (length c.args.hout.now) (length c.args.pout.now) =
+    within_all _ _ _ _ _ (sym c.length_fault-fault.ensures ∙ c.if-fault-ne0.false)
+    in
+    omega (arith, within)
+
+pub overflow_cast-result-3 : goal.overflow_cast-result-3
+overflow_cast-result-3 c =
+    let within : Within c.measure-l.result.handler c.measure-l.result.proof c.args.both.steps (length c.args.hout.now) (length c.args.pout.now) =
+    within_all _ _ _ _ _ (sym c.length_fault-fault.ensures ∙ c.if-fault-ne0.false)
+    in
+    omega (arith, within)
+
+pub returns : goal.returns
+returns c =
+    let a = c.args in
+    let H = handler_of a.n a.first.now a.second.now a.both a.f a.g a.sets.now a.m a.relations.now a.k in
+    let P = proof_of a.n a.first.now a.second.now a.both a.f a.g a.sets.now a.m a.relations.now a.k in
+    let are = c.measure-l.ensures in
+    let is = c.length_fault-fault.ensures ∙ fault_is a.n a.first.now a.second.now a.both a.f a.g a.sets.now a.m a.relations.now a.k _ are
+    (length a.hout.now) (length a.pout.now)
+    in
+    let e = no_fault H P a.both.steps (length a.hout.now) (length a.pout.now) (sym is ∙ c.if-fault-ne0.false) in
+    let long = handler_length a.n a.first.now a.second.now a.both a.f a.g a.sets.now a.m a.relations.now a.k _ are in
+    let long' = proof_long a.n a.first.now a.second.now a.both a.f a.g a.sets.now a.m a.relations.now a.k _ are in record {
+      answer = (λ i. Made (record { steps = a.both.steps; handler = long i; proof = long' i })) ∙ sym (ap composed e);
+      handler = c.write_handler.ensures ∙ sym (ap (λ o. handler_after o a.hout.now) e);
+      proof = c.write_proof.ensures ∙ sym (ap (λ o. proof_after o a.pout.now) e);
     }

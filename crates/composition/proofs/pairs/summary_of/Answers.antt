@@ -2,7 +2,6 @@
 use Prim.Native.Nat.{ℕ}
 use mathlib.Core.Path.{◌≡◌}
 use native.Mathlib.Omega.{arith}
-use borrow.Author.Rules.{rules}
 use Rattle.composition.proofs.pairs.summary_of.Goals as goal
 
 pub returns-in-Pair : goal.returns-in-Pair

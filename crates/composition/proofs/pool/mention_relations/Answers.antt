@@ -17,7 +17,7 @@ use Rattle.composition.proofs.pool.mention_relations.Goals as goal
 next : (c : After-mention_relation-found) →
     let l = c in
     let a = l.args in
-    Mentioned (relations_held a.n l.loop-i.pool l.loop-i.total) (relations_held a.n c.mention_relation-found.new.1.0 c.mention_relation-found.result.count)
+    Mentioned (relations_held a.n l.loop-i.pool l.loop-i.total) (relations_held a.n c.mention_relation-found.new.pool c.mention_relation-found.result.count)
     (relation_where a.n (word_relation a.n a.words.now l.loop-i.i)) c.mention_relation-found.result
 unfolding word_relation
 next c =
@@ -39,15 +39,15 @@ returns-then-found-gt-MOST_TABLES c seen k = let m = c in
     merged_from _ seen _ _ _ _ _ k (omega arith)
     (merged_over _ _ l.loop-i.i _ _ l.loop-i.invariant.4 _ _ (next (goal.at.returns-then-found-gt-MOST_TABLES c).After-mention_relation-found) (search rules) _ (omega arith) _ _)
 
-pub bounds-names-i : goal.bounds-names-i
+pub loop-i-preserved : goal.loop-i-preserved
 unfolding relations_held
-bounds-names-i c = let m = c in
+loop-i-preserved c = let m = c in
     let l = m in (
       omega arith,
       omega arith,
-      c.pool-1.given ∙ l.loop-i.invariant.2,
+      omega (arith, c.mention_relation-found.auto.pool),
       length-set l.loop-i.names l.loop-i.i m.mention_relation-found.result.place ∙ l.loop-i.invariant.3,
-      listed_next _ _ l.loop-i.i _ _ l.loop-i.invariant.4 _ _ (next (goal.at.bounds-names-i c).After-mention_relation-found) (omega arith) (omega arith),
+      listed_next _ _ l.loop-i.i _ _ l.loop-i.invariant.4 _ _ (next (goal.at.loop-i-preserved c).After-mention_relation-found) (omega arith) (omega arith),
     )
 
 pub returns : goal.returns

@@ -40,9 +40,9 @@ returns-then-same_members c = let l = c in
 pub loop-i-preserved : goal.loop-i-preserved
 unfolding relations_held
 loop-i-preserved c = let l = c in (
-      omega arith,
-      not_yet _ _ l.loop-i.i l.loop-i.invariant.1 (λ e. true≢false (sym (compared (goal.at.loop-i-preserved c).After-same_members ∙ relation_alike _ _ _ e) ∙ c.if-same_members.false)),
-    )
+  omega arith,
+  not_yet _ _ l.loop-i.i l.loop-i.invariant.1 (λ e. true≢false (sym (compared (goal.at.loop-i-preserved c).After-same_members ∙ relation_alike _ _ _ e) ∙ c.if-same_members.false)),
+)
 
 pub returns : goal.returns
 unfolding relations_held

@@ -37,9 +37,9 @@ returns-then-same_set c = let l = c in
 pub loop-i-preserved : goal.loop-i-preserved
 unfolding sets_held
 loop-i-preserved c = let l = c in (
-      omega arith,
-      not_yet _ _ l.loop-i.i l.loop-i.invariant.1 (λ e. true≢false (sym (compared (goal.at.loop-i-preserved c).After-same_set ∙ set_alike _ _ _ e) ∙ c.if-same_set.false)),
-    )
+  omega arith,
+  not_yet _ _ l.loop-i.i l.loop-i.invariant.1 (λ e. true≢false (sym (compared (goal.at.loop-i-preserved c).After-same_set ∙ set_alike _ _ _ e) ∙ c.if-same_set.false)),
+)
 
 pub returns : goal.returns
 unfolding sets_held

@@ -10,14 +10,11 @@ use Rattle.composition.proofs.pool.store_relation.Goals as goal
 pub loop-s-init : goal.loop-s-init
 loop-s-init c = (omega arith, rows_start _ _ _)
 
-pub loop-s-smaller : goal.loop-s-smaller
-loop-s-smaller c = let d = c in
+pub loop-s-preserved : goal.loop-s-preserved
+loop-s-preserved c = let d = c in
     let l = d in
     let so = l.loop-s.invariant.1 in
     (omega arith, rw d.put_entry.ensures (rows_next _ _ _ _ _ _ (omega (arith, so.long)) d.row.ensures so))
-
-pub loop-s-preserved : goal.loop-s-preserved
-loop-s-preserved c = c.loop-s.invariant.1.long
 
 pub returns : goal.returns
 returns c = let start = c in

@@ -40,9 +40,9 @@ pub overflow_add-at : goal.overflow_add-at
 unfolding put_bits relation_where
 overflow_add-at c = omega (arith, room c)
 
-pub loop-s-smaller : goal.loop-s-smaller
+pub loop-s-preserved : goal.loop-s-preserved
 unfolding put_bits relation_where
-loop-s-smaller c = let put = c in
+loop-s-preserved c = let put = c in
     let arg = put in
     let l = arg in
     let a = l.args in
@@ -50,12 +50,8 @@ loop-s-smaller c = let put = c in
       omega arith,
       put.put_set.ensures
           ∙ rw (members, l.loop-s.invariant.1)
-          (row_more a.n (word_relation a.n a.words.now a.r) a.out.now a.at l.loop-s.s (omega (arith, room (goal.at.loop-s-smaller c).After-put_set-arg-1)) (omega (arith, room (goal.at.loop-s-smaller c).After-put_set-arg-1))),
+          (row_more a.n (word_relation a.n a.words.now a.r) a.out.now a.at l.loop-s.s (omega (arith, room (goal.at.loop-s-preserved c).After-put_set-arg-1)) (omega (arith, room (goal.at.loop-s-preserved c).After-put_set-arg-1))),
     )
-
-pub loop-s-preserved : goal.loop-s-preserved
-unfolding put_bits relation_where
-loop-s-preserved c = kept (goal.at.loop-s-preserved c).At-loop-s
 
 pub returns : goal.returns
 unfolding put_bits relation_where

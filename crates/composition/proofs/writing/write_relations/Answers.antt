@@ -49,16 +49,12 @@ unfolding put_parts relations_held tabulate
 write_relation-requires c = let l = c in
     (search rules, search rules, (omega (arith, room c, kept (goal.at.write_relation-requires c).At-loop-r), omega (arith, room c)))
 
-pub loop-r-smaller : goal.loop-r-smaller
+pub loop-r-preserved : goal.loop-r-preserved
 unfolding put_parts relations_held tabulate
-loop-r-smaller c = let call = c in
+loop-r-preserved c = let call = c in
     let l = call in
     let a = l.args in
     (omega arith, call.write_relation.ensures ∙ rw l.loop-r.invariant.1 (tables_more (a.n * a.n) _ a.out.now a.at l.loop-r.r))
-
-pub loop-r-preserved : goal.loop-r-preserved
-unfolding put_parts relations_held tabulate
-loop-r-preserved c = kept (goal.at.loop-r-preserved c).At-loop-r
 
 pub returns : goal.returns
 unfolding put_parts relations_held tabulate

@@ -40,9 +40,9 @@ pub overflow_add-at : goal.overflow_add-at
 unfolding put_parts sets_held tabulate
 overflow_add-at c = omega (arith, room c)
 
-pub loop-i-smaller : goal.loop-i-smaller
+pub loop-i-preserved : goal.loop-i-preserved
 unfolding put_parts sets_held tabulate
-loop-i-smaller c = let put = c in
+loop-i-preserved c = let put = c in
     let arg = put in
     let l = arg in
     let a = l.args in
@@ -50,12 +50,8 @@ loop-i-smaller c = let put = c in
       omega arith,
       put.put_set.ensures
           ∙ rw (members, l.loop-i.invariant.1)
-          (set_more a.n (word_set a.n a.words.now) a.out.now a.at l.loop-i.i (omega (arith, room (goal.at.loop-i-smaller c).After-put_set-arg-1)) (omega (arith, room (goal.at.loop-i-smaller c).After-put_set-arg-1))),
+          (set_more a.n (word_set a.n a.words.now) a.out.now a.at l.loop-i.i (omega (arith, room (goal.at.loop-i-preserved c).After-put_set-arg-1)) (omega (arith, room (goal.at.loop-i-preserved c).After-put_set-arg-1))),
     )
-
-pub loop-i-preserved : goal.loop-i-preserved
-unfolding put_parts sets_held tabulate
-loop-i-preserved c = kept (goal.at.loop-i-preserved c).At-loop-i
 
 pub returns : goal.returns
 unfolding put_parts sets_held tabulate
