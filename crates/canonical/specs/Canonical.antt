@@ -7,7 +7,6 @@ use Rattle.checker.specs.declared.Place.TheVariants.{Bit}
 use Rattle.checker.specs.declared.Verdict.{Verdict}
 use Rattle.checker.specs.declared.Verdict.TheVariants.{Accepted, Refused}
 use Rattle.canonical.specs.declared.Outcome.{Outcome}
-use Rattle.canonical.specs.declared.Outcome.TheVariants as Outcome
 use Rattle.form.specs.Members.{by_members}
 use Rattle.form.specs.Form.{form_of}
 

@@ -19,9 +19,7 @@ use Rattle.checker.specs.Verdicts.{answer}
 use Rattle.checker.proofs.Bounds.{Bounded, bounded}
 use Rattle.report.specs.Code.{place_kind, index_of, code_of}
 use Rattle.report.proofs.Decoding.{place_small}
-use Rattle.composition.specs.declared.Made.{Made}
 use Rattle.composition.specs.declared.Composed.{Composed}
-use Rattle.composition.specs.declared.Composed.TheVariants as Composed
 use Rattle.composition.specs.Coding.{number_of, without_states, of_number}
 use Rattle.joint.specs.Composing.{Composition, made, refused, plain, asked, compose, with_room, compose_into, side_of}
 use Rattle.composition.specs.Answers.{composed, MadeIsAccepted}

@@ -17,7 +17,6 @@ use Rattle.form.specs.Form.{sets_in, relations_in, numbered, parts_of, file_part
 use Rattle.form.proofs.Renaming.{nodes_rename, node_bits_rename, parts_renamed}
 use Rattle.form.proofs.Numbered.{numbered_known}
 use Rattle.form.proofs.NodesBack.{width_nodes}
-use Rattle.form.proofs.FileBack.{width_file}
 use Rattle.canonical.specs.Nodes.{name_in, held_in}
 use Rattle.canonical.proofs.Numbered.{nodes_held}
 use Rattle.composition.specs.declared.forms.Form.{Form}

@@ -6,7 +6,6 @@ use lib.ListN.{length}
 use Rattle.checker.specs.declared.Fault.{Fault}
 use Rattle.joint.specs.Composing.{Composition, refused, with_room, handler_after, proof_after}
 use Rattle.composition.specs.declared.Composed.{Composed}
-use Rattle.composition.specs.declared.Composed.TheVariants as Composed
 use Rattle.composition.specs.Answers.{composed}
 
 module _ (hout pout : List ℕ) where

@@ -16,7 +16,6 @@ use Rattle.checker.specs.declared.Verdict.TheVariants.{Accepted}
 use Rattle.checker.specs.Verdicts.{answer}
 use Rattle.composition.specs.declared.Made.{Made}
 use Rattle.composition.specs.declared.Composed.{Composed}
-use Rattle.composition.specs.declared.Composed.TheVariants as Composed
 use Rattle.joint.specs.Composing.{Composition, made, refused, plain, asked, compose, work_after, with_room, compose_into, handler_after, proof_after}
 use Rattle.composition.specs.Answers.{composed, MadeIsAccepted}
 use Rattle.joint.proofs.Theorems.{made_accepted}

@@ -7,7 +7,6 @@ use Rattle.checker.specs.Verdicts.{answer}
 use Rattle.joint.specs.Composing.{Composition, made, refused}
 use Rattle.composition.specs.declared.Made.{Made}
 use Rattle.composition.specs.declared.Composed.{Composed}
-use Rattle.composition.specs.declared.Composed.TheVariants as Composed
 
 -- The answer.
 abbrev pub composed : Composition → Composed

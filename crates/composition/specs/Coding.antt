@@ -5,7 +5,6 @@ use Rattle.checker.specs.declared.Place.TheVariants.{Bit, Node}
 use Rattle.checker.specs.declared.Verdict.TheVariants.{Refused}
 use Rattle.report.specs.Code.{code_of}
 use Rattle.composition.specs.declared.Composed.{Composed}
-use Rattle.composition.specs.declared.Composed.TheVariants as Composed
 
 -- The top bit is 0 where files were written: the step number, and from bit 32 and bit 47 on the lengths of the handler file and the proof
 -- file. It is 1 for a refusal: the pair from bit 48 on, and below it the fault as the check codes it.

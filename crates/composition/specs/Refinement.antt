@@ -28,7 +28,6 @@ use Rattle.form.specs.Form.{sets_in, relations_in, numbered, parts_of}
 use Rattle.form.proofs.Forms.{Writable}
 use Rattle.canonical.specs.Nodes.{name_in, held_in}
 use Rattle.composition.specs.declared.Composed.{Composed}
-use Rattle.composition.specs.declared.Composed.TheVariants as Composed
 use Rattle.composition.specs.declared.tables.Roots.{Roots}
 use Rattle.composition.specs.declared.forms.Form.{Form}
 use Rattle.composition.specs.declared.joining.Handlers.{Handlers}

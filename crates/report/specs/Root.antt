@@ -9,7 +9,7 @@ use Rattle.pair.specs.Reading.{states_of, PairRead, pair, faulty, long, read_pai
 abbrev pub root_number : ℕ → Names → ℕ
 root_number n h = n + 2 ^ 8 * h.p + 2 ^ 16 * h.r + 2 ^ 24 * h.g + 2 ^ 32 * h.q
 
--- The root of a pair; 0 where a file is too long or ill_formed (2 and 10 to 25). No condition is looked at.
+-- The root of a pair; 0 where a file is too long or ill-formed (2 and 10 to 25). No condition is looked at.
 abbrev pub root_in : PairRead → ℕ
 root_in long = 0
 root_in (faulty k place) = 0

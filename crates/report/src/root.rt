@@ -18,7 +18,7 @@ fn pack(states: u32, names: Names) -> u64
     states as u64 + ROOM * (names.p as u64 + ROOM * relations)
 }
 
-// N and the numbers of the root's P, R, G and Q; 0 where a file is too long or ill_formed. The conditions are not looked at.
+// N and the numbers of the root's P, R, G and Q; 0 where a file is too long or ill-formed. The conditions are not looked at.
 pub fn root_number(handler: &[u8], proof: &[u8]) -> u64
     ensures { result ≡ root_of handler.now proof.now }
 {

@@ -24,7 +24,7 @@ first_bits bit (conditional h d) = bit ∷ first_bits (bit + 19) d
 first_bits bit (iteration h K W d) = bit ∷ first_bits (bit + 27) d
 first_bits bit (weaken h d) = bit ∷ first_bits (bit + 19) d
 
--- A pair of which a file is too long or ill_formed (2 and 10 to 25) has no nodes.
+-- A pair of which a file is too long or ill-formed (2 and 10 to 25) has no nodes.
 abbrev pub bits_in : PairRead → List ℕ
 bits_in long = []
 bits_in (faulty k place) = []

@@ -6,7 +6,7 @@ use super::byte_of;
 use derivation::table::node_at;
 use pair::{PairFound, read_pair};
 
-// The byte of a node of two files; the proof file's length where a file is too long or ill_formed, or there is no such node.
+// The byte of a node of two files; the proof file's length where a file is too long or ill-formed, or there is no such node.
 pub(crate) fn node_byte(handler: &[u8], proof: &[u8], node: usize) -> usize
     ensures { result ≡ node_byte proof.now (first_bits_of handler.now proof.now) node }
 {

@@ -1,6 +1,5 @@
 -- The number is the code of the outcome, which it determines (`form_decoded`).
 use mathlib.Core.Path.{◌∙◌, ap}
-use borrow.Author.Rules.{rules}
 use Rattle.report.specs.Code.{code_of, decoded}
 use Rattle.canonical.specs.Canonical.{as_verdict}
 use Rattle.canonical.proofs.Theorems.{form_decoded}

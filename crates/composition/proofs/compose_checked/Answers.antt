@@ -1,7 +1,6 @@
 -- By cases of both verdicts.
 use mathlib.Core.Path.{◌≡◌, refl, sym, ◌∙◌, ap}
 use native.Mathlib.Omega.{arith}
-use borrow.Author.Rules.{rules}
 use lib.ListN.{length}
 use Rattle.derivation.specs.Tables.{written}
 use Rattle.pair.specs.Modes.{rows}

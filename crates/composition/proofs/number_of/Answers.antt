@@ -1,7 +1,6 @@
 -- Each arm is the definition's case; the parts are small, so no number wraps.
 use mathlib.Core.Path.{subst}
 use native.Mathlib.Omega.{arith}
-use borrow.Author.Rules.{rules}
 use Rattle.composition.specs.declared.Composed.TheVariants as Composed
 use Rattle.composition.specs.Coding.{number_of}
 use Rattle.composition.specs.Refinement.{Small}

@@ -2,8 +2,7 @@
 use mathlib.Core.Path.{◌≡◌}
 use native.Mathlib.Omega.{arith}
 use native.Mathlib.Numerals.{add-one}
-use borrow.Author.Rules.{rules}
-use lib.ListN.{length, length-set}
+use lib.ListN.{length}
 use lib.Seq.{paste-zero, paste-suc}
 use Rattle.report.proofs.Writing.{pasted}
 use Rattle.report.proofs.put.Goals as goal

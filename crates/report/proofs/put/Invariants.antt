@@ -1,7 +1,5 @@
 -- After k rounds the first k bytes of the text are pasted; `pasted` gives the result for all of them.
-use Prim.Native.Nat.{◌-◌, ◌≤◌}
 use mathlib.Core.Path.{◌≡◌}
-use lib.ListN.{length}
 use lib.Seq.{paste}
 use Rattle.report.proofs.put.Given as goal
 

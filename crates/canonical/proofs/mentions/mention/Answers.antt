@@ -3,7 +3,6 @@ use Prim.Native.Nat.{◌≤◌, ◌<◌}
 use mathlib.Core.Bool.{false}
 use mathlib.Core.Path.{◌≡◌, sym}
 use native.Mathlib.Omega.{arith}
-use borrow.Author.Rules.{rules}
 use lib.ListN.{length, take}
 use lib.Seq.{length-take-le}
 use Rattle.form.specs.Mentions.{is_in, place_in, all_mentioned}
@@ -26,9 +25,6 @@ free c =
 
 inside : (c : Else-place-count) → c.args.count < length c.args.order.now
 inside c = omega (arith, (free c).1, c.requires.0.length_enough)
-
-pub place_in-place-requires : goal.place_in-place-requires
-place_in-place-requires c = omega (arith, c.requires.0.length_enough, c.requires.0.count_most)
 
 pub returns-then-place-count : goal.returns-then-place-count
 unfolding all_mentioned

@@ -1,20 +1,12 @@
 -- After each round both buffers have the mentions of the first i nodes.
-use Prim.Native.Nat.{◌-◌, ◌≤◌}
-use mathlib.Core.Path.{◌≡◌}
 use native.Mathlib.Omega.{arith}
 use borrow.Author.Rules.{rules}
 use Rattle.form.specs.Mentions.{sets_of, relations_of}
-use Rattle.canonical.proofs.Order.{SoFar, so_far_none, so_far_more}
+use Rattle.canonical.proofs.Order.{so_far_none, so_far_more}
 use Rattle.canonical.proofs.mentions.mention_nodes.Goals as goal
 
 pub loop-i-init : goal.loop-i-init
 loop-i-init c = (omega arith, so_far_none _ _ _ _ (search rules), so_far_none _ _ _ _ (search rules))
-
-pub mention_sets-set_count-requires : goal.mention_sets-set_count-requires
-mention_sets-set_count-requires c = c.loop-i.invariant.1.listing
-
-pub mention_relations-relation_count-requires : goal.mention_relations-relation_count-requires
-mention_relations-relation_count-requires c = c.loop-i.invariant.2.listing
 
 pub loop-i-preserved : goal.loop-i-preserved
 loop-i-preserved c =
@@ -24,9 +16,3 @@ loop-i-preserved c =
       so_far_more sets_of _ _ _ l.i _ _ _ _ (omega arith) l.invariant.1 (rw (← node) c.mention_sets-set_count.ensures) (search rules),
       so_far_more relations_of _ _ _ l.i _ _ _ _ (omega arith) l.invariant.2 (rw (← node) c.mention_relations-relation_count.ensures) (search rules),
     )
-
-pub returns : goal.returns
-returns c =
-    let l = c.loop-i in
-    let all : l.i ≡ c.args.count = omega arith in
-    record { sets = rw (← all) l.invariant.1.after; relations = rw (← all) l.invariant.2.after }

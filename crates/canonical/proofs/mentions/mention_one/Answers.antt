@@ -5,6 +5,3 @@ use Rattle.canonical.proofs.mentions.mention_one.Goals as goal
 
 pub mention-requires : goal.mention-requires
 mention-requires c = (search rules, rw c.name_in.ensures (name_below _ _))
-
-pub returns : goal.returns
-returns c = rw (← c.name_in.ensures) c.mention.ensures

@@ -1,5 +1,4 @@
 -- By cases of the rule.
-use borrow.Author.Rules.{rules}
 use borrow.Author.Tests.{eq-eqb, ne_eqb}
 use Rattle.form.specs.Mentions.{sets_of}
 use Rattle.canonical.proofs.mentions.mention_sets.Goals as goal

@@ -6,10 +6,7 @@ use Rattle.canonical.proofs.mentions.mention_two.Goals as goal
 
 pub mention_one-requires : goal.mention_one-requires
 mention_one-requires c =
-    let start = c in
-    let first = c.mention_one-after in
-    listing_after _ _ _ _ _ start.requires (search rules) (named_below start.args.reps.now (start.args.i ∷ [])) first.ensures
+    listing_after _ _ _ _ _ c.requires (search rules) (named_below c.args.reps.now (c.args.i ∷ [])) c.mention_one-after.ensures
 
 pub returns : goal.returns
-returns c =
-    after_again _ _ _ _ _ _ _ _ c.mention_one-after.ensures c.mention_one.ensures
+returns c = after_again _ _ _ _ _ _ _ _ c.mention_one-after.ensures c.mention_one.ensures

@@ -1,5 +1,4 @@
 use mathlib.Core.Path.{refl}
-use borrow.Author.Rules.{rules}
 use Rattle.canonical.specs.Nodes.{name_in}
 use Rattle.canonical.proofs.mentions.name_in.Goals as goal
 

@@ -5,7 +5,7 @@ use native.Mathlib.Omega.{arith}
 use borrow.Author.Rules.{rules}
 use lib.ListN.{length}
 use Rattle.states.specs.Sets.{capacity}
-use Rattle.semantics.specs.Derivations.{Derivation, nodes}
+use Rattle.semantics.specs.Derivations.{Derivation}
 use Rattle.derivation.specs.Tables.{most_tables}
 use Rattle.derivation.specs.Reading.{proof}
 use Rattle.derivation.proofs.Files.{read_known}

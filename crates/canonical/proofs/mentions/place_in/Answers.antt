@@ -1,10 +1,7 @@
 -- None of the first k entries is x.
-use Prim.Native.Nat.{◌-◌, ◌≤◌}
-use mathlib.Core.Bool.{false}
 use mathlib.Core.Path.{◌≡◌, refl, sym}
 use native.Mathlib.Omega.{arith}
 use borrow.Author.Rules.{rules}
-use lib.ListN.{take}
 use Rattle.form.specs.Mentions.{is_in}
 use Rattle.canonical.proofs.Order.{not_yet, found_at, nowhere}
 use Rattle.canonical.proofs.mentions.place_in.Goals as goal

@@ -1,22 +1,17 @@
 -- Each round adds the bits of one node; they are at most 27.
-use Prim.Native.Nat.{◌-◌, ◌*◌, ◌≤◌}
+use Prim.Native.Nat.{◌≤◌}
 use mathlib.Core.Path.{◌≡◌, ◌∙◌, ap}
 use native.Mathlib.Omega.{arith}
-use borrow.Author.Rules.{rules}
-use lib.ListN.{take}
 use Rattle.writer.specs.Packing.{width_of}
 use Rattle.derivation.specs.NodeTable.{node_in}
 use Rattle.form.specs.Form.{parts_of}
-use Rattle.canonical.specs.Nodes.{held_in}
 use Rattle.canonical.proofs.Order.{held_none}
 use Rattle.canonical.proofs.NodeFields.{width_most, width_more}
 use Rattle.canonical.proofs.nodes.nodes_width.Goals.{After-node_width-width}
 use Rattle.canonical.proofs.nodes.nodes_width.Goals as goal
 
 -- The bits of the node of this round.
-added : (c : After-node_width-width) →
-    let l = c in
-    c.node_width-width.result ≡ width_of (parts_of (node_in l.args.nodes.now l.loop-i.i))
+added : (c : After-node_width-width) → c.node_width-width.result ≡ width_of (parts_of (node_in c.args.nodes.now c.loop-i.i))
 added c = c.node_width-width.ensures ∙ ap (λ x. width_of (parts_of x)) c.node_at.ensures
 
 few : (c : After-node_width-width) → c.node_width-width.result ≤ 27
@@ -32,12 +27,6 @@ overflow_add-width c = omega (arith, few c, c.loop-i.invariant.2)
 
 pub loop-i-preserved : goal.loop-i-preserved
 unfolding width_of
-loop-i-preserved c = let l = c in
-    let more = width_more l.args.nodes.now l.loop-i.i (omega arith) in
-    (omega arith, omega (arith, l.loop-i.invariant.1, added c, more), omega (arith, few c, l.loop-i.invariant.2))
-
-pub returns : goal.returns
-unfolding width_of
-returns c = let n = c in
-    let all : c.loop-i.i ≡ n.node_count-i-end.result = omega arith in
-    rw (all, n.node_count-i-end.ensures.2) at c.loop-i.invariant.1
+loop-i-preserved c =
+    let more = width_more c.args.nodes.now c.loop-i.i (omega arith) in
+    (omega arith, omega (arith, c.loop-i.invariant.1, added c, more), omega (arith, few c, c.loop-i.invariant.2))

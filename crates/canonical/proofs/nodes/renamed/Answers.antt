@@ -3,7 +3,6 @@ use Prim.Native.Nat.{ℕ, ◌^◌, ◌<◌}
 use mathlib.Core.List.{List}
 use mathlib.Core.Path.{◌≡◌}
 use native.Mathlib.Omega.{arith}
-use borrow.Author.Rules.{rules}
 use Rattle.canonical.specs.Nodes.{name_in}
 use Rattle.canonical.proofs.Order.{name_below}
 use Rattle.canonical.proofs.nodes.renamed.Goals as goal
@@ -28,12 +27,3 @@ overflow_cast-result-5 c = omega (arith, small _ _ _ c.name_in-5.ensures)
 
 pub overflow_cast-result-6 : goal.overflow_cast-result-6
 overflow_cast-result-6 c = omega (arith, small _ _ _ c.name_in-6.ensures)
-
-pub returns : goal.returns
-returns c = let w = c in
-    let k = w in
-    let q = k in
-    let g = q in
-    let r = g in
-    let p = r in
-    rw (p.name_in.ensures, r.name_in-2.ensures, g.name_in-3.ensures, q.name_in-4.ensures, k.name_in-5.ensures, w.name_in-6.ensures)

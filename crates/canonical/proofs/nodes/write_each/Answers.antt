@@ -1,16 +1,15 @@
 -- Each round writes the fields of one node after those of the nodes before it.
-use Prim.Native.Nat.{◌+◌, ◌-◌, ◌≤◌, ◌<◌}
+use Prim.Native.Nat.{◌<◌}
 use mathlib.Core.List.{List}
 use mathlib.Core.Path.{◌≡◌, sym, ◌∙◌, ap}
 use native.Mathlib.Omega.{arith}
-use borrow.Author.Rules.{rules}
-use lib.ListN.{length, take}
+use lib.ListN.{length}
 use Rattle.writer.specs.Packing.{Part, width_of, put_parts, put_all}
 use Rattle.writer.proofs.Packed.{length_parts, all_fits}
 use Rattle.derivation.specs.NodeTable.{node_in}
 use Rattle.form.specs.Members.{node_by}
 use Rattle.form.specs.Form.{parts_of}
-use Rattle.canonical.specs.Nodes.{name_in, held_in}
+use Rattle.canonical.specs.Nodes.{name_in}
 use Rattle.canonical.specs.Refinement.{Room}
 use Rattle.canonical.proofs.Order.{held_none}
 use Rattle.canonical.proofs.NodeFields.{width_renamed, width_more, width_within, renamed_parts, put_next}
@@ -65,8 +64,3 @@ loop-i-preserved c =
           ∙ (λ k. put_parts (l.invariant.2 k) (l.invariant.1 k) (own at.In-loop-i))
           ∙ sym (put_next a.sets.now a.relations.now _ _ a.nodes.now l.i inside),
     )
-
-pub returns : goal.returns
-returns c =
-    let all : c.loop-i.i ≡ c.args.count = omega arith in
-    rw all at c.loop-i.invariant.2

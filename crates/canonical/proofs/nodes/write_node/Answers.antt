@@ -1,5 +1,4 @@
 -- By cases of the rule: the fields of the node are one field.
-use borrow.Author.Rules.{rules}
 use Rattle.canonical.proofs.NodeFields.{put_while, put_other}
 use Rattle.canonical.proofs.nodes.write_node.Goals as goal
 

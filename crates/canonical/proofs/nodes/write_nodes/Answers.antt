@@ -1,7 +1,6 @@
 -- The room is that of the nodes under their old names, which have as many bits; `write_each` writes them if there is room.
 use Prim.Native.Nat.{min}
 use mathlib.Core.Path.{◌≡◌, sym, ◌∙◌, ap}
-use borrow.Author.Rules.{rules}
 use lib.ListN.{take}
 use Rattle.writer.specs.Writing.{has_room}
 use Rattle.writer.specs.Packing.{width_of, put_parts, put_all}
@@ -24,20 +23,19 @@ tested c =
 
 pub write_each-requires : goal.write_each-requires
 unfolding put_all
-write_each-requires c = let h = c in
-    let a = h.args in
-    let room = in_room a.out.now a.at _ (sym h.has_room.ensures ∙ c.if-has_room.true) in
-    let width = ap (λ ws. width_of (held_in parts_of ws)) c.node_count.ensures.2 ∙ sym h.nodes_width.ensures in
+write_each-requires c =
+    let a = c.args in
+    let room = in_room a.out.now a.at _ (sym c.has_room.ensures ∙ c.if-has_room.true) in
+    let width = ap (λ ws. width_of (held_in parts_of ws)) c.node_count.ensures.2 ∙ sym c.nodes_width.ensures in
     (c.node_count.ensures.1, (rw width room.0, rw width room.1))
 
 pub returns-then-has_room : goal.returns-then-has_room
 unfolding put_all
-returns-then-has_room c = let n = c in
-    let h = n in
-    let a = h.args in
-    rw (tested (goal.at.returns-then-has_room c).After-has_room, n.if-has_room.true)
+returns-then-has_room c =
+    let a = c.args in
+    rw (tested (goal.at.returns-then-has_room c).After-has_room, c.if-has_room.true)
     (c.write_each.ensures
-    ∙ ap (λ ws. put_parts a.out.now a.at (held_in (renamed_parts a.sets.now a.relations.now) ws)) n.node_count.ensures.2)
+    ∙ ap (λ ws. put_parts a.out.now a.at (held_in (renamed_parts a.sets.now a.relations.now) ws)) c.node_count.ensures.2)
 
 pub returns-else-has_room : goal.returns-else-has_room
 unfolding put_all

@@ -1,8 +1,6 @@
 -- No table before j has the members of table i: its mix differs, or its bits do.
-use Prim.Native.Nat.{ℕ, ◌-◌, ◌≤◌, ◌<◌}
-use mathlib.Core.Path.{◌≡◌, refl, sym, ◌∙◌}
+use mathlib.Core.Path.{◌≡◌, sym, ◌∙◌}
 use native.Mathlib.Omega.{arith}
-use borrow.Author.Rules.{rules}
 use borrow.Author.Tests.{eqb-true, eqb-false}
 use lib.Dec.{eqb}
 use Rattle.bits.specs.Fields.{bits_at}
@@ -13,9 +11,8 @@ use Rattle.canonical.proofs.tables.least_equal.Goals as goal
 
 -- The bits of the two tables were compared.
 compared : (c : After-same_bits) →
-    let l = c in
-    let a = l.args in
-    c.same_bits.result ≡ eqb (members_in a.src.now a.run l.loop-j.j) (members_in a.src.now a.run a.i)
+    let a = c.args in
+    c.same_bits.result ≡ eqb (members_in a.src.now a.run c.loop-j.j) (members_in a.src.now a.run a.i)
 unfolding members_in
 compared c =
     let a = c.args in
@@ -27,17 +24,11 @@ compared c =
 pub loop-j-preserved-then-mixes-j : goal.loop-j-preserved-then-mixes-j
 loop-j-preserved-then-mixes-j c =
     let l = c.loop-j in
-    let s = c in
+    let a = c.args in
     let differs : members_in _ _ _ ≡ members_in _ _ _ → ⊥ =
-    λ same. c.if-mixes-j.true (mix_of_members _ s.args.run s.args.mixes.now s.args.i s.requires.2 l.j l.invariant.0 same)
+    λ same. c.if-mixes-j.true (mix_of_members _ a.run a.mixes.now a.i c.requires.2 l.j l.invariant.0 same)
     in
     (omega arith, below_more _ l.j l.invariant.1 differs)
-
-pub loop-j-init : goal.loop-j-init
-loop-j-init c = (omega arith, λ k under. absurd (omega arith))
-
-pub same_bits-requires : goal.same_bits-requires
-same_bits-requires c = (c.table_cursor.ensures.1, c.table_cursor-at.ensures.1, search rules)
 
 pub returns-then-same_bits : goal.returns-then-same_bits
 returns-then-same_bits c = let l = c.loop-j in
@@ -47,6 +38,3 @@ pub loop-j-preserved : goal.loop-j-preserved
 loop-j-preserved c = let l = c.loop-j in
     let differs : members_in _ _ _ ≡ members_in _ _ _ → ⊥ = eqb-false _ _ (sym (compared (goal.at.loop-j-preserved c).After-same_bits) ∙ c.if-same_bits.false) in
     (omega arith, below_more _ l.j l.invariant.1 differs)
-
-pub returns : goal.returns
-returns c = record { within = omega arith; same = refl; first = λ k under. c.loop-j.invariant.1 k (omega arith) }

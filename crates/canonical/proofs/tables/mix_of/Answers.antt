@@ -1,5 +1,5 @@
 -- After each round `mix` is the mix of the first k words.
-use Prim.Native.Nat.{◌-◌, ◌/◌, ◌%◌, ◌≤◌}
+use Prim.Native.Nat.{◌/◌, ◌%◌}
 use mathlib.Core.Path.{◌≡◌, refl, sym, ◌∙◌, ap}
 use native.Mathlib.Omega.{arith}
 use borrow.Author.Rules.{rules}
@@ -22,18 +22,6 @@ returns c =
     let left = c.number_at-2.ensures ∙ number_bits _ _ (a.width % 64) (omega arith) in
     c.mixed.ensures ∙ (λ i. mix_with (words i) (left i))
 
-pub overflow_mul-k : goal.overflow_mul-k
-overflow_mul-k c = omega arith
-
-pub overflow_add-at : goal.overflow_add-at
-overflow_add-at c = omega arith
-
 pub loop-k-preserved : goal.loop-k-preserved
 loop-k-preserved c = let word = c.number_at.ensures ∙ number_bits _ _ 64 (omega arith) in
     (omega arith, c.mixed-mix.ensures ∙ (λ i. mix_with (c.loop-k.invariant.1 i) (word i)) ∙ sym (mix_more _ _ _))
-
-pub overflow_mul-words : goal.overflow_mul-words
-overflow_mul-words c = omega arith
-
-pub overflow_add-at-2 : goal.overflow_add-at-2
-overflow_add-at-2 c = omega arith

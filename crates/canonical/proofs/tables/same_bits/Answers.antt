@@ -1,5 +1,5 @@
 -- After each round the first `done` bits are equal. A word that differs shows that the whole differs.
-use Prim.Native.Nat.{◌+◌, ◌-◌, ◌≤◌}
+use Prim.Native.Nat.{◌+◌, ◌-◌}
 use mathlib.Core.Path.{◌≡◌, refl, sym, ◌∙◌}
 use native.Mathlib.Omega.{arith}
 use borrow.Author.Rules.{rules}
@@ -20,14 +20,6 @@ pub loop-done-init : goal.loop-done-init
 unfolding bits_at
 loop-done-init c = (search rules, refl)
 
-pub overflow_add-a : goal.overflow_add-a
-unfolding bits_at
-overflow_add-a c = omega arith
-
-pub overflow_add-b : goal.overflow_add-b
-unfolding bits_at
-overflow_add-b c = omega arith
-
 pub returns-then-number_at : goal.returns-then-number_at
 unfolding bits_at
 returns-then-number_at c = let a = c.args in
@@ -38,14 +30,6 @@ pub loop-done-preserved : goal.loop-done-preserved
 unfolding bits_at
 loop-done-preserved c = let w = words (goal.at.loop-done-preserved c).After-number_at-in-loop-done in
     (omega arith, same_more _ _ _ _ 64 c.loop-done.invariant.1 (sym w.0 ∙ c.if-number_at.false ∙ w.1))
-
-pub overflow_add-a-2 : goal.overflow_add-a-2
-unfolding bits_at
-overflow_add-a-2 c = omega arith
-
-pub overflow_add-b-2 : goal.overflow_add-b-2
-unfolding bits_at
-overflow_add-b-2 c = omega arith
 
 pub returns : goal.returns
 unfolding bits_at

@@ -1,13 +1,7 @@
 -- After each round the first `done` bits are equal. A word that differs shows that the whole differs.
-use Prim.Native.Nat.{◌+◌, ◌-◌, ◌≤◌}
-use mathlib.Core.Path.{◌≡◌, refl, sym, ◌∙◌}
-use native.Mathlib.Omega.{arith}
-use borrow.Author.Rules.{rules}
-use borrow.Author.Tests.{ne_eqb}
-use lib.Dec.{eqb}
+use Prim.Native.Nat.{◌-◌, ◌≤◌}
+use mathlib.Core.Path.{◌≡◌}
 use Rattle.bits.specs.Fields.{bits_at}
-use Rattle.bits.proofs.Laws.{number_bits}
-use Rattle.canonical.proofs.Equal.{same_more, same_part, same_last}
 use Rattle.canonical.proofs.tables.same_bits.Given as goal
 
 abbrev pub invariant-loop-done : goal.invariant-loop-done

@@ -17,21 +17,6 @@ few c =
     let words = take (min a.count 127) a.nodes.now in
     omega (arith, c.nodes_width.ensures, nodes_most words, length-take (min a.count 127) a.nodes.now)
 
-pub overflow_mul-result : goal.overflow_mul-result
-overflow_mul-result c = omega (arith, small (goal.at.overflow_mul-result c).Start)
-
-pub overflow_add-result : goal.overflow_add-result
-overflow_add-result c = omega (arith, small (goal.at.overflow_add-result c).Start)
-
-pub overflow_mul-result-2 : goal.overflow_mul-result-2
-overflow_mul-result-2 c = omega (arith, small (goal.at.overflow_mul-result-2 c).Start)
-
-pub overflow_mul-result-3 : goal.overflow_mul-result-3
-overflow_mul-result-3 c = omega (arith, small (goal.at.overflow_mul-result-3 c).Start)
-
-pub overflow_add-result-2 : goal.overflow_add-result-2
-overflow_add-result-2 c = omega (arith, small (goal.at.overflow_add-result-2 c).Start)
-
 pub overflow_add-result-3 : goal.overflow_add-result-3
 overflow_add-result-3 c = omega (arith, small (goal.at.overflow_add-result-3 c).Start, few c)
 

@@ -1,5 +1,5 @@
 -- After k rounds the first k tables are written; `tables_more` adds one.
-use Prim.Native.Nat.{◌+◌, ◌-◌, ◌*◌, ◌≤◌}
+use Prim.Native.Nat.{◌+◌, ◌*◌, ◌≤◌}
 use mathlib.Core.Path.{◌≡◌, refl, ◌∙◌, ap}
 use native.Mathlib.Omega.{arith}
 use borrow.Author.Rules.{rules}
@@ -8,7 +8,7 @@ use Rattle.writer.specs.Packing.{put_parts}
 use Rattle.writer.proofs.Copied.{copied_fits}
 use Rattle.writer.proofs.Packed.{length_parts}
 use Rattle.canonical.specs.Refinement.{members_in, members_of}
-use Rattle.canonical.proofs.Copying.{table_parts, tables_more, table_within}
+use Rattle.canonical.proofs.Copying.{tables_more, table_within}
 use Rattle.canonical.proofs.writing.write_tables.Goals.{In-loop-k}
 use Rattle.canonical.proofs.writing.write_tables.Goals as goal
 
@@ -19,12 +19,6 @@ room c = table_within _ _ _ (omega arith)
 pub loop-k-init : goal.loop-k-init
 unfolding members_of put_parts
 loop-k-init c = (search rules, refl)
-
-pub overflow_mul-run : goal.overflow_mul-run
-overflow_mul-run c = omega (arith, room (goal.at.overflow_mul-run c).In-loop-k)
-
-pub overflow_add-at : goal.overflow_add-at
-overflow_add-at c = omega (arith, room (goal.at.overflow_add-at c).In-loop-k)
 
 pub loop-k-preserved : goal.loop-k-preserved
 unfolding members_in
@@ -42,8 +36,3 @@ loop-k-preserved c =
       c.copy.ensures ∙ rw (fits, c.table_cursor.ensures.0, l.invariant.1)
           (tables_more a.src.now a.run a.order.now a.out.now a.at l.k (omega arith)),
     )
-
-pub returns : goal.returns
-returns c =
-    let all : c.loop-k.k ≡ c.args.count = omega arith in
-    rw all at c.loop-k.invariant.1

@@ -1,7 +1,6 @@
 -- The set has the states of the met P, and both G are asked of it.
 use mathlib.Core.Bool.{◌&&◌}
 use mathlib.Core.Path.{◌∙◌, ap, ap₂, fun_ext}
-use borrow.Author.Rules.{rules}
 use Rattle.rules.specs.Words.{word_relation}
 use Rattle.joint.specs.Composing.{stays_in}
 use Rattle.composition.proofs.asking.both_stay.Goals as goal

@@ -1,7 +1,6 @@
 -- Every state below n is in the set that is asked (`from_every`).
 use mathlib.Core.Path.{◌∙◌}
 use native.Mathlib.Omega.{arith}
-use borrow.Author.Rules.{rules}
 use borrow.Author.Tests.{lt-ltb}
 use Rattle.states.specs.Search.{implies, all}
 use Rattle.states.specs.Sets.{capacity, has}

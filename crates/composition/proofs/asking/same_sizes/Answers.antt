@@ -1,5 +1,4 @@
 -- The four sizes are those of the heads, and `heads_same` compares the heads.
-use borrow.Author.Rules.{rules}
 use Rattle.states.specs.Search.{all}
 use Rattle.composition.proofs.Asked.{heads_same}
 use Rattle.composition.proofs.asking.same_sizes.Goals as goal

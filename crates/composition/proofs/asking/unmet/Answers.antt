@@ -1,5 +1,4 @@
 -- The conditions are asked in the order of the definition.
-use borrow.Author.Rules.{rules}
 use Rattle.composition.proofs.Asked.{unmet_91, unmet_92, unmet_93}
 use Rattle.std.proofs.lemmas.Bool.{not_from_false, not_from_true}
 use Rattle.composition.proofs.asking.unmet.Goals as goal

@@ -1,6 +1,5 @@
 -- By cases of what loading found. The first node of the table is the root, and a file that is read is not refused.
 use mathlib.Core.Path.{ap}
-use borrow.Author.Rules.{rules}
 use Rattle.composition.proofs.Loading.{file_form, not_refused}
 use Rattle.composition.proofs.forms.load_file.Goals as goal
 

@@ -1,7 +1,6 @@
 -- The form is written at the front of the bytes, and what is loaded from it is what is taken from the pair.
 use Prim.Native.Nat.{ℕ}
 use mathlib.Core.Path.{sym}
-use borrow.Author.Rules.{rules}
 use lib.ListN.{length-replicate}
 use lib.Seq.{length-take-le}
 use Rattle.pair.specs.Limits.{most_proof_bytes}

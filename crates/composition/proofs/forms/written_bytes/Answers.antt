@@ -2,7 +2,6 @@
 use Prim.Native.Nat.{ℕ}
 use mathlib.Core.Path.{◌≡◌, sym, ◌∙◌}
 use native.Mathlib.Omega.{arith}
-use borrow.Author.Rules.{rules}
 use Rattle.canonical.specs.declared.Outcome.TheVariants.{Written}
 use Rattle.composition.proofs.forms.written_bytes.Goals as goal
 

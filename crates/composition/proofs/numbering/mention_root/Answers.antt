@@ -2,7 +2,6 @@
 use mathlib.Core.List.{[]}
 use mathlib.Core.Path.{refl}
 use native.Mathlib.Omega.{arith}
-use borrow.Author.Rules.{rules}
 use Rattle.derivation.specs.Tables.{tabulate}
 use Rattle.composition.specs.Refinement.{relations_held}
 use Rattle.composition.proofs.numbering.mention_root.Goals as goal

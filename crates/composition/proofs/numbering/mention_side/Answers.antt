@@ -1,6 +1,5 @@
 -- G and Q are rows of the words.
 use mathlib.Core.Path.{ap}
-use borrow.Author.Rules.{rules}
 use Rattle.states.specs.Relations.{rel}
 use Rattle.rules.specs.Words.{word_relation}
 use Rattle.form.specs.Members.{relation_where}

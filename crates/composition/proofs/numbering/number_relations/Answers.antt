@@ -1,5 +1,4 @@
 -- The root's relations, then those of both sides.
-use borrow.Author.Rules.{rules}
 use Rattle.derivation.proofs.Buffers.{length_tabulate}
 use Rattle.composition.specs.Refinement.{relations_held}
 use Rattle.composition.proofs.Places.{relations_numbered}

@@ -1,5 +1,4 @@
 -- P is mentioned first, then the sets of both forms.
-use borrow.Author.Rules.{rules}
 use Rattle.derivation.specs.Tables.{tabulate}
 use Rattle.derivation.proofs.Buffers.{length_tabulate}
 use Rattle.composition.specs.Refinement.{sets_held}

@@ -1,5 +1,4 @@
 -- The weaken node's relations, then those of the form.
-use borrow.Author.Rules.{rules}
 use Rattle.derivation.proofs.Buffers.{length_tabulate}
 use Rattle.composition.specs.Refinement.{relations_held}
 use Rattle.composition.proofs.Places.{side_numbered}

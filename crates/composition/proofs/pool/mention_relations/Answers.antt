@@ -1,14 +1,13 @@
 -- The first i relations have been mentioned, and there is room for them.
-use Prim.Native.Nat.{◌-◌, ◌≤◌}
 use mathlib.Core.Path.{◌≡◌, refl, ◌∙◌, ap}
 use native.Mathlib.Omega.{arith}
 use borrow.Author.Rules.{rules}
-use lib.ListN.{length, length-set}
+use lib.ListN.{length-set}
 use Rattle.states.specs.Relations.{rel}
-use Rattle.derivation.specs.Tables.{most_tables, tabulate}
+use Rattle.derivation.specs.Tables.{tabulate}
 use Rattle.rules.specs.Words.{word_relation}
 use Rattle.form.specs.Members.{relation_where}
-use Rattle.composition.specs.Refinement.{relations_held, Mentioned, Listed}
+use Rattle.composition.specs.Refinement.{relations_held, Mentioned}
 use Rattle.composition.proofs.Mentioning.{mentioned_by, listed_none, listed_next, merged_over, merged_done, merged_from, merged_full}
 use Rattle.composition.proofs.pool.mention_relations.Goals.{After-mention_relation-found}
 use Rattle.composition.proofs.pool.mention_relations.Goals as goal

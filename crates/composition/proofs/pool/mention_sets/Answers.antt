@@ -1,13 +1,12 @@
 -- The first i sets have been mentioned, and there is room for them.
-use Prim.Native.Nat.{◌-◌, ◌≤◌}
 use mathlib.Core.Path.{◌≡◌, refl, ◌∙◌, ap, fun_ext}
 use native.Mathlib.Omega.{arith}
 use borrow.Author.Rules.{rules}
-use lib.ListN.{length, length-set}
-use Rattle.derivation.specs.Tables.{most_tables, tabulate}
+use lib.ListN.{length-set}
+use Rattle.derivation.specs.Tables.{tabulate}
 use Rattle.rules.specs.Words.{word_set}
 use Rattle.form.specs.Members.{set_where}
-use Rattle.composition.specs.Refinement.{sets_held, Mentioned, Listed}
+use Rattle.composition.specs.Refinement.{sets_held, Mentioned}
 use Rattle.composition.proofs.Mentioning.{mentioned_by, listed_none, listed_next, merged_over, merged_done, merged_from, merged_full}
 use Rattle.composition.proofs.pool.mention_sets.Goals.{After-mention_set-found}
 use Rattle.composition.proofs.pool.mention_sets.Goals as goal

@@ -1,5 +1,4 @@
 -- Each mention goes on from the one before.
-use borrow.Author.Rules.{rules}
 use Rattle.derivation.proofs.Buffers.{length_tabulate}
 use Rattle.composition.specs.Refinement.{relations_held}
 use Rattle.composition.proofs.Mentioning.{three_mentioned}

@@ -1,14 +1,11 @@
 -- None of the first i relations is the one that is looked for.
-use Prim.Native.Nat.{◌-◌, ◌≤◌}
 use mathlib.Core.Path.{◌≡◌, refl, sym, ◌∙◌, ap}
-use mathlib.Core.Bool.{false, beq, true≢false}
+use mathlib.Core.Bool.{beq, true≢false}
 use native.Mathlib.Omega.{arith}
-use borrow.Author.Rules.{rules}
 use Rattle.states.specs.Search.{all}
 use Rattle.states.specs.Relations.{rel}
 use Rattle.derivation.specs.Tables.{tabulate}
 use Rattle.rules.specs.Words.{word_relation}
-use Rattle.form.specs.Members.{relation_where}
 use Rattle.form.specs.Mentions.{is_in}
 use Rattle.composition.specs.Refinement.{relations_held}
 use Rattle.composition.proofs.Comparing.{relation_same, relation_alike}

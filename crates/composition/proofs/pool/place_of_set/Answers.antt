@@ -1,14 +1,11 @@
 -- None of the first i sets is the set.
-use Prim.Native.Nat.{◌-◌, ◌≤◌}
 use mathlib.Core.Path.{◌≡◌, refl, sym, ◌∙◌, ap, fun_ext}
-use mathlib.Core.Bool.{false, true≢false}
+use mathlib.Core.Bool.{true≢false}
 use native.Mathlib.Omega.{arith}
-use borrow.Author.Rules.{rules}
 use Rattle.states.specs.Sets.{has}
 use Rattle.semantics.specs.Conditions.{same_set}
 use Rattle.derivation.specs.Tables.{tabulate}
 use Rattle.rules.specs.Words.{word_set}
-use Rattle.form.specs.Members.{set_where}
 use Rattle.form.specs.Mentions.{is_in}
 use Rattle.composition.specs.Refinement.{sets_held}
 use Rattle.composition.proofs.Comparing.{set_same, set_alike}

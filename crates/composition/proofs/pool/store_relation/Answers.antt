@@ -1,10 +1,7 @@
 -- The rows below s are stored.
-use Prim.Native.Nat.{◌-◌, ◌≤◌}
 use mathlib.Core.Path.{◌≡◌}
 use native.Mathlib.Omega.{arith}
-use borrow.Author.Rules.{rules}
-use Rattle.states.specs.Relations.{rel}
-use Rattle.composition.proofs.Stored.{RowsStored, rows_start, rows_next, relation_stored}
+use Rattle.composition.proofs.Stored.{rows_start, rows_next, relation_stored}
 use Rattle.composition.proofs.pool.store_relation.Goals as goal
 
 pub loop-s-init : goal.loop-s-init

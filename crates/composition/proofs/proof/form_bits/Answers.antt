@@ -1,5 +1,4 @@
 -- At most 27 bits for each of at most 127 nodes.
-use borrow.Author.Rules.{rules}
 use Rattle.composition.specs.Refinement.{form_bits}
 use Rattle.composition.proofs.NewNodes.{form_few}
 use Rattle.composition.proofs.proof.form_bits.Goals as goal

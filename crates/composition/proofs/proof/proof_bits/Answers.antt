@@ -1,6 +1,5 @@
 -- The tables, then the nodes.
 use native.Mathlib.Omega.{arith}
-use borrow.Author.Rules.{rules}
 use Rattle.composition.specs.Refinement.{proof_bits}
 use Rattle.composition.proofs.proof.proof_bits.Goals as goal
 

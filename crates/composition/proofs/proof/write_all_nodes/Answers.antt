@@ -1,6 +1,5 @@
 -- The root, then the first side, then the second, each where the one before ends.
 use native.Mathlib.Omega.{arith}
-use borrow.Author.Rules.{rules}
 use Rattle.composition.specs.Refinement.{form_bits, node_parts}
 use Rattle.composition.proofs.NewNodes.{side_width, all_written}
 use Rattle.composition.proofs.proof.write_all_nodes.Goals as goal

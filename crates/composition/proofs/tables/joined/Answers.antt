@@ -1,5 +1,4 @@
 -- The pairs of the union's rows.
-use borrow.Author.Rules.{rules}
 use Rattle.composition.proofs.Filled.{joined_rel}
 use Rattle.composition.proofs.tables.joined.Goals as goal
 

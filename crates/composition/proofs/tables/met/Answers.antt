@@ -1,14 +1,10 @@
 -- The loop has filled the rows below s.
-use Prim.Native.Nat.{◌-◌}
 use native.Mathlib.Omega.{arith}
 use mathlib.Core.Path.{◌∙◌, ap₂}
 use mathlib.Core.Bool.{◌&&◌}
-use borrow.Author.Rules.{rules}
-use Rattle.states.specs.Sets.{capacity}
-use Rattle.states.specs.Relations.{rel}
 use Rattle.states.proofs.Search.{and_left}
 use Rattle.states.proofs.Rows.{rel_between}
-use Rattle.states.proofs.EntryLaws.{RowsFilled, rows_none, rows_more}
+use Rattle.states.proofs.EntryLaws.{rows_none, rows_more}
 use Rattle.composition.proofs.Filled.{filled_rel}
 use Rattle.composition.proofs.tables.met.Goals as goal
 

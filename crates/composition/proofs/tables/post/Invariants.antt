@@ -1,12 +1,9 @@
 -- The loop has filled the rows below s.
 use Prim.Native.Nat.{◌-◌}
-use native.Mathlib.Omega.{arith}
 use mathlib.Core.Bool.{◌&&◌}
-use borrow.Author.Rules.{rules}
 use Rattle.states.specs.Sets.{capacity, has}
 use Rattle.states.specs.Relations.{rel, reach}
-use Rattle.states.proofs.EntryLaws.{RowsFilled, rows_none, rows_more}
-use Rattle.composition.proofs.Filled.{filled_rel, part_between}
+use Rattle.states.proofs.EntryLaws.{RowsFilled}
 use Rattle.composition.proofs.tables.post.Given as goal
 
 abbrev pub invariant-loop-s : goal.invariant-loop-s

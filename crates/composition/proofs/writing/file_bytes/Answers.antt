@@ -1,6 +1,5 @@
 -- The quotient is the definition.
 use mathlib.Core.Path.{refl}
-use borrow.Author.Rules.{rules}
 use Rattle.writer.specs.Packing.{bytes_for}
 use Rattle.composition.proofs.writing.file_bytes.Goals as goal
 

@@ -1,5 +1,5 @@
 -- After s rounds the rows below s are written; `row_more` adds one.
-use Prim.Native.Nat.{◌+◌, ◌-◌, ◌*◌, ◌≤◌}
+use Prim.Native.Nat.{◌+◌, ◌*◌, ◌≤◌}
 use mathlib.Core.Path.{◌≡◌, ◌∙◌, ap, fun_ext}
 use native.Mathlib.Nat.{mul-zero}
 use native.Mathlib.Omega.{arith}
@@ -8,10 +8,9 @@ use lib.ListN.{length}
 use Rattle.writer.specs.Writing.{put_bits}
 use Rattle.writer.proofs.Laws.{length_put}
 use Rattle.rules.specs.Words.{word_relation}
-use Rattle.states.specs.Sets.{bits_where}
 use Rattle.form.specs.Members.{relation_where}
 use Rattle.canonical.proofs.Copying.{table_within}
-use Rattle.composition.proofs.TableBits.{pairs, row_more}
+use Rattle.composition.proofs.TableBits.{row_more}
 use Rattle.composition.proofs.writing.write_relation.Goals.{After-put_set-arg-1, At-loop-s}
 use Rattle.composition.proofs.writing.write_relation.Goals as goal
 

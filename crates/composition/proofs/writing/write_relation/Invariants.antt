@@ -1,17 +1,10 @@
 -- After s rounds the rows below s are written; `row_more` adds one.
-use Prim.Native.Nat.{◌+◌, ◌-◌, ◌*◌, ◌≤◌}
-use mathlib.Core.Path.{◌≡◌, ◌∙◌, ap, fun_ext}
-use native.Mathlib.Nat.{mul-zero}
-use native.Mathlib.Omega.{arith}
-use borrow.Author.Rules.{rules}
-use lib.ListN.{length}
+use Prim.Native.Nat.{◌-◌, ◌*◌, ◌≤◌}
+use mathlib.Core.Path.{◌≡◌}
 use Rattle.writer.specs.Writing.{put_bits}
-use Rattle.writer.proofs.Laws.{length_put}
 use Rattle.rules.specs.Words.{word_relation}
 use Rattle.states.specs.Sets.{bits_where}
-use Rattle.form.specs.Members.{relation_where}
-use Rattle.canonical.proofs.Copying.{table_within}
-use Rattle.composition.proofs.TableBits.{pairs, row_more}
+use Rattle.composition.proofs.TableBits.{pairs}
 use Rattle.composition.proofs.writing.write_relation.Given as goal
 
 abbrev pub invariant-loop-s : goal.invariant-loop-s

@@ -1,11 +1,10 @@
 -- After k rounds the first k relations are written; `tables_more` adds one.
-use Prim.Native.Nat.{◌+◌, ◌-◌, ◌*◌, ◌≤◌}
-use mathlib.Core.List.{map}
+use Prim.Native.Nat.{◌+◌, ◌*◌, ◌≤◌}
 use mathlib.Core.Path.{◌≡◌, refl, ◌∙◌, ap}
 use native.Mathlib.Omega.{arith}
 use borrow.Author.Rules.{rules}
 use lib.ListN.{length}
-use Rattle.writer.specs.Packing.{part, put_parts}
+use Rattle.writer.specs.Packing.{put_parts}
 use Rattle.writer.proofs.Packed.{length_parts}
 use Rattle.derivation.specs.Tables.{tabulate}
 use Rattle.canonical.proofs.Bounds.{few_bits}

@@ -1,17 +1,9 @@
 -- After k rounds the first k relations are written; `tables_more` adds one.
-use Prim.Native.Nat.{◌+◌, ◌-◌, ◌*◌, ◌≤◌}
+use Prim.Native.Nat.{◌-◌, ◌*◌, ◌≤◌}
 use mathlib.Core.List.{map}
-use mathlib.Core.Path.{◌≡◌, refl, ◌∙◌, ap}
-use native.Mathlib.Omega.{arith}
-use borrow.Author.Rules.{rules}
-use lib.ListN.{length}
+use mathlib.Core.Path.{◌≡◌}
 use Rattle.writer.specs.Packing.{part, put_parts}
-use Rattle.writer.proofs.Packed.{length_parts}
-use Rattle.derivation.specs.Tables.{tabulate}
-use Rattle.canonical.proofs.Bounds.{few_bits}
-use Rattle.canonical.proofs.Copying.{table_within}
 use Rattle.composition.specs.Refinement.{relations_held}
-use Rattle.composition.proofs.TableFields.{tables_more}
 use Rattle.composition.proofs.writing.write_relations.Given as goal
 
 abbrev pub invariant-loop-r : goal.invariant-loop-r

@@ -1,11 +1,10 @@
 -- After i rounds the first i sets are written; `set_more` adds one.
-use Prim.Native.Nat.{◌+◌, ◌-◌, ◌*◌, ◌≤◌}
-use mathlib.Core.List.{map}
+use Prim.Native.Nat.{◌+◌, ◌*◌, ◌≤◌}
 use mathlib.Core.Path.{◌≡◌, refl, ◌∙◌, ap, fun_ext}
 use native.Mathlib.Omega.{arith}
 use borrow.Author.Rules.{rules}
 use lib.ListN.{length}
-use Rattle.writer.specs.Packing.{part, put_parts}
+use Rattle.writer.specs.Packing.{put_parts}
 use Rattle.writer.proofs.Packed.{length_parts}
 use Rattle.derivation.specs.Tables.{tabulate}
 use Rattle.rules.specs.Words.{word_set}
