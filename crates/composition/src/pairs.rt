@@ -82,7 +82,8 @@ fn compose_sides(
     )
 }
 
-// The result of two pairs that were accepted with these step numbers.
+// The result of two pairs that were accepted with these step numbers. Its buffers are not on the stack while the pairs are checked.
+#[inline(never)]
 pub(crate) fn compose_accepted(
     h1: &[u8],
     p1: &[u8],
