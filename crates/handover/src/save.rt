@@ -88,6 +88,7 @@ fn write_new(rt: &HostRuntime, path: &[u8], bytes: &[u8]) -> bool {
     match create(rt, path) {
         Ok(mut file) => {
             let filled = fill(&mut file, bytes);
+            // The bytes are on the device by then, so a close that fails says nothing new.
             drop(file);
             match filled {
                 Ok(()) => true,
