@@ -15,7 +15,7 @@ use Rattle.handler.specs.declared.head.Head.{Head}
 use Rattle.handler.specs.Header.{head_of}
 use Rattle.joint.proofs.Sizes.{sizes_same}
 use Rattle.joint.specs.Joining.{root_spec}
-use Rattle.joint.specs.Composing.{Side, N, met_pkept, second_allowed, first_allowed, limited, Composition, refused, plain, asked, same_sizes, stays_in, composition}
+use Rattle.joint.specs.Composing.{Side, N, met_p_kept, second_allowed, first_allowed, limited, Composition, refused, plain, asked, same_sizes, stays_in, composition}
 use Rattle.composition.specs.Refinement.{first_unmet}
 
 -- Heads with equal counts are padded alike, so all four sizes can be compared.
@@ -77,7 +77,7 @@ module _ (h h' : List ℕ) (a b : Side) (steps : ℕ) where
   unfolding composition first_unmet
   asked_by_number =
       ap (asked 90 (same_sizes a.sizes b.sizes))
-      (by (second_allowed h h' a b) (first_allowed h h' a b) (met_pkept h h' a b) (limited h h' a b steps))
+      (by (second_allowed h h' a b) (first_allowed h h' a b) (met_p_kept h h' a b) (limited h h' a b steps))
     where
       by : (x y z : Bool) (next : Composition)
           → asked 91 x (asked 92 y (asked 93 z next))

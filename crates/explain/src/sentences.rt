@@ -6,6 +6,7 @@ ghost use Rattle.explain.specs.Sentences.{sentence_of, handler_on, proof_on, nod
 use crate::text::put;
 
 // Weaken, and the step number.
+#[tactic(auto, unfolding(crate::specs::Sentences::weakens_on))]
 fn weaken_sentence(number: u32, out: &mut [u8], at: usize) -> usize
     ensures end { result ≡ text_end out.old at (weakens_on number) }
     ensures bytes { out.new ≡ text_in out.old at (weakens_on number) }
@@ -21,6 +22,7 @@ fn weaken_sentence(number: u32, out: &mut [u8], at: usize) -> usize
 }
 
 // Sequence and parallel.
+#[tactic(auto, unfolding(crate::specs::Sentences::parts_on))]
 fn part_sentence(number: u32, out: &mut [u8], at: usize) -> usize
     ensures end { result ≡ text_end out.old at (parts_on number) }
     ensures bytes { out.new ≡ text_in out.old at (parts_on number) }
@@ -47,6 +49,7 @@ fn part_sentence(number: u32, out: &mut [u8], at: usize) -> usize
 }
 
 // While: the rest.
+#[tactic(auto, unfolding(crate::specs::Sentences::exits_on))]
 fn exit_sentence(number: u32, out: &mut [u8], at: usize) -> usize
     ensures end { result ≡ text_end out.old at (exits_on number) }
     ensures bytes { out.new ≡ text_in out.old at (exits_on number) }
@@ -77,6 +80,7 @@ fn exit_sentence(number: u32, out: &mut [u8], at: usize) -> usize
 }
 
 // While: its test, and K and W.
+#[tactic(auto, unfolding(crate::specs::Sentences::loops_on))]
 fn loop_sentence(number: u32, out: &mut [u8], at: usize) -> usize
     ensures end { result ≡ text_end out.old at (loops_on number) }
     ensures bytes { out.new ≡ text_in out.old at (loops_on number) }
@@ -103,6 +107,7 @@ fn loop_sentence(number: u32, out: &mut [u8], at: usize) -> usize
 }
 
 // Assignment and if.
+#[tactic(auto, unfolding(crate::specs::Sentences::stores_on))]
 fn store_sentence(number: u32, out: &mut [u8], at: usize) -> usize
     ensures end { result ≡ text_end out.old at (stores_on number) }
     ensures bytes { out.new ≡ text_in out.old at (stores_on number) }
@@ -134,6 +139,7 @@ fn store_sentence(number: u32, out: &mut [u8], at: usize) -> usize
 }
 
 // The tables of a child, and skip.
+#[tactic(auto, unfolding(crate::specs::Sentences::children_on))]
 fn child_sentence(number: u32, out: &mut [u8], at: usize) -> usize
     ensures end { result ≡ text_end out.old at (children_on number) }
     ensures bytes { out.new ≡ text_in out.old at (children_on number) }
@@ -165,6 +171,7 @@ fn child_sentence(number: u32, out: &mut [u8], at: usize) -> usize
 }
 
 // Every node.
+#[tactic(auto, unfolding(crate::specs::Sentences::nodes_on))]
 fn node_sentence(number: u32, out: &mut [u8], at: usize) -> usize
     ensures end { result ≡ text_end out.old at (nodes_on number) }
     ensures bytes { out.new ≡ text_in out.old at (nodes_on number) }
@@ -195,6 +202,7 @@ fn node_sentence(number: u32, out: &mut [u8], at: usize) -> usize
 }
 
 // The proof file.
+#[tactic(auto, unfolding(crate::specs::Sentences::proof_on))]
 fn proof_sentence(number: u32, out: &mut [u8], at: usize) -> usize
     ensures end { result ≡ text_end out.old at (proof_on number) }
     ensures bytes { out.new ≡ text_in out.old at (proof_on number) }
@@ -223,6 +231,7 @@ fn proof_sentence(number: u32, out: &mut [u8], at: usize) -> usize
 }
 
 // The rest of the handler file.
+#[tactic(auto, unfolding(crate::specs::Sentences::handler_on))]
 fn handler_sentence(number: u32, out: &mut [u8], at: usize) -> usize
     ensures end { result ≡ text_end out.old at (handler_on number) }
     ensures bytes { out.new ≡ text_in out.old at (handler_on number) }
@@ -260,6 +269,7 @@ fn handler_sentence(number: u32, out: &mut [u8], at: usize) -> usize
 
 // Puts the sentence of a number into a buffer at a place, as far as there is room, and returns where it ends. A number that no
 // check gives has none.
+#[tactic(auto, unfolding(crate::specs::Sentences::sentence_of))]
 pub fn sentence(number: u32, out: &mut [u8], at: usize) -> usize
     ensures end { result ≡ text_end out.old at (sentence_of number) }
     ensures bytes { out.new ≡ text_in out.old at (sentence_of number) }

@@ -185,7 +185,7 @@ after_any_calls n least most calls =
       laid = k.laid;
       within = omega (arith, total_laid 0 asked, k.within);
       own_places = apart_laid places 0 asked ∙ k.own_places;
-      well_formed_lem = ap well_formed k.laid ∙ well_of n asked least most k.within k.own_places;
+      is_well_formed = ap well_formed k.laid ∙ well_of n asked least most k.within k.own_places;
       room = no_room n c k;
       served = subst (Paired _ c.guests) (sym (held_is n c k)) (all_served 0 c.guests k.accepted);
     }

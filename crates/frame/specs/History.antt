@@ -92,7 +92,7 @@ pub record Kept (n : ℕ) (c : Core) : Type 0 where
   -- each place is one of 16, and held by at most one guest
   pub own_places : apart places (layout c.guests) ≡ true
   -- so no call from here is turned away with 102
-  pub well_formed_lem : well_formed c.frame ≡ true
+  pub is_well_formed : well_formed c.frame ≡ true
   -- a guest is refused for room only if the needs admitted and its own add up to more than the frame
   pub room : (a : Admission) → (outcome c.frame (admission a)).answer ≡ NoRoom → n < needs c.guests + need a
   -- each guest keeps its promise, and takes no more steps than its slot has ticks for

@@ -12,7 +12,7 @@ use Rattle.checker.specs.declared.Fault.{Fault}
 use Rattle.checker.specs.declared.Verdict.{Verdict}
 use Rattle.checker.specs.declared.Verdict.TheVariants.{Accepted, Refused}
 use Rattle.checker.specs.Verdicts.{answer}
-use Rattle.joint.specs.Composing.{Side, side_of, Composition, made, refused, plain, same_sizes, handler_file, proof_file, in_limits, second_allowed, first_allowed, met_pkept, composition, of_pair, compose}
+use Rattle.joint.specs.Composing.{Side, side_of, Composition, made, refused, plain, same_sizes, handler_file, proof_file, in_limits, second_allowed, first_allowed, met_p_kept, composition, of_pair, compose}
 
 -- What holds of both answers, each where the test gives it, holds of the one that is chosen.
 tested : {A : Type 0} (P : A → Type 0) (t : Bool) (x y : A) → (t ≡ true → P x) → (t ≡ false → P y) → P (cond t x y)
@@ -37,7 +37,7 @@ module _ (h p h' p' : List ℕ) where
   first_in_second = first_allowed h h' a b
 
   abbrev pub both_stay : Bool
-  both_stay = met_pkept h h' a b
+  both_stay = met_p_kept h h' a b
 
   abbrev pub within_limits : ℕ → Bool
   within_limits k = in_limits h h' a b k

@@ -111,8 +111,8 @@ module _ (h h' : List ℕ) (a b : Side) where
   first_allowed = relation_lies_in N a.tables.G b.tables.R
 
   -- 93: no pair of either G leads out of the met P.
-  abbrev pub met_pkept : Bool
-  met_pkept = stays_in N met_p a.tables.G && stays_in N met_p b.tables.G
+  abbrev pub met_p_kept : Bool
+  met_p_kept = stays_in N met_p a.tables.G && stays_in N met_p b.tables.G
 
   -- 94: the result, with this step number, is within every limit.
   unfoldable pub in_limits : ℕ → Bool
@@ -130,7 +130,7 @@ module _ (h h' : List ℕ) (a b : Side) where
   unfoldable pub composition : ℕ → Composition
   composition steps =
       asked 90 (same_sizes a.sizes b.sizes)
-      (asked 91 second_allowed (asked 92 first_allowed (asked 93 met_pkept (limited steps))))
+      (asked 91 second_allowed (asked 92 first_allowed (asked 93 met_p_kept (limited steps))))
 
 -- A pair's own refusal, or what follows the step number with which it is accepted.
 abbrev pub of_pair : ℕ → Verdict → (ℕ → Composition) → Composition
