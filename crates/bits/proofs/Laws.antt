@@ -11,8 +11,7 @@ use lib.ListN.{length, get_or-eq_default}
 use lib.Pow.{pow_mono}
 use lib.Arith.{digits_div, digits_mod}
 use Rattle.bits.specs.Fields.{bit_at, bits_at, is_there, field_at, number_at}
-use Rattle.bits.specs.declared.Field.{Field}
-use Rattle.bits.specs.declared.Field.TheVariants.{Value, Missing}
+use Rattle.std.specs.Prelude.{Option, Some, None}
 
 -- Two tests are equal if the second passes exactly when the first does.
 pub same_test : (a b : Bool) → (a ≡ true → b ≡ true) → (a ≡ false → b ≡ true → ⊥) → a ≡ b
@@ -82,29 +81,29 @@ module _ (s : List ℕ) (at w : ℕ) (least : 1 ≤ w) (most : w ≤ 64) (inside
   unfolding is_there
   is_there_lem = simp (le-leb 1 w, le-leb w 64, le-leb (at + w) (8 * length s), lt-ltb (at + w) (2 ^ 64))
 
-  pub found : field_at s at w ≡ Value (bits_at s at w) (at + w)
+  pub found : field_at s at w ≡ Some ((bits_at s at w), (at + w))
   unfolding field_at
   found = rw is_there_lem
 
 -- What each answer of a read implies.
-abbrev OfField : List ℕ → ℕ → ℕ → Field → Type 0
-OfField s at w (Value v next) = There s at w v next
-OfField s at w Missing = is_there s at w ≡ false
+abbrev OfField : List ℕ → ℕ → ℕ → Option (ℕ × ℕ) → Type 0
+OfField s at w (Some (v, next)) = There s at w v next
+OfField s at w None = is_there s at w ≡ false
 
 of_field : (s : List ℕ) (at w : ℕ) → OfField s at w (field_at s at w)
 unfolding field_at
 of_field s at w = by (is_there s at w) refl
   where
-    by : (b : Bool) → is_there s at w ≡ b → OfField s at w (cond b (Value (bits_at s at w) (at + w)) Missing)
+    by : (b : Bool) → is_there s at w ≡ b → OfField s at w (cond b (Some ((bits_at s at w), (at + w))) None)
     by true t = in_full s at w t
     by false t = t
 
-pub there : (s : List ℕ) (at w v next : ℕ) → field_at s at w ≡ Value v next → There s at w v next
+pub there : (s : List ℕ) (at w v next : ℕ) → field_at s at w ≡ Some (v, next) → There s at w v next
 there s at w v next e = rw e at (of_field s at w)
 
 -- A field that is there is two adjacent fields.
-pub parted : (s : List ℕ) (at w k v next : ℕ) → 1 ≤ w → 1 ≤ k → field_at s at (w + k) ≡ Value v next
-    → (field_at s at w ≡ Value (v / 2 ^ k) (at + w)) × (field_at s (at + w) k ≡ Value (v % 2 ^ k) next)
+pub parted : (s : List ℕ) (at w k v next : ℕ) → 1 ≤ w → 1 ≤ k → field_at s at (w + k) ≡ Some (v, next)
+    → (field_at s at w ≡ Some ((v / 2 ^ k), (at + w))) × (field_at s (at + w) k ≡ Some ((v % 2 ^ k), next))
 parted s at w k v next least more e =
     let t = there s at (w + k) v next e in
     let small = bits_below s (at + w) k in

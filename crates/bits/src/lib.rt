@@ -3,31 +3,24 @@
 #![tactic(auto)]
 
 ghost use Rattle.std.specs.Prelude.{◌≡◌, ◌+◌, ◌*◌, ◌/◌, ◌^◌, ◌≤◌, ◌<◌, length};
-ghost use Rattle.bits.specs.Fields.{bit_length, has_bits, bit_at, bits_at, is_there, field_at, number_at, further_byte, fill_at};
+ghost use Rattle.bits.specs.Fields.{bit_length, has_bits, bit_at, bits_at, is_there, field_at, field_or, number_at, further_byte, fill_at};
 
 // The largest cursor.
 const LAST: usize = 18446744073709551615;
 
-// The result of reading a field: its value and the next cursor, or that it is missing.
-#[derive(Drop)]
-pub enum Field {
-    Value(u64, usize),
-    Missing,
-}
-
-// What follows the last field: the end of the file as it must be, or the first wrong bit.
-#[derive(Drop)]
-pub enum Fill {
-    Ends,
-    Wrong(usize),
+// A fault of a file: its number (docs/FORMAT.md, "Faults of reading"), and the bit of the file at which it is.
+#[derive(Clone, Copy)]
+pub struct FileFault {
+    pub number: u32,
+    pub bit: usize,
 }
 
 // The file's length in bits, which is the place of a field that runs past the end; at most the largest cursor.
+#[tactic(auto, unfolding(crate::specs::Fields::bit_length))]
 pub fn bit_length(src: &[u8]) -> usize
     ensures { result ≡ bit_length src.now }
 {
-    let len = src.len();
-    if len <= LAST / 8 { len * 8 } else { LAST }
+    src.len().saturating_mul(8)
 }
 
 // Bit i of the file, the most significant of a byte first; 0 past the end.
@@ -148,40 +141,49 @@ pub fn number_at(src: &[u8], at: usize, width: usize) -> u64
     gather(src, at, width)
 }
 
-// The field of `width` bits at a cursor and the next cursor; or `Missing`.
-pub fn read(src: &[u8], at: usize, width: usize) -> Field
+// The field of `width` bits at a cursor: its value, and the next cursor; none if it is missing.
+pub fn read(src: &[u8], at: usize, width: usize) -> Option<(u64, usize)>
     ensures { result ≡ field_at src.now at width }
 {
     if is_there(src, at, width) {
         let value = gather(src, at, width);
-        return Field::Value(value, at + width);
+        return Some((value, at + width));
     }
-    Field::Missing
+    None
 }
 
-// `Wrong` if the file has a further byte at bit `at + skip`, else `Ends`. That bit may be past the largest cursor.
-fn further_byte(src: &[u8], at: usize, skip: usize) -> Fill
+// The same, where a missing field is the fault with this number, at the file's length.
+pub fn read_or(src: &[u8], at: usize, width: usize, number: u32) -> Result<(u64, usize), FileFault>
+    ensures { result ≡ field_or src.now at width number }
+{
+    read(src, at, width).ok_or(FileFault {
+        number,
+        bit: bit_length(src),
+    })
+}
+
+// An error at bit `at + skip` if the file has a further byte there. That bit may be past the largest cursor.
+fn further_byte(src: &[u8], at: usize, skip: usize) -> Result<(), usize>
     ensures { result ≡ further_byte src.now (at + skip) }
 {
-    if skip > LAST - at {
-        return Fill::Ends;
-    }
-    let next = at + skip;
+    let Some(next) = at.checked_add(skip) else {
+        return Ok(());
+    };
     if next / 8 < src.len() {
-        Fill::Wrong(next)
+        Err(next)
     } else {
-        Fill::Ends
+        Ok(())
     }
 }
 
-// Whether the file ends as it must after its last field; if not, the first wrong bit.
-pub fn read_fill(src: &[u8], at: usize) -> Fill
+// Whether the file ends as it must after its last field; if not, the error is the first wrong bit.
+pub fn read_fill(src: &[u8], at: usize) -> Result<(), usize>
     ensures { result ≡ fill_at src.now at }
 {
     let count = (8 - at % 8) % 8;
     for k in 0..count {
         if bit(src, at + k) != 0 {
-            return Fill::Wrong(at + k);
+            return Err(at + k);
         }
     }
     further_byte(src, at, count)

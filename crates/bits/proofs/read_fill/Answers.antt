@@ -2,7 +2,7 @@
 use Prim.Native.Nat.{ℕ, suc, ◌+◌, ◌-◌, ◌%◌, ◌<◌}
 use mathlib.Core.Bool.{cond}
 use mathlib.Core.List.{List}
-use mathlib.Core.Option.{some}
+use Rattle.std.specs.Prelude.{Some}
 use mathlib.Core.Path.{◌≡◌, ◌∙◌}
 use native.Mathlib.Nat.{add-zero, sub-zero}
 use native.Mathlib.Omega.{arith}
@@ -14,7 +14,7 @@ use Rattle.bits.proofs.read_fill.Goals as goal
 
 -- One step of the search, with `k + 1` as in the code.
 search_from : (s : List ℕ) (at k n : ℕ) → k < n
-    → first_set s (at + k) (n - k) ≡ cond (eqb (bit_at s (at + k)) 0) (first_set s (at + (k + 1)) (n - (k + 1))) (some (at + k))
+    → first_set s (at + k) (n - k) ≡ cond (eqb (bit_at s (at + k)) 0) (first_set s (at + (k + 1)) (n - (k + 1))) (Some (at + k))
 unfolding first_set
 search_from s at k n h =
     let left : n - k ≡ suc (n - (k + 1)) = omega arith in
