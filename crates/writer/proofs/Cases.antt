@@ -4,7 +4,7 @@ use mathlib.Core.List.{[], ◌∷◌}
 use mathlib.Core.Path.{◌≡◌, refl}
 use lib.Dec.{eqb}
 use Rattle.bits.specs.Fields.{bit_at, bits_at, is_there, field_at}
-use Rattle.bits.specs.declared.Field.TheVariants.{Value}
+use Rattle.std.specs.Prelude.{Option, Some, None}
 use Rattle.states.specs.Sets.{bits_where}
 use Rattle.writer.specs.Writing.{with_bit, put_bit, put_bits, put_field, has_room, copied, cleared}
 use Rattle.writer.specs.Packing.{part, width_of, put_parts, put_all, bytes_for, packed}
@@ -30,7 +30,7 @@ unfolding put_field put_bits put_bit with_bit is_there
 all_or_nothing = (refl, refl, refl, refl)
 
 -- What is written is read back.
-pub written_read : field_at (put_field (0xff ∷ 0xff ∷ []) 6 3 2) 6 3 ≡ Value 2 9
+pub written_read : field_at (put_field (0xff ∷ 0xff ∷ []) 6 3 2) 6 3 ≡ Some (2, 9)
 unfolding put_field put_bits put_bit with_bit is_there field_at bits_at bit_at
 written_read = refl
 

@@ -13,7 +13,7 @@ use lib.ListN.{length, get_or, set, length-set, get_or-append}
 use lib.Pow.{high, low, pow_pos, shr-shr, field, mod-mod-pow, mod-pow-add}
 use lib.Seq.{set_out, set-append_left, get_or-set_same, get_or-set_other}
 use Rattle.bits.specs.Fields.{bit_at, bits_at, is_there, field_at}
-use Rattle.bits.specs.declared.Field.TheVariants.{Value}
+use Rattle.std.specs.Prelude.{Option, Some, None}
 use Rattle.bits.proofs.Laws.{bits_agree, in_full, is_there_lem, found}
 use Rattle.bits.proofs.Places.{either}
 use Rattle.writer.specs.Writing.{with_bit, put_bit, put_bits, put_field, has_room}
@@ -202,7 +202,7 @@ pub field_after : (s : List ℕ) (at w v j : ℕ) → at + w ≤ j → bit_at (p
 field_after s at w v j after = by_put (λ l. bit_at l j ≡ bit_at s j) s at w v refl (put_after s at w v j after)
 
 -- Reading gives back what was written.
-pub read_back : (s : List ℕ) (at w v : ℕ) → is_there s at w ≡ true → v < 2 ^ w → field_at (put_field s at w v) at w ≡ Value v (at + w)
+pub read_back : (s : List ℕ) (at w v : ℕ) → is_there s at w ≡ true → v < 2 ^ w → field_at (put_field s at w v) at w ≡ Some (v, (at + w))
 read_back s at w v t small =
     let there = in_full s at w t in
     let same = length_put s at w v in

@@ -2,7 +2,7 @@
 -- ends as a file must.
 use Prim.Native.Nat.{ℕ, zero, suc, ◌+◌, ◌*◌, ◌/◌, ◌%◌, ◌^◌, ◌≤◌, ◌<◌}
 use mathlib.Core.List.{List, [], ◌∷◌, ◌++◌}
-use mathlib.Core.Option.{none}
+use Rattle.std.specs.Prelude.{None}
 use mathlib.Core.Path.{◌≡◌, refl, sym, ◌∙◌}
 use native.Mathlib.Nat.{add-zero, add_assoc, zero-add, zero-div, mod-lt, mod-eq_of_lt}
 use native.Mathlib.Omega.{arith}
@@ -11,7 +11,7 @@ use lib.Arith.{digits_div, digits_mod, digits_lt}
 use lib.ListN.{length, replicate, length-replicate}
 use lib.Pow.{pow-add, pow_pos}
 use Rattle.bits.specs.Fields.{bit_at, bits_at, is_there, first_set, fill_bits, further_byte, fill_from, fill_at}
-use Rattle.bits.specs.declared.Fill.TheVariants.{Ends}
+use Rattle.std.specs.Prelude.{Result, Ok, Err}
 use Rattle.bits.proofs.Laws.{bits_agree}
 use Rattle.states.proofs.Cells.{blank}
 use Rattle.writer.specs.Writing.{put_bits, put_field, has_room}
@@ -128,7 +128,7 @@ cleared_bit : (n i : ℕ) → bit_at (replicate n 0) i ≡ 0
 unfolding bit_at
 cleared_bit n i = rw (blank {A = ℕ} n 0 (i / 8), zero-div)
 
-none_set : (s : List ℕ) (at n : ℕ) → ((j : ℕ) → at ≤ j → bit_at s j ≡ 0) → first_set s at n ≡ none
+none_set : (s : List ℕ) (at n : ℕ) → ((j : ℕ) → at ≤ j → bit_at s j ≡ 0) → first_set s at n ≡ None
 unfolding first_set
 none_set s at zero clear = refl
 none_set s at (suc n) clear = rw (clear at (omega arith)) (none_set s (suc at) n (λ j h. clear j (omega arith)))
@@ -159,7 +159,7 @@ module _ (ps : List Part) where
   packed_front rest = parts_front zeros rest 0 ps room
 
   -- The fill bits are zero, and no further byte follows.
-  pub packed_ends : fill_at (packed ps) (width_of ps) ≡ Ends
+  pub packed_ends : fill_at (packed ps) (width_of ps) ≡ Ok tt
   unfolding fill_at fill_from further_byte packed
   packed_ends =
       let end = width_of ps + fill_bits (width_of ps) in

@@ -35,18 +35,12 @@ fn store(out: &mut [u8], at: usize, k: usize, value: u64)
     out[i] = byte as u8;
 }
 
-fn lesser(a: usize, b: usize) -> usize
-    ensures { result ≡ min a b }
-{
-    if a < b { a } else { b }
-}
-
 // How many of `left` bits from a cursor on belong to the cursor's byte.
 fn in_byte(at: usize, left: usize) -> usize
     ensures { result ≡ min (8 - at % 8) left }
 {
     let room = 8 - at % 8;
-    lesser(room, left)
+    room.min(left)
 }
 
 // Puts the last `width` bits of a value from a cursor on: in each round the bits that belong to one byte.
@@ -90,7 +84,7 @@ fn copy_bits(src: &[u8], from: usize, out: &mut [u8], to: usize, width: usize)
 {
     let mut done = 0;
     while done < width {
-        let count = lesser(WORD, width - done);
+        let count = WORD.min(width - done);
         put(out, to + done, count, number_at(src, from + done, count));
         done += count;
     }
@@ -110,7 +104,6 @@ pub fn copy(src: &[u8], from: usize, out: &mut [u8], to: usize, width: usize)
 pub fn clear(out: &mut [u8], count: usize)
     ensures { out.new ≡ cleared out.old count }
 {
-    for i in 0..lesser(count, out.len()) {
-        out[i] = 0;
-    }
+    let count = count.min(out.len());
+    out[..count].fill(0);
 }
