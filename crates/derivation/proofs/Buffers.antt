@@ -9,7 +9,7 @@ use native.Mathlib.Numerals.{add-one}
 use native.Mathlib.Omega.{arith}
 use borrow.Author.Tests.{lt-ltb, le-ltb, ltb-true, ltb-false, eqb-true, eqb-false}
 use lib.Dec.{ltb, eqb}
-use lib.ListN.{length, drop, set, get_or, length-append, length-drop, length-set, get_or-append}
+use lib.ListN.{length, drop, replicate, set, get_or, length-append, length-drop, length-set, get_or-append}
 use lib.Seq.{drop-cons, drop_at, append_snoc, set_at, set-append_left, get_or_at, get_or-set_same, get_or-set_other, ext_get_or}
 use Rattle.derivation.specs.Tables.{tabulate, work_words, written}
 
@@ -119,3 +119,13 @@ module _ (f : ℕ → ℕ) (work : List ℕ) where
       by : (j : ℕ) → j < length work → (b : Bool) → ltb j k ≡ b → cond b (f j) 0 ≡ f j
       by j under true t = refl
       by j under false t = sym (zeros j (ltb-false j k t) under)
+
+-- The same value everywhere.
+zero_more : (k : ℕ) → replicate {A = ℕ} k 0 ++ 0 ∷ [] ≡ replicate (suc k) 0
+zero_more zero = refl
+zero_more (suc k) = ap (λ (l : List ℕ). 0 ∷ l) (zero_more k)
+
+pub tabulate_zeros : (k : ℕ) → tabulate k (λ j. 0) ≡ replicate k 0
+unfolding tabulate
+tabulate_zeros zero = refl
+tabulate_zeros (suc k) = rw (tabulate_zeros k) (zero_more k)

@@ -2,14 +2,14 @@
 use Prim.Native.Nat.{ℕ, ◌+◌, ◌*◌}
 use mathlib.Core.List.{List, [], ◌∷◌, ◌++◌}
 use mathlib.Core.Path.{◌≡◌, refl}
-use Rattle.bits.specs.Fields.{bit_length, bit_at, bits_at, is_there, field_at, first_set, fill_bits, further_byte, fill_from, fill_at}
+use Rattle.std.specs.Prelude.{Ok, Err, IfOk}
+use Rattle.bits.specs.Fields.{bit_length, bit_at, bits_at, is_there, fault_at, field_at, field_or, first_set, fill_bits, further_byte, fill_from, fill_at}
 use Rattle.states.specs.Sets.{set_words, capacity}
 use Rattle.semantics.specs.declared.Names.{Names}
 use Rattle.semantics.specs.Derivations.{skip, assignment, parallel, iteration, weaken}
-use Rattle.derivation.specs.declared.HeadFound.TheVariants.{Head, Fault}
 use Rattle.derivation.specs.Tables.{most_tables, set_at, row_at, tables_there, is_count, relations_read, sets_read, tables_at, word_at, set_word_at, entry_word, table_word, tabulate, written}
 use Rattle.derivation.specs.Nodes.{on_name, named_table, loop_head, names_head, rule_head, node_head, node_at, whole_node}
-use Rattle.derivation.specs.Reading.{ProofRead, proof, refused, read_proof, table_of}
+use Rattle.derivation.specs.Reading.{ProofRead, proof, refused, read_proof, proof_file}
 use Rattle.derivation.specs.NodeTable.{node_word, node_of, node_in, padded, node_table}
 
 -- One set {0,1}; relations none, {(0,1)}, {(0,1),(1,1)}; an assignment node with P 0, R 0, G 1, Q 2.
@@ -38,7 +38,7 @@ tree = node_table 24 (parallel all (iteration all 4 9 (skip all)) (weaken all (a
 -- Opens every definition of reading, for the cases to compute.
 reading : List ℕ → ℕ → ProofRead
 unfolding read_proof tables_at sets_read relations_read is_count tables_there row_at whole_node node_at node_head rule_head names_head loop_head
-    named_table on_name field_at is_there bits_at bit_at bit_length fill_at fill_from further_byte fill_bits first_set
+    named_table on_name field_or field_at is_there bits_at bit_at bit_length fill_at fill_from further_byte fill_bits first_set
 reading = read_proof
 
 pub sample_read : read_proof sample 2 ≡ proof 1 3 24 (assignment (record { p = 0; r = 0; g = 1; q = 2 }))
@@ -46,9 +46,9 @@ unfolding reading
 sample_read = refl
 
 -- Its table of nodes: one node, which begins at bit 24; past it the word is 0, which is a skip.
-pub sample_nodes :
-    (node_in (table_of (read_proof sample 2)) 0 ≡ record { rule = 1; names = record { p = 0; r = 0; g = 1; q = 2 }; k = 0; w = 0; after = 1; bit = 24 })
-    × (node_in (table_of (read_proof sample 2)) 1 ≡ record { rule = 0; names = record { p = 0; r = 0; g = 0; q = 0 }; k = 0; w = 0; after = 0; bit = 0 })
+pub sample_nodes : IfOk (proof_file (read_proof sample 2)) (λ file.
+    (node_in file.nodes 0 ≡ record { rule = 1; names = record { p = 0; r = 0; g = 1; q = 2 }; k = 0; w = 0; after = 1; bit = 24 })
+    × (node_in file.nodes 1 ≡ record { rule = 0; names = record { p = 0; r = 0; g = 0; q = 0 }; k = 0; w = 0; after = 0; bit = 0 }))
 unfolding reading node_in node_of node_table padded node_word
 sample_nodes = (refl, refl)
 
@@ -106,8 +106,8 @@ codes_and_names = (refl, refl, refl, refl, refl)
 
 -- 24: the node at level 25, and the 128th node; a field that is not there goes before it, an unused code after it.
 pub too_many :
-    (read_proof deep 1 ≡ refused 24 468) × (node_head sample 1 3 24 127 24 ≡ Fault 24 24) × (node_head sample 1 3 1 126 24 ≡ Head (record { rule = 1; names = record { p = 0; r = 0; g = 1; q = 2 }; k = 0; w = 0; next = 43 }))
-    × (node_head sample 1 3 0 0 24 ≡ Fault 24 24) × (node_head sample 1 3 0 0 48 ≡ Fault 20 48) × (node_head (0xE0 ∷ []) 1 3 24 127 0 ≡ Fault 24 0)
+    (read_proof deep 1 ≡ refused 24 468) × (node_head sample 1 3 24 127 24 ≡ Err (fault_at 24 24)) × (node_head sample 1 3 1 126 24 ≡ Ok (record { rule = 1; names = record { p = 0; r = 0; g = 1; q = 2 }; k = 0; w = 0; next = 43 }))
+    × (node_head sample 1 3 0 0 24 ≡ Err (fault_at 24 24)) × (node_head sample 1 3 0 0 48 ≡ Err (fault_at 20 48)) × (node_head (0xE0 ∷ []) 1 3 24 127 0 ≡ Err (fault_at 24 0))
 unfolding reading
 too_many = (refl, refl, refl, refl, refl, refl)
 

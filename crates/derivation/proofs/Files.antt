@@ -7,23 +7,18 @@ use native.Mathlib.Omega.{arith}
 use borrow.Author.Tests.{leb-true}
 use lib.ListN.{length, replicate}
 use lib.Seq.{sets as stored}
-use Rattle.bits.specs.Fields.{bit_length, field_at, fill_at}
-use Rattle.bits.specs.declared.Field.{Field}
-use Rattle.bits.specs.declared.Field.TheVariants.{Value, Missing}
-use Rattle.bits.specs.declared.Fill.{Fill}
-use Rattle.bits.specs.declared.Fill.TheVariants.{Ends, Wrong}
+use Rattle.std.specs.Prelude.{Result, Ok, Err}
+use Rattle.std.specs.Result.{MatchResult}
+use Rattle.bits.specs.Fields.{bit_length, fault_at, field_or, fill_at}
+use Rattle.bits.specs.declared.FileFault.{FileFault}
 use Rattle.states.specs.Sets.{capacity}
 use Rattle.semantics.specs.Derivations.{Derivation, nodes, levels}
 use Rattle.derivation.specs.declared.TablesHead.{TablesHead}
-use Rattle.derivation.specs.declared.TablesEnd.{TablesEnd}
-use Rattle.derivation.specs.declared.TablesEnd.TheVariants.{Counts, Fault}
-use Rattle.derivation.specs.declared.ProofHead.{ProofHead}
-use Rattle.derivation.specs.declared.ProofFound.{ProofFound}
-use Rattle.derivation.specs.declared.ProofFound.TheVariants as Found
-use Rattle.derivation.specs.declared.NodeEnd.TheVariants as End
+use Rattle.derivation.specs.declared.ProofFile.{ProofFile}
+use Rattle.derivation.specs.declared.NodeEnd.{NodeEnd}
 use Rattle.derivation.specs.Tables.{most_tables, row_at, tables_there, is_count, tables_head, relations_read, sets_read, tables_at}
 use Rattle.derivation.specs.Nodes.{NodeRead, whole, fault, whole_node, end_of}
-use Rattle.derivation.specs.Reading.{ProofRead, proof, refused, on_proof_fill, on_nodes, on_tables, read_proof, proof_found, proof_file, loaded_word}
+use Rattle.derivation.specs.Reading.{ProofRead, proof, refused, on_proof_fill, on_nodes, on_tables, read_proof, proof_file, loaded_word}
 use Rattle.derivation.specs.NodeTable.{node_words, node_table}
 use Rattle.derivation.proofs.Counts.{count_range}
 use Rattle.derivation.proofs.NodeTable.{Known, length_node_words}
@@ -38,18 +33,18 @@ pub record Counted (bytes : List ℕ) (n : ℕ) (x : TablesHead) : Type 0 where
   pub at_root : x.root ≡ row_at n x.sets x.relations 0
   pub inside : x.root ≤ 8 * length bytes
 
-abbrev CountedIn : List ℕ → ℕ → TablesEnd → Type 0
-CountedIn bytes n (Fault k place) = Unit {0}
-CountedIn bytes n (Counts x) = Counted bytes n x
+abbrev CountedIn : List ℕ → ℕ → Result TablesHead FileFault → Type 0
+CountedIn bytes n (Err x) = Unit {0}
+CountedIn bytes n (Ok x) = Counted bytes n x
 
 module _ (bytes : List ℕ) (n : ℕ) where
-  relations_counted : (sets : ℕ) → is_count sets ≡ true → (f : Field) → CountedIn bytes n (relations_read bytes n sets f)
+  relations_counted : (sets : ℕ) → is_count sets ≡ true → (f : Result (ℕ × ℕ) FileFault) → CountedIn bytes n (relations_read bytes n sets f)
   unfolding relations_read tables_there
-  relations_counted sets es Missing = tt
-  relations_counted sets es (Value relations next) = count (is_count relations) refl
+  relations_counted sets es (Err x) = tt
+  relations_counted sets es (Ok (relations, next)) = count (is_count relations) refl
     where
       within : (b : Bool) → tables_there bytes n sets relations ≡ b → is_count relations ≡ true
-          → CountedIn bytes n (cond b (Counts (tables_head n sets relations)) (Fault 20 (bit_length bytes)))
+          → CountedIn bytes n (cond b (Ok (tables_head n sets relations)) (Err (fault_at 20 (bit_length bytes))))
       within true t er =
           let tests = simp and-eq-true_iff at t in
           record {
@@ -62,32 +57,32 @@ module _ (bytes : List ℕ) (n : ℕ) where
       within false t er = tt
 
       count : (b : Bool) → is_count relations ≡ b → CountedIn bytes n (cond b
-          (cond (tables_there bytes n sets relations) (Counts (tables_head n sets relations)) (Fault 20 (bit_length bytes))) (Fault 21 5))
+          (cond (tables_there bytes n sets relations) (Ok (tables_head n sets relations)) (Err (fault_at 20 (bit_length bytes)))) (Err (fault_at 21 5)))
       count true er = within (tables_there bytes n sets relations) refl er
       count false er = tt
 
   tables_counted : CountedIn bytes n (tables_at bytes n)
   unfolding tables_at sets_read
-  tables_counted = by (field_at bytes 0 5)
+  tables_counted = by (field_or bytes 0 5 20)
     where
-      count : (sets : ℕ) (b : Bool) → is_count sets ≡ b → CountedIn bytes n (cond b (relations_read bytes n sets (field_at bytes 5 5)) (Fault 21 0))
-      count sets true e = relations_counted sets e (field_at bytes 5 5)
+      count : (sets : ℕ) (b : Bool) → is_count sets ≡ b → CountedIn bytes n (cond b (relations_read bytes n sets (field_or bytes 5 5 20)) (Err (fault_at 21 0)))
+      count sets true e = relations_counted sets e (field_or bytes 5 5 20)
       count sets false e = tt
 
-      by : (f : Field) → CountedIn bytes n (sets_read bytes n f)
-      by Missing = tt
-      by (Value sets next) = count sets (is_count sets) refl
+      by : (f : Result (ℕ × ℕ) FileFault) → CountedIn bytes n (sets_read bytes n f)
+      by (Err x) = tt
+      by (Ok (sets, next)) = count sets (is_count sets) refl
 
-  pub counted : (x : TablesHead) → tables_at bytes n ≡ Counts x → Counted bytes n x
+  pub counted : (x : TablesHead) → tables_at bytes n ≡ Ok x → Counted bytes n x
   counted x e = rw e at tables_counted
 
   -- The stages of a file that is read without fault, front to back.
   pub record Stages (x : TablesHead) (d : Derivation) : Type 0 where
-    pub tables : tables_at bytes n ≡ Counts x
+    pub tables : tables_at bytes n ≡ Ok x
     pub count : ℕ
     pub next : ℕ
     pub nodes_read : whole_node bytes x.sets x.relations x.root ≡ whole d count next
-    pub ends : fill_at bytes next ≡ Ends
+    pub ends : fill_at bytes next ≡ Ok tt
 
   abbrev StagesIn : ProofRead → Type 0
   StagesIn (proof sets relations at d) = Stages (record { sets = sets; relations = relations; root = at }) d
@@ -97,20 +92,20 @@ module _ (bytes : List ℕ) (n : ℕ) where
   unfolding read_proof
   file_stages = head (tables_at bytes n) refl
     where
-      fill : (x : TablesHead) (count next : ℕ) (d : Derivation) → tables_at bytes n ≡ Counts x
-          → whole_node bytes x.sets x.relations x.root ≡ whole d count next → (f : Fill) → fill_at bytes next ≡ f
+      fill : (x : TablesHead) (count next : ℕ) (d : Derivation) → tables_at bytes n ≡ Ok x
+          → whole_node bytes x.sets x.relations x.root ≡ whole d count next → (f : Result (Unit {0}) ℕ) → fill_at bytes next ≡ f
           → StagesIn (on_proof_fill x.sets x.relations x.root d f)
-      fill x count next d t w Ends f = record { tables = t; count = count; next = next; nodes_read = w; ends = f }
-      fill x count next d t w (Wrong place) f = tt
+      fill x count next d t w (Ok tt) f = record { tables = t; count = count; next = next; nodes_read = w; ends = f }
+      fill x count next d t w (Err place) f = tt
 
-      root : (x : TablesHead) → tables_at bytes n ≡ Counts x → (r : NodeRead) → whole_node bytes x.sets x.relations x.root ≡ r
+      root : (x : TablesHead) → tables_at bytes n ≡ Ok x → (r : NodeRead) → whole_node bytes x.sets x.relations x.root ≡ r
           → StagesIn (on_nodes bytes x.sets x.relations x.root r)
       root x t (fault k place) w = tt
       root x t (whole d count next) w = fill x count next d t w (fill_at bytes next) refl
 
-      head : (t : TablesEnd) → tables_at bytes n ≡ t → StagesIn (on_tables bytes t)
-      head (Fault k place) t = tt
-      head (Counts x) t = root x t (whole_node bytes x.sets x.relations x.root) refl
+      head : (t : Result TablesHead FileFault) → tables_at bytes n ≡ t → StagesIn (on_tables bytes t)
+      head (Err x) t = tt
+      head (Ok x) t = root x t (whole_node bytes x.sets x.relations x.root) refl
 
   pub stages : (sets relations at : ℕ) (d : Derivation) → read_proof bytes n ≡ proof sets relations at d
       → Stages (record { sets = sets; relations = relations; root = at }) d
@@ -138,85 +133,79 @@ module _ (bytes : List ℕ) (n : ℕ) where
         known = r.known;
       }
 
-  -- What reading into a table gives: the answer, and where there is a derivation the table has its words.
-  module _ (table exit : List ℕ) where
-    abbrev pub FileDone : ProofFound → Type 0
-    FileDone r =
-        (r ≡ proof_found (read_proof bytes n))
-        × ((sets relations at : ℕ) (d : Derivation) → read_proof bytes n ≡ proof sets relations at d → exit ≡ stored table 0 (node_words 0 at d))
+  -- The fill, with its wrong bit as a fault.
+  abbrev pub FillRead : Result (Unit {0}) ℕ → Result (Unit {0}) FileFault → Type 0
+  FillRead r m = MatchResult r (λ x. m ≡ Ok x) (λ place. m ≡ Err (fault_at 25 place))
 
-    refused_done : (k place : ℕ) → read_proof bytes n ≡ refused k place → FileDone (Found.Fault k place)
-    refused_done k place e =
-        (sym (ap proof_found e), λ sets relations at d p. absurd (let z : ◌≡◌ {A = ℕ} 0 1 = cc in omega arith))
+  fill_ends : (r : Result (Unit {0}) ℕ) (m : Result (Unit {0}) FileFault) → FillRead r m → (x : Unit {0}) → m ≡ Ok x → r ≡ Ok tt
+  fill_ends (Ok y) m e x is = refl
+  fill_ends (Err place) m e x is = cc
 
-    pub no_tables : (k place : ℕ) → tables_at bytes n ≡ Fault k place → FileDone (Found.Fault k place)
+  fill_misplaced : (r : Result (Unit {0}) ℕ) (m : Result (Unit {0}) FileFault) → FillRead r m → (y : FileFault) → m ≡ Err y
+      → (place : ℕ) × (r ≡ Err place) × (y ≡ fault_at 25 place)
+  fill_misplaced (Ok x) m e y is = cc
+  fill_misplaced (Err place) m e y is = let same : y ≡ fault_at 25 place = cc in (place, refl, same)
+
+  -- What the code answers of the file, by the stage that it came to.
+  refused_at : (y : FileFault) → read_proof bytes n ≡ refused y.number y.bit → Err y ≡ proof_file (read_proof bytes n)
+  refused_at y e = sym (ap proof_file e)
+
+  pub no_tables : (y : FileFault) → tables_at bytes n ≡ Err y → Err y ≡ proof_file (read_proof bytes n)
+  unfolding read_proof
+  no_tables y e = refused_at y (rw e)
+
+  module _ (x : TablesHead) (tables : tables_at bytes n ≡ Ok x) where
+    abbrev root_read : NodeRead
+    root_read = whole_node bytes x.sets x.relations x.root
+
+    pub no_nodes : (y : FileFault) → end_of root_read ≡ Err y → Err y ≡ proof_file (read_proof bytes n)
     unfolding read_proof
-    no_tables k place e = refused_done k place (rw e)
+    no_nodes y e = refused_at y (rw (tables, ended_faulty _ y e))
 
-    module _ (x : TablesHead) (tables : tables_at bytes n ≡ Counts x) where
-      abbrev root_read : NodeRead
-      root_read = whole_node bytes x.sets x.relations x.root
+    module _ (end : NodeEnd) (ends : end_of root_read ≡ Ok end) where
+      d_read : (d : Derivation) × (root_read ≡ whole d end.nodes end.next) × (levels d ≡ end.levels)
+      d_read = ended_whole root_read end ends
 
-      pub no_nodes : (k place : ℕ) → end_of root_read ≡ End.Fault k place → FileDone (Found.Fault k place)
+      refused_fill : (place : ℕ) → fill_at bytes end.next ≡ Err place → Err (fault_at 25 place) ≡ proof_file (read_proof bytes n)
       unfolding read_proof
-      no_nodes k place e = refused_done k place (rw (tables, ended_faulty _ k place e))
+      refused_fill place e = refused_at (fault_at 25 place) (rw (tables, d_read.1, e))
 
-      module _ (count height next : ℕ) (nodes-end : end_of root_read ≡ End.Ends count height next) where
-        d_read : (d : Derivation) × (root_read ≡ whole d count next) × (levels d ≡ height)
-        d_read = ended_whole root_read count height next nodes-end
+      pub wrong_fill : (m : Result (Unit {0}) FileFault) → FillRead (fill_at bytes end.next) m → (y : FileFault) → m ≡ Err y
+          → Err y ≡ proof_file (read_proof bytes n)
+      wrong_fill m filled y e =
+          let wrong = fill_misplaced (fill_at bytes end.next) m filled y e in
+          ap Err wrong.2 ∙ refused_fill wrong.0 wrong.1
 
-        pub wrong_fill : (place : ℕ) → fill_at bytes next ≡ Wrong place → FileDone (Found.Fault 25 place)
-        unfolding read_proof
-        wrong_fill place e = refused_done 25 place (rw (tables, d_read.1, e))
+      -- The words of its nodes were stored in a table of 0.
+      pub whole_file : (m : Result (Unit {0}) FileFault) → FillRead (fill_at bytes end.next) m → (u : Unit {0}) → m ≡ Ok u → (table : List ℕ)
+          → ((d : Derivation) (after next : ℕ) → root_read ≡ whole d after next → table ≡ stored (replicate 127 0) 0 (node_words 0 x.root d))
+          → Ok (record {
+            head = record { sets = x.sets; relations = x.relations; nodes = end.nodes; levels = end.levels; root = x.root };
+            nodes = table;
+          }) ≡ proof_file (read_proof bytes n)
+      unfolding read_proof whole_node node_table
+      whole_file m fill u e table filled =
+          let d = d_read.0 in
+          let is : read_proof bytes n ≡ proof x.sets x.relations x.root d = rw (tables, d_read.1, fill_ends (fill_at bytes end.next) m fill u e) in
+          let shows = read bytes x.sets x.relations 25 0 x.root d end.nodes end.next d_read.1 in
+          let counts : end.nodes ≡ nodes d = omega (arith, shows.counted) in
+          let few : length (node_words 0 x.root d) ≤ 127 = rw (length_node_words 0 x.root d) (read_known _ _ _ d is).nodes_most in
+          let words = filled d end.nodes end.next d_read.1 ∙ stored_padded 127 (node_words 0 x.root d) few in
+          (λ i. Ok (record {
+            head = record { sets = x.sets; relations = x.relations; nodes = counts i; levels = sym d_read.2 i; root = x.root };
+            nodes = words i;
+          })) ∙ sym (ap proof_file is)
 
-        pub whole_file : fill_at bytes next ≡ Ends
-            → ((d : Derivation) (after next : ℕ) → root_read ≡ whole d after next → exit ≡ stored table 0 (node_words 0 x.root d))
-            → FileDone (Found.Proof (record { sets = x.sets; relations = x.relations; nodes = count; levels = height; root = x.root }))
-        unfolding read_proof whole_node
-        whole_file e filled =
-            let is : read_proof bytes n ≡ proof x.sets x.relations x.root d_read.0 = rw (tables, d_read.1, e) in
-            let shows = read bytes x.sets x.relations 25 0 x.root d_read.0 count next d_read.1 in
-            let counts : count ≡ nodes d_read.0 = omega (arith, shows.counted) in (
-              (λ i. Found.Proof (record { sets = x.sets; relations = x.relations; nodes = counts i; levels = sym d_read.2 i; root = x.root }))
-                  ∙ sym (ap proof_found is),
-              λ sets relations at d p.
-                  let same_at : x.root ≡ at = cc in
-                  let same-d : d_read.0 ≡ d = cc in
-                  filled d_read.0 count next d_read.1 ∙ (λ i. stored table 0 (node_words 0 (same_at i) (same-d i))),
-            )
-
-  -- The file as it is answered, by what was read into a table of 0.
-  module _ (r : ProofFound) (exit : List ℕ) (done : FileDone (replicate 127 0) exit r) where
-    pub file_refused : (k place : ℕ) → r ≡ Found.Fault k place → record { found = Found.Fault k place; nodes = replicate 127 0 } ≡ proof_file (read_proof bytes n)
-    file_refused k place e = by (read_proof bytes n) (sym e ∙ done.0)
-      where
-        by : (p : ProofRead) → Found.Fault k place ≡ proof_found p → record { found = Found.Fault k place; nodes = replicate 127 0 } ≡ proof_file p
-        by (proof sets relations at d) f = absurd (let z : ◌≡◌ {A = ℕ} 0 1 = cc in omega arith)
-        by (refused k' place') f = λ i. record { found = f i; nodes = replicate 127 0 }
-
-    pub file_read : (x : ProofHead) → r ≡ Found.Proof x → record { found = Found.Proof x; nodes = exit } ≡ proof_file (read_proof bytes n)
-    unfolding node_table
-    file_read x e = by (read_proof bytes n) refl (sym e ∙ done.0)
-      where
-        by : (p : ProofRead) → read_proof bytes n ≡ p → Found.Proof x ≡ proof_found p → record { found = Found.Proof x; nodes = exit } ≡ proof_file p
-        by (proof sets relations at d) is f =
-            let few : length (node_words 0 at d) ≤ 127 = rw (length_node_words 0 at d) (read_known sets relations at d is).nodes_most in
-            let table = done.1 sets relations at d is ∙ stored_padded 127 (node_words 0 at d) few in
-            λ i. record { found = f i; nodes = table i }
-        by (refused k place) is f = absurd (let z : ◌≡◌ {A = ℕ} 0 1 = cc in omega arith)
-
--- The code's answer tells whether the file was read without fault, how many nodes and levels it has, and what its words are.
-pub answered : (r : ProofRead) (x : ProofHead) → proof_found r ≡ Found.Proof x
-    → (d : Derivation) × (r ≡ proof x.sets x.relations x.root d) × (x.nodes ≡ nodes d) × (x.levels ≡ levels d)
+-- What a file whose answer has these counts was read as.
+pub answered : (r : ProofRead) (x : ProofFile) → Ok x ≡ proof_file r → (d : Derivation) × (r ≡ proof x.head.sets x.head.relations x.head.root d)
 answered (proof sets relations at d) x e =
-    let same : record { sets = sets; relations = relations; nodes = nodes d; levels = levels d; root = at } ≡ x = cc in (
-      d,
-      (λ i. proof (same i).sets (same i).relations (same i).root d),
-      sym (ap (λ h. h.nodes) same),
-      sym (ap (λ h. h.levels) same),
-    )
-answered (refused k place) x e = absurd (let z : ◌≡◌ {A = ℕ} 0 1 = cc in omega arith)
+    let same : record {
+      head = record { sets = sets; relations = relations; nodes = nodes d; levels = levels d; root = at };
+      nodes = node_table at d;
+    } ≡ x = cc in
+    (d, λ i. proof (same i).head.sets (same i).head.relations (same i).head.root d)
+answered (refused k place) x e = cc
 
-pub no_words : (bytes : List ℕ) (n : ℕ) (r : ProofRead) (k place : ℕ) → proof_found r ≡ Found.Fault k place → (j : ℕ) → loaded_word bytes n r j ≡ 0
-no_words bytes n (proof sets relations at d) k place e j = absurd (let z : ◌≡◌ {A = ℕ} 0 1 = cc in omega arith)
-no_words bytes n (refused k' place') k place e j = refl
+pub no_words : (bytes : List ℕ) (n : ℕ) (r : ProofRead) (y : FileFault) → Err y ≡ proof_file r → (j : ℕ) → loaded_word bytes n r j ≡ 0
+no_words bytes n (proof sets relations at d) y e j = cc
+no_words bytes n (refused k place) y e j = refl

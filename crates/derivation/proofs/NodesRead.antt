@@ -2,38 +2,36 @@
 use Prim.Native.Nat.{ℕ, zero, suc, ◌+◌, ◌-◌, ◌*◌, ◌≤◌, ◌<◌}
 use mathlib.Core.Bool.{Bool, true, false, cond}
 use mathlib.Core.List.{List}
-use mathlib.Core.Path.{◌≡◌, refl}
+use mathlib.Core.Path.{◌≡◌, refl, ap}
 use native.Mathlib.Omega.{arith}
 use borrow.Author.Tests.{ltb-true, ltb-false}
 use lib.Dec.{ltb}
+use Rattle.std.specs.Prelude.{Ok, Err}
+use Rattle.bits.specs.declared.FileFault.{FileFault}
 use Rattle.semantics.specs.Derivations.{Derivation, skip, assignment, sequence, parallel, conditional, iteration, weaken, nodes, levels}
 use Rattle.derivation.specs.declared.NodeHead.{NodeHead}
-use Rattle.derivation.specs.declared.HeadFound.{HeadFound}
-use Rattle.derivation.specs.declared.HeadFound.TheVariants.{Head, Fault}
-use Rattle.derivation.specs.declared.NodeEnd.TheVariants as End
-use Rattle.derivation.specs.Nodes.{NodeRead, whole, fault, alone, over_two, over_one, on_child, on_left_node, on_node_head, node_head, node_at, end_of}
+use Rattle.derivation.specs.declared.NodeEnd.{NodeEnd}
+use Rattle.derivation.specs.Nodes.{HeadRead, NodeRead, whole, fault, alone, over_two, over_one, on_child, on_left_node, on_node_head, node_head, node_at, end_of}
 use Rattle.derivation.specs.NodeTable.{node_bits}
 use Rattle.derivation.proofs.Heads.{HeadWithin, node_within, head_room}
 use Rattle.derivation.proofs.NodeTable.{Known}
 use Rattle.derivation.proofs.Built.{leaf, over_one_lem, over_two_lem}
 
 -- The end that the code answers is that of a derivation, and its fault one that was met.
-pub ended_whole : (r : NodeRead) (after height next : ℕ) → end_of r ≡ End.Ends after height next
-    → (d : Derivation) × (r ≡ whole d after next) × (levels d ≡ height)
+pub ended_whole : (r : NodeRead) (x : NodeEnd) → end_of r ≡ Ok x
+    → (d : Derivation) × (r ≡ whole d x.nodes x.next) × (levels d ≡ x.levels)
 unfolding end_of
-ended_whole (whole d a n) after height next e =
-    let same-a : a ≡ after = cc in
-    let same-n : n ≡ next = cc in
-    (d, rw (same-a, same-n), cc)
-ended_whole (fault k place) after height next e = absurd (let z : ◌≡◌ {A = ℕ} 0 1 = cc in omega arith)
+ended_whole (whole d after next) x e =
+    let same : record { nodes = after; levels = levels d; next = next } ≡ x = cc in
+    (d, (λ i. whole d (same i).nodes (same i).next), ap (λ (y : NodeEnd). y.levels) same)
+ended_whole (fault k place) x e = cc
 
-pub ended_faulty : (r : NodeRead) (k place : ℕ) → end_of r ≡ End.Fault k place → r ≡ fault k place
+pub ended_faulty : (r : NodeRead) (x : FileFault) → end_of r ≡ Err x → r ≡ fault x.number x.bit
 unfolding end_of
-ended_faulty (whole d after next) k place e = absurd (let z : ◌≡◌ {A = ℕ} 0 1 = cc in omega arith)
-ended_faulty (fault k' place') k place e =
-    let same-k : k' ≡ k = cc in
-    let same_place : place' ≡ place = cc in
-    rw (same-k, same_place)
+ended_faulty (whole d after next) x e = cc
+ended_faulty (fault k place) x e =
+    let same : record { number = k; bit = place } ≡ x = cc in
+    λ i. fault (same i).number (same i).bit
 
 -- A node takes at most 27 bits.
 pub bits_most : (d : Derivation) → node_bits d ≤ 27 * nodes d
@@ -106,9 +104,9 @@ module _ (bytes : List ℕ) (sets relations : ℕ) where
     two_shows over few (whole l between middle) c right r = right_shows over few l between middle c (right between middle) (r between middle)
 
   head_shows : (k before at : ℕ) → ((before at : ℕ) → Shows k before at (node k before at))
-      → (head : HeadFound) → node_head bytes sets relations k before at ≡ head → Shows (suc k) before at (on_node_head head before (node k))
-  head_shows k before at below (Fault code place) head = tt
-  head_shows k before at below (Head x) head = by (ltb x.rule 2) refl (ltb x.rule 4) refl
+      → (head : HeadRead) → node_head bytes sets relations k before at ≡ head → Shows (suc k) before at (on_node_head head before (node k))
+  head_shows k before at below (Err y) head = tt
+  head_shows k before at below (Ok x) head = by (ltb x.rule 2) refl (ltb x.rule 4) refl
     where
       w : HeadWithin sets relations at x
       w = node_within bytes sets relations at k before x head

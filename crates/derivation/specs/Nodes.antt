@@ -1,18 +1,12 @@
 -- docs/FORMAT.md, "Nodes": a node is 3 bits rule, 4 bits each for P (a set), R, G, Q (relations); a while adds 4 bits K (a set)
 -- and 4 bits W (a relation); then its child nodes. At most 127 nodes, 24 levels.
-use Rattle.std.specs.Prelude.{ℕ, zero, suc, ◌+◌, Bool, cond, ◌||◌, List, leb, ltb, eqb}
-use Rattle.bits.specs.Fields.{bit_length, field_at}
-use Rattle.bits.specs.declared.Field.{Field}
-use Rattle.bits.specs.declared.Field.TheVariants.{Value, Missing}
+use Rattle.std.specs.Prelude.{ℕ, zero, suc, ◌+◌, Bool, cond, ◌||◌, List, leb, ltb, eqb, Result, Ok, Err}
+use Rattle.bits.specs.Fields.{fault_at, field_or}
+use Rattle.bits.specs.declared.FileFault.{FileFault}
 use Rattle.semantics.specs.declared.Names.{Names}
 use Rattle.semantics.specs.Derivations.{Derivation, skip, assignment, sequence, parallel, conditional, iteration, weaken, levels}
 use Rattle.derivation.specs.declared.NodeHead.{NodeHead}
-use Rattle.derivation.specs.declared.HeadFound.{HeadFound}
-use Rattle.derivation.specs.declared.HeadFound.TheVariants.{Head, Fault}
-use Rattle.derivation.specs.declared.TwoNames.{TwoNames}
-use Rattle.derivation.specs.declared.TwoNames.TheVariants as Two
 use Rattle.derivation.specs.declared.NodeEnd.{NodeEnd}
-use Rattle.derivation.specs.declared.NodeEnd.TheVariants as End
 
 -- The most nodes of a derivation, and the most levels of them.
 abbrev pub most_nodes : ℕ
@@ -21,40 +15,45 @@ most_nodes = 127
 abbrev pub most_node_levels : ℕ
 most_node_levels = 24
 
+-- The head of a node, or the first fault in it.
+abbrev pub HeadRead : Type 0
+HeadRead = Result NodeHead FileFault
+
 -- 23: no such set or relation, at its field.
-unfoldable pub on_name : List ℕ → ℕ → ℕ → Field → (ℕ → HeadFound) → HeadFound
-on_name bytes limit at Missing f = Fault 20 (bit_length bytes)
-on_name bytes limit at (Value i next) f = cond (ltb i limit) (f i) (Fault 23 at)
+unfoldable pub on_name : ℕ → ℕ → Result (ℕ × ℕ) FileFault → (ℕ → HeadRead) → HeadRead
+on_name limit at (Err fault) f = Err fault
+on_name limit at (Ok (i, next)) f = cond (ltb i limit) (f i) (Err (fault_at 23 at))
 
-unfoldable pub named_table : List ℕ → ℕ → ℕ → (ℕ → HeadFound) → HeadFound
-named_table bytes limit at f = on_name bytes limit at (field_at bytes at 4) f
+unfoldable pub named_table : List ℕ → ℕ → ℕ → (ℕ → HeadRead) → HeadRead
+named_table bytes limit at f = on_name limit at (field_or bytes at 4 20) f
 
--- What two tables read one after the other give to what is read after them.
-unfoldable pub on_pair : TwoNames → (ℕ → ℕ → ℕ → HeadFound) → HeadFound
-on_pair (Two.Pair x) f = f x.first x.second x.next
-on_pair (Two.Fault k place) f = Fault k place
+-- What a table and the bit after its name give to what is read after it.
+abbrev pub on_named : Result (ℕ × ℕ) FileFault → (ℕ → ℕ → HeadRead) → HeadRead
+on_named (Err fault) f = Err fault
+on_named (Ok (i, next)) f = f i next
 
 module _ (bytes : List ℕ) (sets relations : ℕ) where
   -- K and W of a while, which are 0 at any other rule.
-  unfoldable pub loop_head : ℕ → Names → ℕ → HeadFound
+  unfoldable pub loop_head : ℕ → Names → ℕ → HeadRead
   loop_head rule h at =
       cond (eqb rule 5)
-      (named_table bytes sets at (λ K. named_table bytes relations (at + 4) (λ W. Head (record { rule = rule; names = h; k = K; w = W; next = at + 8 }))))
-      (Head (record { rule = rule; names = h; k = 0; w = 0; next = at }))
+      (named_table bytes sets at (λ K. named_table bytes relations (at + 4) (λ W. Ok (record { rule = rule; names = h; k = K; w = W; next = at + 8 }))))
+      (Ok (record { rule = rule; names = h; k = 0; w = 0; next = at }))
 
-  unfoldable pub names_head : ℕ → ℕ → HeadFound
+  unfoldable pub names_head : ℕ → ℕ → HeadRead
   names_head rule at =
       named_table bytes sets at (λ P. named_table bytes relations (at + 4) (λ R. named_table bytes relations (at + 8) (λ G.
       named_table bytes relations (at + 12) (λ Q. loop_head rule (record { p = P; r = R; g = G; q = Q }) (at + 16)))))
 
   -- A node's rule: 20 not there, then 24 the 128th node or the 25th level, then 22 the unused code 7, then its tables.
-  unfoldable pub rule_head : Bool → ℕ → Field → HeadFound
-  rule_head tooMany at Missing = Fault 20 (bit_length bytes)
-  rule_head tooMany at (Value rule next) = cond tooMany (Fault 24 at) (cond (eqb rule 7) (Fault 22 at) (names_head rule next))
+  unfoldable pub rule_head : Bool → ℕ → Result (ℕ × ℕ) FileFault → HeadRead
+  rule_head too_many at (Err fault) = Err fault
+  rule_head too_many at (Ok (rule, next)) =
+      cond too_many (Err (fault_at 24 at)) (cond (eqb rule 7) (Err (fault_at 22 at)) (names_head rule next))
 
   -- The head of a node with so many nodes before it, where so many levels are left below it.
-  unfoldable pub node_head : ℕ → ℕ → ℕ → HeadFound
-  node_head below before at = rule_head (eqb below 0 || leb most_nodes before) at (field_at bytes at 3)
+  unfoldable pub node_head : ℕ → ℕ → ℕ → HeadRead
+  node_head below before at = rule_head (eqb below 0 || leb most_nodes before) at (field_or bytes at 3 20)
 
 -- A derivation with the number of nodes so far and the bit after it, or the first fault.
 pub data NodeRead : Type 0 where
@@ -80,9 +79,9 @@ on_left_node f (fault k place) right = fault k place
 on_left_node f (whole l before next) right = on_child (f l) (right before next)
 
 -- Its child nodes: none for skip and assignment, two for sequence and parallel, one for if, while and weaken.
-abbrev pub on_node_head : HeadFound → ℕ → (ℕ → ℕ → NodeRead) → NodeRead
-on_node_head (Fault k place) before node = fault k place
-on_node_head (Head x) before node =
+abbrev pub on_node_head : HeadRead → ℕ → (ℕ → ℕ → NodeRead) → NodeRead
+on_node_head (Err x) before node = fault x.number x.bit
+on_node_head (Ok x) before node =
     cond (ltb x.rule 2) (whole (alone x) (suc before) x.next)
     (cond (ltb x.rule 4) (on_left_node (over_two x) (node (suc before) x.next) node) (on_child (over_one x) (node (suc before) x.next)))
 
@@ -96,6 +95,6 @@ unfoldable pub whole_node : List ℕ → ℕ → ℕ → ℕ → NodeRead
 whole_node bytes sets relations at = node_at (suc most_node_levels) bytes sets relations 0 at
 
 -- What the code answers of a derivation.
-unfoldable pub end_of : NodeRead → NodeEnd
-end_of (whole d before next) = End.Ends before (levels d) next
-end_of (fault k place) = End.Fault k place
+unfoldable pub end_of : NodeRead → Result NodeEnd FileFault
+end_of (whole d before next) = Ok (record { nodes = before; levels = levels d; next = next })
+end_of (fault k place) = Err (fault_at k place)

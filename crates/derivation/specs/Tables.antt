@@ -1,13 +1,10 @@
 -- docs/FORMAT.md, "Counts" and "Sets and relations": 5 bits number of sets, 5 bits number of relations, each 1 to 16; sets of
 -- N bits, state 0 first; relations of N rows of N bits, row s holding the ends t of pairs (s,t).
-use Rattle.std.specs.Prelude.{ℕ, zero, suc, ◌+◌, ◌-◌, ◌*◌, ◌/◌, ◌%◌, min, Bool, cond, ◌&&◌, List, [], ◌∷◌, ◌++◌, length, drop, leb, ltb, eqb}
-use Rattle.bits.specs.Fields.{bit_length, bit_at, field_at}
-use Rattle.bits.specs.declared.Field.{Field}
-use Rattle.bits.specs.declared.Field.TheVariants.{Value, Missing}
+use Rattle.std.specs.Prelude.{ℕ, zero, suc, ◌+◌, ◌-◌, ◌*◌, ◌/◌, ◌%◌, min, Bool, cond, ◌&&◌, List, [], ◌∷◌, ◌++◌, length, drop, leb, ltb, eqb, Result, Ok, Err}
+use Rattle.bits.specs.Fields.{bit_length, bit_at, fault_at, field_or}
+use Rattle.bits.specs.declared.FileFault.{FileFault}
 use Rattle.states.specs.Sets.{set_words, capacity}
 use Rattle.derivation.specs.declared.TablesHead.{TablesHead}
-use Rattle.derivation.specs.declared.TablesEnd.{TablesEnd}
-use Rattle.derivation.specs.declared.TablesEnd.TheVariants.{Counts, Fault}
 
 -- At most 16 sets and 16 relations.
 abbrev pub most_tables : ℕ
@@ -32,20 +29,21 @@ is_count k = leb 1 k && leb k most_tables
 abbrev pub tables_head : ℕ → ℕ → ℕ → TablesHead
 tables_head n sets relations = record { sets = sets; relations = relations; root = row_at n sets relations 0 }
 
-unfoldable pub relations_read : List ℕ → ℕ → ℕ → Field → TablesEnd
-relations_read bytes n sets Missing = Fault 20 (bit_length bytes)
-relations_read bytes n sets (Value relations next) =
+unfoldable pub relations_read : List ℕ → ℕ → ℕ → Result (ℕ × ℕ) FileFault → Result TablesHead FileFault
+relations_read bytes n sets (Err fault) = Err fault
+relations_read bytes n sets (Ok (relations, next)) =
     cond (is_count relations)
-    (cond (tables_there bytes n sets relations) (Counts (tables_head n sets relations)) (Fault 20 (bit_length bytes)))
-    (Fault 21 5)
+    (cond (tables_there bytes n sets relations) (Ok (tables_head n sets relations)) (Err (fault_at 20 (bit_length bytes))))
+    (Err (fault_at 21 5))
 
-unfoldable pub sets_read : List ℕ → ℕ → Field → TablesEnd
-sets_read bytes n Missing = Fault 20 (bit_length bytes)
-sets_read bytes n (Value sets next) = cond (is_count sets) (relations_read bytes n sets (field_at bytes 5 5)) (Fault 21 0)
+unfoldable pub sets_read : List ℕ → ℕ → Result (ℕ × ℕ) FileFault → Result TablesHead FileFault
+sets_read bytes n (Err fault) = Err fault
+sets_read bytes n (Ok (sets, next)) =
+    cond (is_count sets) (relations_read bytes n sets (field_or bytes 5 5 20)) (Err (fault_at 21 0))
 
 -- The head of the file: how many sets and relations, and the root node's first bit, or the first fault.
-unfoldable pub tables_at : List ℕ → ℕ → TablesEnd
-tables_at bytes n = sets_read bytes n (field_at bytes 0 5)
+unfoldable pub tables_at : List ℕ → ℕ → Result TablesHead FileFault
+tables_at bytes n = sets_read bytes n (field_or bytes 0 5 20)
 
 -- Whether state s is in set i, and whether (s,t) is in relation r, as the file holds them.
 unfoldable pub in_set_of : List ℕ → ℕ → ℕ → ℕ → Bool

@@ -1,4 +1,5 @@
-// The numbers of the faults of the proof file (docs/FORMAT.md, "Faults of reading").
+// The numbers of the faults of the proof file (docs/FORMAT.md, "Faults of reading"). They are not an enum, because the
+// format fixes them and the exported functions of `host` give them as numbers.
 
 // A field runs past the end.
 pub const PROOF_MISSING: u32 = 20;

@@ -1,12 +1,12 @@
 // The head of the proof file: its two counts, and whether its sets and relations are there in full.
 ghost use Rattle.std.specs.Prelude.{◌≡◌, ◌≤◌};
-ghost use Rattle.bits.specs.Fields.{field_at};
+ghost use Rattle.bits.specs.Fields.{field_or};
 ghost use Rattle.states.specs.Sets.{capacity};
 ghost use Rattle.derivation.specs.Tables.{most_tables, row_at, tables_there, is_count, relations_read, tables_at};
 
 use super::codes::{PROOF_MISSING, TABLE_COUNT};
-use super::{MOST_TABLES, TablesEnd, TablesHead};
-use bits::Field;
+use super::{MOST_TABLES, TablesHead};
+use bits::FileFault;
 use states::CAPACITY;
 
 // The bits of each of the two counts, and of both: the sets begin after these.
@@ -18,13 +18,11 @@ pub(crate) const TABLES_FROM: usize = 2 * TABLE_COUNT_BITS;
 fn is_count(k: u64) -> bool
     ensures { result ≡ is_count k }
 {
-    if k < 1 {
-        return false;
-    }
-    k <= MOST_TABLES as u64
+    (1..=MOST_TABLES as u64).contains(&k)
 }
 
 // The first bit of a relation's row; the root node is where the first relation too many would be.
+#[tactic(auto, unfolding(crate::specs::Tables::row_at))]
 pub(crate) fn row_cursor(n: usize, sets: usize, relation: usize, state: usize) -> usize
     requires { (n ≤ capacity) × (sets ≤ most_tables) × (relation ≤ most_tables) × (state ≤ capacity) }
     ensures { result ≡ row_at n sets relation state }
@@ -37,7 +35,7 @@ fn are_there(src: &[u8], n: u32, sets: u32, relations: u32) -> bool
     requires { (sets ≤ most_tables) × (relations ≤ most_tables) }
     ensures { result ≡ tables_there src.now n sets relations }
 {
-    if n < 1 || n > CAPACITY {
+    if !(1..=CAPACITY).contains(&n) {
         return false;
     }
     let end = row_cursor(n as usize, sets as usize, relations as usize, 0);
@@ -45,37 +43,42 @@ fn are_there(src: &[u8], n: u32, sets: u32, relations: u32) -> bool
 }
 
 // The number of relations, and then the tables of a file with so many sets.
-fn read_relations(src: &[u8], n: u32, sets: u32) -> TablesEnd
+fn read_relations(src: &[u8], n: u32, sets: u32) -> Result<TablesHead, FileFault>
     requires { sets ≤ most_tables }
-    ensures { result ≡ relations_read src.now n sets (field_at src.now 5 5) }
+    ensures { result ≡ relations_read src.now n sets (field_or src.now 5 5 20) }
 {
-    let Field::Value(count, _) = bits::read(src, TABLE_COUNT_BITS, TABLE_COUNT_BITS) else {
-        return TablesEnd::Fault(PROOF_MISSING, bits::bit_length(src));
-    };
-    if is_count(count) {
-        let relations = count as u32;
-        if are_there(src, n, sets, relations) {
-            let root = row_cursor(n as usize, sets as usize, relations as usize, 0);
-            return TablesEnd::Counts(TablesHead {
-                sets,
-                relations,
-                root,
-            });
-        }
-        return TablesEnd::Fault(PROOF_MISSING, bits::bit_length(src));
+    let (count, _) = bits::read_or(src, TABLE_COUNT_BITS, TABLE_COUNT_BITS, PROOF_MISSING)?;
+    if !is_count(count) {
+        return Err(FileFault {
+            number: TABLE_COUNT,
+            bit: TABLE_COUNT_BITS,
+        });
     }
-    TablesEnd::Fault(TABLE_COUNT, TABLE_COUNT_BITS)
+    let relations = count as u32;
+    if !are_there(src, n, sets, relations) {
+        return Err(FileFault {
+            number: PROOF_MISSING,
+            bit: bits::bit_length(src),
+        });
+    }
+    let root = row_cursor(n as usize, sets as usize, relations as usize, 0);
+    Ok(TablesHead {
+        sets,
+        relations,
+        root,
+    })
 }
 
 // The head of a proof file over n states, or its first fault.
-pub fn read_tables(src: &[u8], n: u32) -> TablesEnd
+pub fn read_tables(src: &[u8], n: u32) -> Result<TablesHead, FileFault>
     ensures { result ≡ tables_at src.now n }
 {
-    let Field::Value(sets, _) = bits::read(src, 0, TABLE_COUNT_BITS) else {
-        return TablesEnd::Fault(PROOF_MISSING, bits::bit_length(src));
-    };
-    if is_count(sets) {
-        return read_relations(src, n, sets as u32);
+    let (sets, _) = bits::read_or(src, 0, TABLE_COUNT_BITS, PROOF_MISSING)?;
+    if !is_count(sets) {
+        return Err(FileFault {
+            number: TABLE_COUNT,
+            bit: 0,
+        });
     }
-    TablesEnd::Fault(TABLE_COUNT, 0)
+    read_relations(src, n, sets as u32)
 }

@@ -44,13 +44,6 @@ pub struct TablesHead {
     pub root: usize,
 }
 
-// The head of the file over N states, or a fault.
-#[derive(Clone, Copy)]
-pub enum TablesEnd {
-    Counts(TablesHead),
-    Fault(u32, usize),
-}
-
 // The head of a node: its rule, the tables that it names (K and W are 0 but at a while), and the bit after it.
 #[derive(Clone, Copy)]
 struct NodeHead {
@@ -61,34 +54,13 @@ struct NodeHead {
     next: usize,
 }
 
-// The head of a node, or a fault.
-#[derive(Clone, Copy)]
-enum HeadFound {
-    Head(NodeHead),
-    Fault(u32, usize),
-}
-
-// Two tables that a node names one after the other, and the bit after them.
-#[derive(Clone, Copy)]
-struct NamePair {
-    first: u32,
-    second: u32,
-    next: usize,
-}
-
-// Two such names, or a fault.
-#[derive(Clone, Copy)]
-enum TwoNames {
-    Pair(NamePair),
-    Fault(u32, usize),
-}
-
 // Where the derivation at a node ends: how many nodes the file has so far, how many levels the derivation has, and the bit after
-// it; or the first fault.
+// it.
 #[derive(Clone, Copy)]
-enum NodeEnd {
-    Ends(u32, u32, usize),
-    Fault(u32, usize),
+struct NodeEnd {
+    nodes: u32,
+    levels: u32,
+    next: usize,
 }
 
 // A node as the table keeps it: its rule, the tables that it names (K and W are 0 but at a while), the number of the node
@@ -113,16 +85,9 @@ pub struct ProofHead {
     pub root: usize,
 }
 
-// What a proof file without fault holds, or its first fault.
-#[derive(Clone, Copy)]
-pub enum ProofFound {
-    Proof(ProofHead),
-    Fault(u32, usize),
-}
-
-// A whole proof file: what was found, and the table of its nodes, which is 0 after a fault.
+// A whole proof file: what it holds, and the table of its nodes.
 #[derive(Drop)]
 pub struct ProofFile {
-    pub found: ProofFound,
+    pub head: ProofHead,
     pub nodes: [u64; MOST_NODES],
 }

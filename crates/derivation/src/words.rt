@@ -1,5 +1,5 @@
 // The work words: a set for each set and for each row of a relation (docs/FORMAT.md, "Work words").
-ghost use Rattle.std.specs.Prelude.{List, ◌≡◌, ℕ, ◌+◌, ◌-◌, ◌*◌, ◌/◌, ◌%◌, ◌^◌, ◌≤◌, ◌<◌, min};
+ghost use Rattle.std.specs.Prelude.{List, ◌≡◌, ℕ, ◌+◌, ◌-◌, ◌*◌, ◌/◌, ◌%◌, ◌^◌, ◌≤◌, ◌<◌};
 ghost use Rattle.states.specs.Sets.{set_words, capacity};
 ghost use Rattle.derivation.specs.Tables.{most_tables, word_at, set_word_at, table_word, work_words, are_tables, limited_word, written};
 
@@ -69,30 +69,12 @@ fn next_word(n: usize, j: usize) -> usize
     }
 }
 
-// How many of the work words a buffer has.
-fn table_words(len: usize) -> usize
-    ensures { result ≡ min work_words len }
-{
-    if len < WORK_WORDS { len } else { WORK_WORDS }
-}
-
-// How many of a buffer's words hold the sets and so many relations.
-fn used_words(relations: usize, len: usize) -> usize
-    requires { relations ≤ most_tables }
-    ensures { result ≡ min (set_words * (most_tables + capacity * relations)) len }
-{
-    let used = SET_WORDS * (MOST_TABLES + ROWS * relations);
-    if len < used { len } else { used }
-}
-
 // Sets the work words to 0: those of a file with no tables.
 pub fn clear(work: &mut [u64])
     ensures { work.new ≡ written (λ j. 0) work.old }
 {
-    let count = table_words(work.len());
-    for j in 0..count {
-        work[j] = 0;
-    }
+    let count = work.len().min(WORK_WORDS);
+    work[..count].fill(0);
 }
 
 // Writes the tables of a file with so many sets and relations; a shorter buffer is written as far as it goes. Most words
@@ -102,11 +84,11 @@ pub(crate) fn fill(src: &[u8], n: usize, sets: usize, relations: usize, work: &m
     ensures { work.new ≡ written (table_word src.now n sets relations) work.old }
 {
     clear(work);
-    let used = used_words(relations, work.len());
+    let used = work.len().min(SET_WORDS * (MOST_TABLES + ROWS * relations));
     let mut j = 0;
+    // Not a `for`: rows that no relation has are passed over.
     while j < used {
-        let word = table_word(src, n, sets, relations, j);
-        work[j] = word;
+        work[j] = table_word(src, n, sets, relations, j);
         j = next_word(n, j);
     }
 }

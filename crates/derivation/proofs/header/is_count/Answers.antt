@@ -1,12 +1,10 @@
--- The first test that fails decides.
-use borrow.Author.Tests.{le-leb, lt-leb}
+-- The tests of the range are those of the definition.
+use mathlib.Core.Path.{◌∙◌}
+use Rattle.std.proofs.lemmas.Grind.{common_steps}
+use native.Mathlib.Omega.{arith}
 use Rattle.derivation.specs.Tables.{is_count}
 use Rattle.derivation.proofs.header.is_count.Goals as goal
 
-pub returns-then-k-lt1 : goal.returns-then-k-lt1
-unfolding is_count
-returns-then-k-lt1 c = rw (lt-leb 1 _ c.if-k-lt1.true)
-
 pub returns : goal.returns
 unfolding is_count
-returns c = rw (le-leb 1 _ c.if-k-lt1.false)
+returns c = c.contains.ensures.value ∙ rw (c.new.ensures.start, c.new.ensures.end, c.new.ensures.exhausted) (grind (arith, common_steps))

@@ -1,27 +1,27 @@
 -- A while reads two more names; what is read after them is the node itself.
-use mathlib.Core.Path.{◌≡◌, sym}
-use borrow.Author.Tests.{eq-eqb, ne_eqb}
-use Rattle.derivation.specs.declared.HeadFound.TheVariants.{Head}
-use Rattle.derivation.specs.Nodes.{on_pair, loop_head}
-use Rattle.derivation.proofs.nodes.loop_head.Goals.{After-names_at}
+use mathlib.Core.Path.{sym, ◌∙◌}
+use borrow.Author.Tests.{ne_eqb}
+use Rattle.derivation.specs.Nodes.{loop_head}
+use Rattle.derivation.proofs.Heads.{passed_on, from_K, from_W}
 use Rattle.derivation.proofs.nodes.loop_head.Goals as goal
 
--- The pair, read with the node after it.
-in_pair : (c : After-names_at) →
-    let a = c.args in
-    loop_head a.src.now a.sets a.relations a.rule a.names a.at
-    ≡ on_pair c.names_at.result (λ K W next. Head (record { rule = a.rule; names = a.names; k = K; w = W; next = next }))
-unfolding loop_head
-in_pair c = rw (eq-eqb _ 5 c.if-rule-ne-WHILE.false) (c.names_at.ensures _)
-
 pub returns-then-rule-ne-WHILE : goal.returns-then-rule-ne-WHILE
-unfolding loop_head on_pair
+unfolding loop_head
 returns-then-rule-ne-WHILE c = rw (ne_eqb _ 5 c.if-rule-ne-WHILE.true)
 
-pub returns-in-Fault : goal.returns-in-Fault
-unfolding loop_head on_pair
-returns-in-Fault c = sym (rw c.in-Fault.is at (in_pair (goal.at.returns-in-Fault c).After-names_at))
+pub returns-in_err-k : goal.returns-in_err-k
+returns-in_err-k c =
+    let a = c.args in
+    passed_on _ _ c.from_residual.ensures.1
+    ∙ sym (rw c.in_err-k.was at (from_K a.src.now a.tables.sets a.tables.relations a.rule a.names a.at c.if-rule-ne-WHILE.false _ c.name_at.ensures))
 
-pub returns-in-Pair : goal.returns-in-Pair
-unfolding loop_head on_pair
-returns-in-Pair c = sym (rw c.in-Pair.is at (in_pair (goal.at.returns-in-Pair c).After-names_at))
+pub returns-in_err-w : goal.returns-in_err-w
+returns-in_err-w c =
+    let a = c.args in
+    passed_on _ _ c.from_residual-in_err-w.ensures.1
+    ∙ sym (rw c.in_err-w.was at (from_W a.src.now a.tables.sets a.tables.relations a.rule a.names a.at c.if-rule-ne-WHILE.false _ c.name_at.ensures _ _ c.in_ok-k.was _ c.name_at-2.ensures))
+
+pub returns : goal.returns
+returns c =
+    let a = c.args in
+    sym (rw c.in_ok-w.was at (from_W a.src.now a.tables.sets a.tables.relations a.rule a.names a.at c.if-rule-ne-WHILE.false _ c.name_at.ensures _ _ c.in_ok-k.was _ c.name_at-2.ensures))

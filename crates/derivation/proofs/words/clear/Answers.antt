@@ -1,22 +1,16 @@
--- One turn is `fill_more`.
+-- A copy of 0 is 0, and so the front is `tabulate` of 0.
 use Prim.Native.Nat.{min}
-use mathlib.Core.Path.{◌≡◌, refl}
+use mathlib.Core.Path.{◌≡◌}
 use native.Mathlib.Omega.{arith}
 use lib.ListN.{length}
-use Rattle.derivation.specs.Tables.{tabulate, work_words, written}
-use Rattle.derivation.proofs.Buffers.{fill_more}
+use Rattle.std.proofs.lemmas.List.{length-take-le}
+use Rattle.derivation.specs.Tables.{work_words, written}
+use Rattle.derivation.proofs.Buffers.{tabulate_zeros}
 use Rattle.derivation.proofs.words.clear.Goals as goal
-
-pub loop-j-init : goal.loop-j-init
-unfolding tabulate
-loop-j-init c = (omega arith, refl)
-
-pub loop-j-preserved : goal.loop-j-preserved
-loop-j-preserved c = let l = c.loop-j in
-    (omega arith, rw l.invariant.1 (fill_more (λ i. 0) _ l.j (omega arith)))
 
 pub returns : goal.returns
 unfolding written
-returns c = let l = c.loop-j in
-    let all : l.j ≡ min work_words (length c.args.work.now) = omega arith in
-    rw (l.invariant.1, all)
+returns c =
+    let work = c.args.work.now in
+    let count : c.min-count.result ≡ min work_words (length work) = omega arith in
+    rw (c.fill.ensures.after (λ y e. e), count, length-take-le (min work_words (length work)) work (omega arith), tabulate_zeros)

@@ -23,7 +23,7 @@ loop-j-init c = let a = c.args in
 pub loop-j-preserved : goal.loop-j-preserved
 loop-j-preserved c = let l = c.loop-j in
     let kept = ap length c.clear.ensures ∙ length_written (λ j. 0) c.args.work.now in
-    rw (l.invariant, c.table_word-word.ensures)
+    rw (l.invariant, c.table_word.ensures)
     (upto_more _ _ l.j c.next_word-j.result c.next_word-j.ensures.0 (omega arith) (omega arith) (c.next_word-j.ensures.1 _ _ _))
 
 pub returns : goal.returns
