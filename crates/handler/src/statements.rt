@@ -142,13 +142,11 @@ fn test_steps(n: u32, code: u32, e: u32, body: u64) -> u64
 {
     let part = body.min(PAST);
     let reads = e as u64;
-    let steps = if code == IF {
-        reads + 1 + part
-    } else {
-        let states = n as u64;
-        states * (reads + 2) + (states - 1) * (part + 1)
-    };
-    steps.min(PAST)
+    if code == IF {
+        return (reads + 1 + part).min(PAST);
+    }
+    let states = n as u64;
+    (states * (reads + 2) + (states - 1) * (part + 1)).min(PAST)
 }
 
 // The summary of an if or while, from those of its test and its body.
