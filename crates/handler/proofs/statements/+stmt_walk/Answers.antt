@@ -74,7 +74,7 @@ store_statement-requires-in-Assign t c = omega (arith, marked _ _ _ _ _ _ (sym c
 pub returns-in_err-expr-in-Assign : goal.returns-in_err-expr-in-Assign
 returns-in_err-expr-in-Assign t c =
     let head = sym c.stmt_head_at.ensures ∙ c.in_ok-head.was ∙ ap Ok c.in-Assign.is in
-    let e = assign_fault _ _ _ _ _ _ _ (pos_of_ne-zero c.if-levels-eq0.false) _ _ head _ (sym c.expr_shape.ensures.value ∙ c.in_err-expr-in-Assign.was) in
+    let e = assign_fault _ _ _ _ _ c.args.n c.args.terms (pos_of_ne-zero c.if-levels-eq0.false) _ _ head _ (sym c.expr_shape.ensures.value ∙ c.in_err-expr-in-Assign.was) in
     let read = stmt_faulted _ _ _ _ _ (sym e) in
     record { value = rw (← e) (search rules); statements_stored = rw read tt; exprs_stored = rw read tt }
 
@@ -123,7 +123,7 @@ pair_of-requires t c = (
 pub returns-in_err-test-in-Test : goal.returns-in_err-test-in-Test
 returns-in_err-test-in-Test t c =
     let head = sym c.stmt_head_at.ensures ∙ c.in_ok-head.was ∙ ap Ok c.in-Test.is in
-    let e = test_fault _ _ _ _ _ _ _ (pos_of_ne-zero c.if-levels-eq0.false) _ _ head _ (sym c.expr_shape-in-Test.ensures.value ∙ c.in_err-test-in-Test.was) in
+    let e = test_fault _ _ _ _ _ c.args.n c.args.terms (pos_of_ne-zero c.if-levels-eq0.false) _ _ head _ (sym c.expr_shape-in-Test.ensures.value ∙ c.in_err-test-in-Test.was) in
     let read = stmt_faulted _ _ _ _ _ (sym e) in
     record { value = rw (← e) (search rules); statements_stored = rw read tt; exprs_stored = rw read tt }
 
