@@ -6,10 +6,11 @@ use mathlib.Core.List.{List, [], ◌∷◌, ◌++◌}
 use mathlib.Core.Path.{◌≡◌, refl}
 use lib.IntN.{pos, negsuc}
 use lib.ListN.{replicate}
-use Rattle.bits.specs.Fields.{bit_length, bit_at, bits_at, is_there, field_at, first_set, fill_bits, further_byte, fill_from, fill_at}
+use Rattle.bits.specs.Fields.{bit_length, fault_at, field_or, bit_at, bits_at, is_there, field_at, first_set, fill_bits, further_byte, fill_from, fill_at}
 use Rattle.semantics.specs.Language.{Expr, lit, int, truth, var, op, nil, assign}
-use Rattle.handler.specs.declared.HandlerFound.TheVariants.{Handler}
-use Rattle.handler.specs.Header.{size_read, add_size, sizes_read, count_read, head_at, head_of, no_head}
+use Rattle.std.specs.Prelude.{Ok, Err, Some, option_map}
+use Rattle.std.specs.Result.{result_ok}
+use Rattle.handler.specs.Header.{size_read, add_size, sizes_read, count_read, head_at, head_of}
 use Rattle.handler.specs.Expressions.{signed, integer_head, truth_head, variable_head, operation_head, payload_head, tag_head, expr_head, expr_at, whole_expr}
 use Rattle.handler.specs.Statements.{target_head, code_head, mark_head, stmt_head, stmt_at, whole_stmt}
 use Rattle.handler.specs.StatementTable.{statement_word, word_of, statement_table}
@@ -19,7 +20,7 @@ use Rattle.handler.specs.Shapes.{handler_file, terms_after}
 
 -- Unfolds all that reading a file computes with.
 opened : Unit {0}
-unfolding handler_file terms_after term_word first_word bits16 head_of statement_table word_of statement_word read_handler head_at count_read sizes_read add_size size_read whole_stmt stmt_at stmt_head mark_head code_head target_head whole_expr expr_at expr_head tag_head payload_head integer_head truth_head variable_head operation_head signed field_at is_there bits_at bit_at bit_length fill_at fill_from further_byte fill_bits first_set
+unfolding handler_file terms_after term_word first_word bits16 head_of statement_table word_of statement_word read_handler head_at count_read sizes_read add_size size_read whole_stmt stmt_at stmt_head mark_head code_head target_head whole_expr expr_at expr_head tag_head payload_head integer_head truth_head variable_head operation_head signed field_or field_at is_there bits_at bit_at bit_length fill_at fill_from further_byte fill_bits first_set
 opened = tt
 
 -- One variable of size 2; 16 sequences, each the left side of the one before, leave the 17th level at bit 56.
@@ -54,14 +55,14 @@ compound = op 5 (op 2 (var 1) (lit (int (negsuc 0)))) (lit (truth true))
 pub handlers :
     (read_handler (0x22 ∷ 0x20 ∷ 0x02 ∷ []) ≡ handler (2 ∷ []) 8 (assign 0 (lit (int (pos 1)))))
     × (read_handler (0x30 ∷ 0x00 ∷ []) ≡ handler (16 ∷ []) 8 nil)
-    × (handler_file (read_handler (0x22 ∷ 0x20 ∷ 0x02 ∷ [])) ≡ record {
-      found = Handler (record { at = 8; end = 23; statements = 1; levels = 1; steps = 1 });
+    × (handler_file (read_handler (0x22 ∷ 0x20 ∷ 0x02 ∷ [])) ≡ Ok (record {
+      summary = record { at = 8; end = 23; statements = 1; levels = 1; steps = 1 };
       head = record { count = 1; sizes = 2 ∷ 1 ∷ 1 ∷ 1 ∷ []; states = 2 };
       statements = (1 + 8 * (0 + 4 * (1 + 128 * (0 + 2048 * 8)))) ∷ replicate 62 0;
-    })
-    × ((handler_file (read_handler many)).found ≡ Handler (record { at = 8; end = 197; statements = 63; levels = 6; steps = 31 }))
-    × ((handler_file (read_handler loops)).found ≡ Handler (record { at = 13; end = 106; statements = 16; levels = 16; steps = 2 ^ 32 }))
-    × ((handler_file (read_handler [])).head ≡ no_head)
+    }))
+    × (option_map (λ file. file.summary) (result_ok (handler_file (read_handler many))) ≡ Some (record { at = 8; end = 197; statements = 63; levels = 6; steps = 31 }))
+    × (option_map (λ file. file.summary) (result_ok (handler_file (read_handler loops))) ≡ Some (record { at = 13; end = 106; statements = 16; levels = 16; steps = 2 ^ 32 }))
+    × (handler_file (read_handler []) ≡ Err (fault_at 10 0))
 unfolding opened
 handlers = (refl, refl, refl, refl, refl, refl)
 

@@ -10,13 +10,12 @@ use borrow.Author.Tests.{eqb-true, eqb-false}
 use lib.ListN.{length, set}
 use lib.Dec.{eqb}
 use lib.Seq.{sets}
-use denote.Enum.Declared.{tag_of}
-use types.Run.{OneOf}
+use Rattle.std.specs.Prelude.{Result, Ok, Err}
+use Rattle.bits.specs.declared.FileFault.{FileFault}
 use Rattle.semantics.specs.declared.Kind.{Kind}
 use Rattle.semantics.specs.Language.{Expr, Stmt, seq, par, if, while}
 use Rattle.handler.specs.declared.expressions.ExprHead.{ExprHead}
 use Rattle.handler.specs.declared.expressions.ExprHead.TheVariants as head
-use Rattle.handler.specs.declared.expressions.ExprShape.TheVariants as expr
 use Rattle.handler.specs.Expressions.{expr_head, ExprRead, good, bad, joined, on_expr_head, expr_at, whole_expr}
 use Rattle.handler.specs.Shapes.{expr_shape, stmt_shape}
 use Rattle.handler.specs.Terms.{expr_nodes, term_word, first_word, term_words, TermsStored, stmt_terms, handler_terms, ExprsStored}
@@ -26,8 +25,6 @@ use Rattle.handler.specs.declared.StmtHead.TheVariants.{Nil, Assign, Pair, Test}
 use Rattle.handler.specs.Statements.{stmt_head, StmtRead, whole, fault, on_assigned, on_right, stmt_at}
 use Rattle.handler.specs.Kinds.{width, stmt_width}
 use Rattle.handler.specs.StatementTable.{statements, statement_word, word_of, statement_words, StatementsStored}
-use Rattle.handler.specs.declared.StmtShape.TheVariants as stmt
-use Rattle.handler.specs.contracts.expressions.ExprHead.{the_type}
 use Rattle.handler.proofs.Stores.{two_filled, one_filled, both_filled}
 use Rattle.handler.proofs.TermTable.{length_term_words, length_handler_terms}
 use Rattle.handler.proofs.Folds.{expr_step, inner_step, childless, Headed, headed_as, expr_read}
@@ -36,16 +33,15 @@ use Rattle.handler.proofs.StatementTable.{length_statement_words}
 use Rattle.handler.proofs.StmtFolds.{stmt_step, Marked, marked, whole_read, stmt_read}
 
 -- The numbers of a node that was read fit the words of a table.
-pub head_fits : (bytes : List ℕ) (count nodes at : ℕ) (h : ExprHead) → expr_head bytes count nodes at ≡ h → HeadFits h
+pub head_fits : (bytes : List ℕ) (count nodes at : ℕ) (h : ExprHead) → expr_head bytes count nodes at ≡ Ok h → HeadFits h
 unfolding Headed
-head_fits bytes count nodes at h e = by h (headed_as bytes count nodes at h e)
+head_fits bytes count nodes at h e = by h (headed_as bytes count nodes at (Ok h) e)
   where
-    by : (h : ExprHead) → Headed bytes count nodes at h → HeadFits h
+    by : (h : ExprHead) → Headed bytes count nodes at (Ok h) → HeadFits h
     by (head.Integer z next) p = omega (arith, p.2)
     by (head.Truth b next) p = tt
     by (head.Variable v next) p = omega (arith, p.3)
     by (head.Operation o next) p = tt
-    by (head.Fault k place) p = tt
 
 -- What reading an expression does to a table, whose first node is number `first`.
 module _ (bytes : List ℕ) (count levels nodes at first : ℕ) (more : 0 < levels) where
@@ -55,25 +51,24 @@ module _ (bytes : List ℕ) (count levels nodes at first : ℕ) (more : 0 < leve
   abbrev operand : ℕ → ℕ → ExprRead
   operand = expr_at (levels - 1) bytes count
 
-  pub leaf_filled : (h : ExprHead) → expr_head bytes count nodes at ≡ h → OneOf (0 ∷ 1 ∷ 2 ∷ 4 ∷ []) (tag_of the_type h) → (table₀ table₁ : List ℕ)
+  pub leaf_filled : (h : ExprHead) → expr_head bytes count nodes at ≡ Ok h → ((o next : ℕ) → h ≡ head.Operation o next → ⊥) → (table₀ table₁ : List ℕ)
       → table₁ ≡ set table₀ (first + nodes) (term_word (leaf_term h)) → TermsStored table₀ table₁ (first + nodes) read
   unfolding first_word
-  leaf_filled h e tag table₀ table₁ own =
-      rw (expr_step bytes count levels nodes at h more e, childless h tag nodes operand (λ _ place. bad 14 place)) (by h own)
+  leaf_filled h e leaf table₀ table₁ own =
+      rw (expr_step bytes count levels nodes at (Ok h) more e, childless h leaf nodes operand (λ _ place. bad 14 place)) (by h own)
     where
       by : (h : ExprHead) → table₁ ≡ set table₀ (first + nodes) (term_word (leaf_term h))
-          → TermsStored table₀ table₁ (first + nodes) (on_expr_head h nodes (λ _ place. bad 14 place))
+          → TermsStored table₀ table₁ (first + nodes) (on_expr_head (Ok h) nodes (λ _ place. bad 14 place))
       by (head.Integer z next) own = own
       by (head.Truth b next) own = own
       by (head.Variable v next) own = own
       by (head.Operation o next) own = tt
-      by (head.Fault k place) own = tt
 
-  pub expr_fault_filled : (wanted : Kind) (k place : ℕ) (table₀ table₁ : List ℕ) → expr.Fault k place ≡ expr_shape wanted at read
+  pub expr_fault_filled : (wanted : Kind) (f : FileFault) (table₀ table₁ : List ℕ) → Err f ≡ expr_shape wanted at read
       → TermsStored table₀ table₁ (first + nodes) read
-  expr_fault_filled wanted k place table₀ table₁ e = rw (faulted wanted at read k place (sym e)) tt
+  expr_fault_filled wanted f table₀ table₁ e = rw (faulted wanted at read f (sym e)) tt
 
-  pub operation_filled : (o next : ℕ) → expr_head bytes count nodes at ≡ head.Operation o next
+  pub operation_filled : (o next : ℕ) → expr_head bytes count nodes at ≡ Ok (head.Operation o next)
       → (l : Expr) (so_far behind : ℕ) → operand (nodes + 1) next ≡ good l so_far behind → (table₀ table₁ table₂ table₃ : List ℕ)
       → TermsStored table₀ table₁ (first + (nodes + 1)) (operand (nodes + 1) next)
       → table₂ ≡ set table₁ (first + nodes) (term_word (record { tag = 3; value = o; right = first + so_far }))
@@ -142,16 +137,16 @@ module _ (bytes : List ℕ) (count levels before at i : ℕ) (more : 0 < levels)
   abbrev below : ℕ → ℕ → StmtRead
   below = stmt_at (levels - 1) bytes count
 
-  pub fault_filled : (N k place : ℕ) (table₀ table₁ exprs₀ exprs₁ : List ℕ) → stmt.Fault k place ≡ stmt_shape N i at here
+  pub fault_filled : (N : ℕ) (f : FileFault) (table₀ table₁ exprs₀ exprs₁ : List ℕ) → Err f ≡ stmt_shape N i at here
       → Stored table₀ table₁ exprs₀ exprs₁ before at i here
-  fault_filled N k place table₀ table₁ exprs₀ exprs₁ e = rw (stmt_faulted N i at here k place (sym e)) (tt, tt)
+  fault_filled N f table₀ table₁ exprs₀ exprs₁ e = rw (stmt_faulted N i at here f (sym e)) (tt, tt)
 
-  pub nil_filled : (next : ℕ) → stmt_head bytes count (levels - 1) before at ≡ Nil next → (table₀ table₁ exprs : List ℕ)
+  pub nil_filled : (next : ℕ) → stmt_head bytes count (levels - 1) before at ≡ Ok (Nil next) → (table₀ table₁ exprs : List ℕ)
       → table₁ ≡ set table₀ before (statement_word (entry 0 0 (before + 1) 0 at)) → Stored table₀ table₁ exprs exprs before at i here
   unfolding word_of
   nil_filled next head table₀ table₁ exprs own = rw (stmt_step bytes count levels before at _ more head) (rw (add-one before) at own, refl)
 
-  pub assign_filled : (v next : ℕ) → stmt_head bytes count (levels - 1) before at ≡ Assign v next → (table₀ table₁ exprs₀ exprs₁ : List ℕ)
+  pub assign_filled : (v next : ℕ) → stmt_head bytes count (levels - 1) before at ≡ Ok (Assign v next) → (table₀ table₁ exprs₀ exprs₁ : List ℕ)
       → table₁ ≡ set table₀ before (statement_word (entry 1 v (before + 1) i at)) → TermsStored exprs₀ exprs₁ i (whole_expr bytes count next)
       → Stored table₀ table₁ exprs₀ exprs₁ before at i here
   unfolding word_of
@@ -161,7 +156,7 @@ module _ (bytes : List ℕ) (count levels before at i : ℕ) (more : 0 < levels)
       by (bad k place) f = (tt, tt)
       by (good e nodes behind) f = (own ∙ rw (add-one before), f)
 
-  pub pair_filled : (code next : ℕ) → stmt_head bytes count (levels - 1) before at ≡ Pair code next
+  pub pair_filled : (code next : ℕ) → stmt_head bytes count (levels - 1) before at ≡ Ok (Pair code next)
       → (l : Stmt) (so_far behind : ℕ) → below (before + 1) next ≡ whole l so_far behind → (table₀ table₁ table₂ table₃ exprs₀ exprs₁ exprs₂ : List ℕ)
       → Stored table₀ table₁ exprs₀ exprs₁ (before + 1) next i (below (before + 1) next)
       → table₂ ≡ set table₁ before (statement_word (entry code 0 so_far 0 at))
@@ -186,7 +181,7 @@ module _ (bytes : List ℕ) (count levels before at i : ℕ) (more : 0 < levels)
                 ∙ ap (sets exprs₀ i) (pair_exprs (eqb code 2) i l r),
           )
 
-  pub test_filled : (code next : ℕ) → stmt_head bytes count (levels - 1) before at ≡ Test code next
+  pub test_filled : (code next : ℕ) → stmt_head bytes count (levels - 1) before at ≡ Ok (Test code next)
       → (e : Expr) (nodes behind : ℕ) → whole_expr bytes count next ≡ good e nodes behind
       → (b : Stmt) (after end : ℕ) → below (before + 1) behind ≡ whole b after end → (table₀ table₁ table₂ exprs₀ exprs₁ exprs₂ : List ℕ)
       → TermsStored exprs₀ exprs₁ i (whole_expr bytes count next)

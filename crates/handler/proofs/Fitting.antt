@@ -2,7 +2,8 @@
 -- not matter. A kind error is within the part that has it.
 use Prim.Native.Nat.{ℕ, ◌+◌, ◌≤◌, ◌<◌}
 use mathlib.Core.Bool.{Bool, true, false, cond, ◌&&◌}
-use mathlib.Core.Option.{Option, none, some}
+use Rattle.std.specs.Prelude.{Option, Some, None}
+use Rattle.std.specs.Option.{option_or}
 use mathlib.Core.Path.{◌≡◌, refl}
 use native.Mathlib.Omega.{arith}
 use Rattle.bits.proofs.Places.{either}
@@ -11,35 +12,35 @@ use Rattle.semantics.specs.declared.Kind.TheVariants.{Integer, Truth}
 use Rattle.semantics.specs.declared.Row.{Row}
 use Rattle.semantics.specs.declared.Row.TheVariants.{Kinds, Unused}
 use Rattle.semantics.specs.Language.{int, truth, Expr, lit, var, op, Stmt, nil, assign, seq, par, if, while, row_of, same_kind, kind_of, row_fits, fits, kinds_fit}
-use Rattle.handler.specs.Kinds.{width, or_place, row_kind_error, kind_error, stmt_width, stmt_kind_error}
+use Rattle.handler.specs.Kinds.{width, row_kind_error, kind_error, stmt_width, stmt_kind_error}
 
 -- If there is no kind error, a node is of the wanted kind, and neither of two parts has one.
-own : (b : Bool) (x : Option ℕ) (at : ℕ) → cond b x (some at) ≡ none → (b ≡ true) × (x ≡ none)
+own : (b : Bool) (x : Option ℕ) (at : ℕ) → cond b x (Some at) ≡ None → (b ≡ true) × (x ≡ None)
 own true x at e = (refl, e)
 own false x at e = absurd (let z : ◌≡◌ {A = ℕ} 0 1 = cc in omega arith)
 
-each : (x y : Option ℕ) → or_place x y ≡ none → (x ≡ none) × (y ≡ none)
-each none y e = (refl, e)
-each (some place) y e = absurd (let z : ◌≡◌ {A = ℕ} 0 1 = cc in omega arith)
+each : (x y : Option ℕ) → option_or x y ≡ None → (x ≡ None) × (y ≡ None)
+each None y e = (refl, e)
+each (Some place) y e = absurd (let z : ◌≡◌ {A = ℕ} 0 1 = cc in omega arith)
 
-both : (x y : Option ℕ) (a b : Bool) → (x ≡ none → a ≡ true) → (y ≡ none → b ≡ true) → or_place x y ≡ none → (a && b) ≡ true
+both : (x y : Option ℕ) (a b : Bool) → (x ≡ None → a ≡ true) → (y ≡ None → b ≡ true) → option_or x y ≡ None → (a && b) ≡ true
 both x y a b p q e = let sides = each x y e in rw (p sides.0, q sides.1)
 
-pub expr_fits : (k : Kind) (at : ℕ) (e : Expr) → kind_error k at e ≡ none → fits k e ≡ true
-expr_fits k at (lit v) e = (own (same_kind (kind_of v) k) none at e).0
-expr_fits k at (var v) e = (own (same_kind Integer k) none at e).0
+pub expr_fits : (k : Kind) (at : ℕ) (e : Expr) → kind_error k at e ≡ None → fits k e ≡ true
+expr_fits k at (lit v) e = (own (same_kind (kind_of v) k) None at e).0
+expr_fits k at (var v) e = (own (same_kind Integer k) None at e).0
 expr_fits k at (op o l r) e = by (row_of o) (λ a. expr_fits a (at + 5) l) (λ b. expr_fits b (at + 5 + width l) r) e
   where
-    by : (row : Row) → ((a : Kind) → kind_error a (at + 5) l ≡ none → fits a l ≡ true)
-        → ((b : Kind) → kind_error b (at + 5 + width l) r ≡ none → fits b r ≡ true)
-        → row_kind_error row k at (λ a. kind_error a (at + 5) l) (λ b. kind_error b (at + 5 + width l) r) ≡ none
+    by : (row : Row) → ((a : Kind) → kind_error a (at + 5) l ≡ None → fits a l ≡ true)
+        → ((b : Kind) → kind_error b (at + 5 + width l) r ≡ None → fits b r ≡ true)
+        → row_kind_error row k at (λ a. kind_error a (at + 5) l) (λ b. kind_error b (at + 5 + width l) r) ≡ None
         → row_fits row k (λ a. fits a l) (λ b. fits b r) ≡ true
     by (Kinds a b c) left right e =
-        let node = own (same_kind c k) (or_place (kind_error a (at + 5) l) (kind_error b (at + 5 + width l) r)) at e in
+        let node = own (same_kind c k) (option_or (kind_error a (at + 5) l) (kind_error b (at + 5 + width l) r)) at e in
         rw node.0 (both _ _ _ _ (left a) (right b) node.1)
     by Unused left right e = absurd (let z : ◌≡◌ {A = ℕ} 0 1 = cc in omega arith)
 
-pub stmt_fits : (at : ℕ) (S : Stmt) → stmt_kind_error at S ≡ none → kinds_fit S ≡ true
+pub stmt_fits : (at : ℕ) (S : Stmt) → stmt_kind_error at S ≡ None → kinds_fit S ≡ true
 stmt_fits at nil e = refl
 stmt_fits at (assign v x) e = expr_fits Integer (at + 5) x e
 stmt_fits at (seq l r) e = both _ _ _ _ (stmt_fits (at + 3) l) (stmt_fits (at + 3 + stmt_width l) r) e
@@ -48,24 +49,24 @@ stmt_fits at (if x b) e = both _ _ _ _ (expr_fits Truth (at + 3) x) (stmt_fits (
 stmt_fits at (while x b) e = both _ _ _ _ (expr_fits Truth (at + 3) x) (stmt_fits (at + 3 + width x) b) e
 
 -- If there is no kind error at one place, there is none at another.
-none_anywhere : (x y x' y' : Option ℕ) → (x ≡ none → x' ≡ none) → (y ≡ none → y' ≡ none) → or_place x y ≡ none → or_place x' y' ≡ none
+none_anywhere : (x y x' y' : Option ℕ) → (x ≡ None → x' ≡ None) → (y ≡ None → y' ≡ None) → option_or x y ≡ None → option_or x' y' ≡ None
 none_anywhere x y x' y' p q e = let sides = each x y e in rw (p sides.0, q sides.1)
 
-expr_anywhere : (k : Kind) (at at' : ℕ) (e : Expr) → kind_error k at e ≡ none → kind_error k at' e ≡ none
-expr_anywhere k at at' (lit v) e = rw (own (same_kind (kind_of v) k) none at e).0
-expr_anywhere k at at' (var v) e = rw (own (same_kind Integer k) none at e).0
+expr_anywhere : (k : Kind) (at at' : ℕ) (e : Expr) → kind_error k at e ≡ None → kind_error k at' e ≡ None
+expr_anywhere k at at' (lit v) e = rw (own (same_kind (kind_of v) k) None at e).0
+expr_anywhere k at at' (var v) e = rw (own (same_kind Integer k) None at e).0
 expr_anywhere k at at' (op o l r) e = by (row_of o) e (λ a. expr_anywhere a (at + 5) (at' + 5) l) (λ b. expr_anywhere b (at + 5 + width l) (at' + 5 + width l) r)
   where
-    by : (row : Row) → row_kind_error row k at (λ a. kind_error a (at + 5) l) (λ b. kind_error b (at + 5 + width l) r) ≡ none
-        → ((a : Kind) → kind_error a (at + 5) l ≡ none → kind_error a (at' + 5) l ≡ none)
-        → ((b : Kind) → kind_error b (at + 5 + width l) r ≡ none → kind_error b (at' + 5 + width l) r ≡ none)
-        → row_kind_error row k at' (λ a. kind_error a (at' + 5) l) (λ b. kind_error b (at' + 5 + width l) r) ≡ none
+    by : (row : Row) → row_kind_error row k at (λ a. kind_error a (at + 5) l) (λ b. kind_error b (at + 5 + width l) r) ≡ None
+        → ((a : Kind) → kind_error a (at + 5) l ≡ None → kind_error a (at' + 5) l ≡ None)
+        → ((b : Kind) → kind_error b (at + 5 + width l) r ≡ None → kind_error b (at' + 5 + width l) r ≡ None)
+        → row_kind_error row k at' (λ a. kind_error a (at' + 5) l) (λ b. kind_error b (at' + 5 + width l) r) ≡ None
     by (Kinds a b c) e left right =
-        let node = own (same_kind c k) (or_place (kind_error a (at + 5) l) (kind_error b (at + 5 + width l) r)) at e in
+        let node = own (same_kind c k) (option_or (kind_error a (at + 5) l) (kind_error b (at + 5 + width l) r)) at e in
         rw node.0 (none_anywhere _ _ _ _ (left a) (right b) node.1)
     by Unused e left right = absurd (let z : ◌≡◌ {A = ℕ} 0 1 = cc in omega arith)
 
-pub kinds_anywhere : (at at' : ℕ) (S : Stmt) → stmt_kind_error at S ≡ none → stmt_kind_error at' S ≡ none
+pub kinds_anywhere : (at at' : ℕ) (S : Stmt) → stmt_kind_error at S ≡ None → stmt_kind_error at' S ≡ None
 kinds_anywhere at at' nil e = refl
 kinds_anywhere at at' (assign v x) e = expr_anywhere Integer (at + 5) (at' + 5) x e
 kinds_anywhere at at' (seq l r) e =
@@ -79,22 +80,22 @@ kinds_anywhere at at' (while x b) e =
 
 -- A kind error is within the part that has it.
 abbrev pub Within : ℕ → ℕ → Option ℕ → Type 0
-Within at wide none = Unit {0}
-Within at wide (some place) = place < at + wide
+Within at wide None = Unit {0}
+Within at wide (Some place) = place < at + wide
 
-first_within : (at wide : ℕ) (x y : Option ℕ) → Within at wide x → Within at wide y → Within at wide (or_place x y)
-first_within at wide none y p q = q
-first_within at wide (some place) y p q = p
+first_within : (at wide : ℕ) (x y : Option ℕ) → Within at wide x → Within at wide y → Within at wide (option_or x y)
+first_within at wide None y p q = q
+first_within at wide (Some place) y p q = p
 
 -- A part within a whole.
 part_within : (at wide at' wide' : ℕ) → at + wide ≤ at' + wide' → (x : Option ℕ) → Within at wide x → Within at' wide' x
-part_within at wide at' wide' h none p = tt
-part_within at wide at' wide' h (some place) p = omega arith
+part_within at wide at' wide' h None p = tt
+part_within at wide at' wide' h (Some place) p = omega arith
 
 kind_within : (k : Kind) (at : ℕ) (e : Expr) → Within at (width e) (kind_error k at e)
-kind_within k at (lit (int z)) = either (Within at 10) (same_kind Integer k) none (some at) tt (omega arith)
-kind_within k at (lit (truth b)) = either (Within at 3) (same_kind Truth k) none (some at) tt (omega arith)
-kind_within k at (var v) = either (Within at 4) (same_kind Integer k) none (some at) tt (omega arith)
+kind_within k at (lit (int z)) = either (Within at 10) (same_kind Integer k) None (Some at) tt (omega arith)
+kind_within k at (lit (truth b)) = either (Within at 3) (same_kind Truth k) None (Some at) tt (omega arith)
+kind_within k at (var v) = either (Within at 4) (same_kind Integer k) None (Some at) tt (omega arith)
 kind_within k at (op o l r) = by (row_of o) (λ a. kind_within a (at + 5) l) (λ b. kind_within b (at + 5 + width l) r)
   where
     wide : ℕ
@@ -106,13 +107,13 @@ kind_within k at (op o l r) = by (row_of o) (λ a. kind_within a (at + 5) l) (λ
     by (Kinds a b c) left right =
         let x = kind_error a (at + 5) l in
         let y = kind_error b (at + 5 + width l) r in
-        either (Within at wide) (same_kind c k) (or_place x y) (some at)
+        either (Within at wide) (same_kind c k) (option_or x y) (Some at)
         (first_within at wide x y (part_within (at + 5) (width l) at wide (omega arith) x (left a))
         (part_within (at + 5 + width l) (width r) at wide (omega arith) y (right b))) (omega arith)
     by Unused left right = omega arith
 
 -- Of two parts after a code of 3 bits, the first error is that of the first.
-two_within : (at a b : ℕ) (x y : Option ℕ) → Within (at + 3) a x → Within (at + 3 + a) b y → Within at (3 + a + b) (or_place x y)
+two_within : (at a b : ℕ) (x y : Option ℕ) → Within (at + 3) a x → Within (at + 3 + a) b y → Within at (3 + a + b) (option_or x y)
 two_within at a b x y p q =
     first_within at (3 + a + b) x y (part_within (at + 3) a at (3 + a + b) (omega arith) x p) (part_within (at + 3 + a) b at (3 + a + b) (omega arith) y q)
 

@@ -1,25 +1,25 @@
 -- What a handler file that was read says of its head, its statement and its kinds.
 use Prim.Native.Nat.{ℕ, ◌+◌, ◌*◌, ◌^◌, ◌≤◌, ◌<◌, min}
+use mathlib.Core.Bool.{true≢false}
 use mathlib.Core.List.{List}
-use mathlib.Core.Option.{Option, none, some}
-use mathlib.Core.Path.{◌≡◌, refl}
+use Rattle.std.specs.Prelude.{Option, Some, None, Result, Ok, Err, is_ok}
+use mathlib.Core.Path.{◌≡◌, refl, sym, ap}
 use native.Mathlib.Omega.{arith}
 use lib.ListN.{length}
 use Rattle.bits.specs.Fields.{fill_at}
-use Rattle.bits.specs.declared.Fill.{Fill}
-use Rattle.bits.specs.declared.Fill.TheVariants.{Ends, Wrong}
+use Rattle.bits.specs.Fields as fields
+use Rattle.bits.specs.declared.FileFault.{FileFault}
 use Rattle.bits.proofs.Places.{FaultIn, fault_at, fill_inside}
 use Rattle.semantics.specs.Language.{Stmt, nil, assign, seq, par, if, while}
 use Rattle.semantics.specs.States.{product}
 use Rattle.semantics.specs.StepNumber.{steps}
 use Rattle.semantics.specs.Conditions.{target_of}
 use Rattle.handler.specs.Header as head
-use Rattle.handler.specs.declared.HandlerSummary.{HandlerSummary}
-use Rattle.handler.specs.declared.HandlerFound.TheVariants as found
+use Rattle.handler.specs.declared.HandlerFile.{HandlerFile}
 use Rattle.handler.specs.Statements.{StmtRead, whole, fault, whole_stmt}
 use Rattle.handler.specs.Kinds.{stmt_width, stmt_kind_error}
 use Rattle.handler.specs.Terms.{stmt_terms}
-use Rattle.handler.specs.StatementTable.{statements, stmt_levels}
+use Rattle.handler.specs.StatementTable.{statements, stmt_levels, statement_table}
 use Rattle.handler.specs.Reading.{HandlerRead, handler, refused, on_kinds, on_handler_fill, on_stmt, on_head, read_handler}
 use Rattle.handler.specs.Shapes.{handler_file, terms_after}
 use Rattle.handler.proofs.Heads.{head_in, head_read}
@@ -33,7 +33,7 @@ pub record KnownHandler (bytes sizes : List ℕ) (at : ℕ) (S : Stmt) : Type 0 
   pub starts : at ≡ 3 + 5 * length sizes
   pub read : whole_stmt bytes (length sizes) at ≡ whole S (statements S) (at + stmt_width S)
   pub inside : at + stmt_width S ≤ 8 * length bytes
-  pub fits : stmt_kind_error at S ≡ none
+  pub fits : stmt_kind_error at S ≡ None
   pub few : statements S ≤ 63
   pub high : stmt_levels S ≤ 16
   pub targets : TargetsBelow (length sizes) S
@@ -50,7 +50,7 @@ module _ (bytes : List ℕ) where
     kinds_known : (S : Stmt) (after next : ℕ) → whole_stmt bytes (length sizes) at ≡ whole S after next → (o : Option ℕ) → stmt_kind_error at S ≡ o
         → KnownFile (on_kinds sizes at S o)
     unfolding whole_stmt
-    kinds_known S after next read none fit =
+    kinds_known S after next read None fit =
         let known = stmt_read 17 bytes (length sizes) 0 at S after next read in
         let counted : after ≡ statements S = omega arith in
         record {
@@ -65,15 +65,15 @@ module _ (bytes : List ℕ) where
           terms = omega arith;
           exprs = known.exprs;
         }
-    kinds_known S after next read (some place) fit =
+    kinds_known S after next read (Some place) fit =
         let known = stmt_read 17 bytes (length sizes) 0 at S after next read in
         let within = rw fit at (stmt_within at S) in
         fault_at bytes 10 18 16 refl place (omega arith)
 
-    fill_known : (S : Stmt) (after next : ℕ) → whole_stmt bytes (length sizes) at ≡ whole S after next → (f : Fill) → fill_at bytes next ≡ f
+    fill_known : (S : Stmt) (after next : ℕ) → whole_stmt bytes (length sizes) at ≡ whole S after next → (f : Result (Unit {0}) ℕ) → fill_at bytes next ≡ f
         → KnownFile (on_handler_fill sizes at S f)
-    fill_known S after next read Ends e = kinds_known S after next read (stmt_kind_error at S) refl
-    fill_known S after next read (Wrong place) e = fault_at bytes 10 18 18 refl place (fill_inside bytes next place e)
+    fill_known S after next read (Ok _) e = kinds_known S after next read (stmt_kind_error at S) refl
+    fill_known S after next read (Err place) e = fault_at bytes 10 18 18 refl place (fill_inside bytes next place e)
 
     stmt_known : at ≤ 8 * length bytes → (x : StmtRead) → whole_stmt bytes (length sizes) at ≡ x → KnownFile (on_stmt bytes sizes at x)
     unfolding whole_stmt
@@ -99,29 +99,37 @@ handler_exprs bytes sizes at S entry read room =
     let known = known_handler bytes sizes at S read in
     rw read (exprs_stored entry S known.terms room known.exprs)
 
--- What is found in a file says what was read.
-pub found_refused : (r : HandlerRead) (k place : ℕ) → (handler_file r).found ≡ found.Fault k place → r ≡ refused k place
+-- What reading a file gives says what was read.
+pub found_refused : (r : HandlerRead) (f : FileFault) → handler_file r ≡ Err f → r ≡ refused f.number f.bit
 unfolding handler_file
-found_refused (handler sizes at S) k place f = absurd (let z : ◌≡◌ {A = ℕ} 0 1 = cc in omega arith)
-found_refused (refused j i) k place f = cc
+found_refused (handler sizes at S) f e = absurd (true≢false (ap is_ok e))
+found_refused (refused k place) f e =
+    let same : fields.fault_at k place ≡ f = cc in
+    rw (← same)
 
-pub record FoundHandler (r : HandlerRead) (w : HandlerSummary) : Type 0 where
+pub record FoundHandler (r : HandlerRead) (file : HandlerFile) : Type 0 where
   pub sizes : List ℕ
   pub S : Stmt
-  pub read : r ≡ handler sizes w.at S
-  pub ends : w.end ≡ w.at + stmt_width S
-  pub counted : w.statements ≡ statements S
-  pub high : w.levels ≡ stmt_levels S
-  pub stepping : w.steps ≡ min (steps (product sizes) S) (2 ^ 32)
+  pub read : r ≡ handler sizes file.summary.at S
+  pub head : file.head ≡ head.head_of sizes
+  pub table : file.statements ≡ statement_table file.summary.at S
+  pub ends : file.summary.end ≡ file.summary.at + stmt_width S
+  pub counted : file.summary.statements ≡ statements S
+  pub high : file.summary.levels ≡ stmt_levels S
+  pub stepping : file.summary.steps ≡ min (steps (product sizes) S) (2 ^ 32)
 
-pub found_handler : (r : HandlerRead) (w : HandlerSummary) → (handler_file r).found ≡ found.Handler w → FoundHandler r w
+pub found_handler : (r : HandlerRead) (file : HandlerFile) → handler_file r ≡ Ok file → FoundHandler r file
 unfolding handler_file
-found_handler (handler sizes at S) w f =
-    let here : HandlerSummary =
-    record { at = at; end = at + stmt_width S; statements = statements S; levels = stmt_levels S; steps = min (steps (product sizes) S) (2 ^ 32) } in
-    let same : here ≡ w = cc in
-    rw (← same) (record { sizes = sizes; S = S; read = refl; ends = refl; counted = refl; high = refl; stepping = refl })
-found_handler (refused k place) w f = absurd (let z : ◌≡◌ {A = ℕ} 0 1 = cc in omega arith)
+found_handler (handler sizes at S) file e =
+    let made : HandlerFile =
+    record {
+      summary = record { at = at; end = at + stmt_width S; statements = statements S; levels = stmt_levels S; steps = min (steps (product sizes) S) (2 ^ 32) };
+      head = head.head_of sizes;
+      statements = statement_table at S;
+    } in
+    let same : made ≡ file = cc in
+    rw (← same) (record { sizes = sizes; S = S; read = refl; head = refl; table = refl; ends = refl; counted = refl; high = refl; stepping = refl })
+found_handler (refused k place) file e = absurd (true≢false (ap is_ok (sym e)))
 
 -- The target of an assignment is below 4; that of any other statement is 0.
 pub target_small : (count : ℕ) (S : Stmt) → count ≤ 4 → TargetsBelow count S → target_of S < 4

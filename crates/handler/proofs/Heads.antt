@@ -10,12 +10,16 @@ use lib.Dec.{leb, ltb}
 use lib.ListN.{length, get_or, take, replicate, length-take, length-append, get_or-replicate, get_or-eq_default}
 use lib.Seq.{take-append_seam, get_or-take}
 use Rattle.states.specs.Sets.{capacity}
+use Rattle.std.specs.Prelude.{Option, Some, None, Result, Ok, Err, is_ok, ok_or}
+use Rattle.bits.specs.Fields.{bit_length, field_at, field_or}
+use Rattle.bits.specs.Fields as fields
+use Rattle.bits.specs.declared.FileFault.{FileFault}
+use Rattle.bits.proofs.Laws.{There, there}
 use Rattle.bits.proofs.Places.{FaultIn, by_field, fault_at, fault_missing}
 use Rattle.states.proofs.Search.{and_left, and_right, and_both, all_intro, all_at}
 use Rattle.semantics.specs.States.{product, Machine, machine_of}
 use Rattle.handler.specs.declared.head.Head.{Head}
 use Rattle.handler.specs.declared.head.HeadFile.{HeadFile}
-use Rattle.handler.specs.declared.head.HeadEnd.TheVariants as end
 use Rattle.handler.specs.Header.{HeadRead, declared, fault, size_read, add_size, sizes_read, count_read, head_at, head_of, head_file, is_size, in_limits, is_head, sizes_in, machine_in}
 
 -- What is known after k sizes.
@@ -46,6 +50,23 @@ pub by_test : {A : Type 0} (P : A → Type 0) (b : Bool) (x y : A) → (b ≡ tr
 by_test P true x y first second = first refl
 by_test P false x y first second = second refl
 
+-- What holds of the fault of a missing field and of every field that is there holds of what is read.
+pub by_field_or : {A : Type 0} (bytes : List ℕ) (P : A → Type 0) (at w k : ℕ) (f : Result (ℕ × ℕ) FileFault → A)
+    → P (f (Err (fields.fault_at k (bit_length bytes)))) → ((v next : ℕ) → There bytes at w v next → P (f (Ok (v, next)))) → P (f (field_or bytes at w k))
+unfolding field_or
+by_field_or bytes P at w k f missing value = by_field bytes P at w (λ o. f (ok_or o (fields.fault_at k (bit_length bytes)))) missing value
+
+-- A field that is read is there.
+pub there_or : (bytes : List ℕ) (at w k v next : ℕ) → field_or bytes at w k ≡ Ok (v, next) → There bytes at w v next
+unfolding field_or
+there_or bytes at w k v next e = by (field_at bytes at w) refl e
+  where
+    by : (x : Option (ℕ × ℕ)) → field_at bytes at w ≡ x → ok_or x (fields.fault_at k (bit_length bytes)) ≡ Ok (v, next) → There bytes at w v next
+    by None x e = absurd (true≢false (ap is_ok (sym e)))
+    by (Some (value, after)) x e =
+        let same : ◌≡◌ {A = ℕ × ℕ} (value, after) (v, next) = cc in
+        there bytes at w v next (x ∙ ap Some same)
+
 module _ (s : List ℕ) where
   abbrev Upto : ℕ → HeadRead → Type 0
   Upto k (declared sizes at) = Sized k at sizes × (3 ≤ 8 * length s → at ≤ 8 * length s)
@@ -55,7 +76,7 @@ module _ (s : List ℕ) where
   unfolding add_size size_read
   next_size k (fault code place) u = u
   next_size k (declared sizes at) u =
-      by_field s (Upto (suc k)) at 5 (size_read s sizes at) (λ here. fault_missing s 10 18 10 refl) (λ size next t.
+      by_field_or s (Upto (suc k)) at 5 10 (size_read sizes at) (λ here. fault_missing s 10 18 10 refl) (λ size next t.
       by_test (Upto (suc k)) (ltb size 2 || ltb 16 size) _ _ (λ e here. fault_at s 10 18 12 refl at (u.1 here)) (λ in-range.
       by_test (Upto (suc k)) (ltb capacity (product sizes * size)) _ _ (λ e here. fault_at s 10 18 13 refl at (u.1 here)) (λ few.
       let range = neither (ltb size 2) (ltb 16 size) in-range in
@@ -164,27 +185,22 @@ product_four (a ∷ b ∷ c ∷ d ∷ []) h = rw (mul-one d)
 product_four (a ∷ b ∷ c ∷ d ∷ e ∷ sizes) h = absurd (omega arith)
 
 -- What a head by value says of the head that was read.
-pub record FoundHead (h : HeadRead) (file : HeadFile) (at : ℕ) : Type 0 where
+pub record FoundHead (h : HeadRead) (file : HeadFile) : Type 0 where
   pub sizes : List ℕ
-  pub read : h ≡ declared sizes at
+  pub read : h ≡ declared sizes file.at
   pub is : file.head ≡ head_of sizes
 
-pub found_head : (h : HeadRead) (file : HeadFile) (at : ℕ) → file ≡ head_file h → file.end ≡ end.Statement at → FoundHead h file at
-found_head (declared sizes i) file at made ends =
-    let same : end.Statement i ≡ end.Statement at = sym (ap (λ f. f.end) made) ∙ ends in
-    let here : i ≡ at = cc in
-    record { sizes = sizes; read = rw here; is = ap (λ f. f.head) made }
-found_head (fault code place) file at made ends =
-    let other : end.Fault code place ≡ end.Statement at = sym (ap (λ f. f.end) made) ∙ ends in
-    absurd (let z : ◌≡◌ {A = ℕ} 0 1 = cc in omega arith)
+pub found_head : (h : HeadRead) (file : HeadFile) → Ok file ≡ head_file h → FoundHead h file
+found_head (declared sizes i) file made =
+    let same : file ≡ record { head = head_of sizes; at = i } = cc in
+    rw same (record { sizes = sizes; read = refl; is = refl })
+found_head (fault code place) file made = absurd (true≢false (ap is_ok made))
 
-pub found_fault : (h : HeadRead) (file : HeadFile) (code place : ℕ) → file ≡ head_file h → file.end ≡ end.Fault code place → h ≡ fault code place
-found_fault (declared sizes i) file code place made ends =
-    let other : end.Statement i ≡ end.Fault code place = sym (ap (λ f. f.end) made) ∙ ends in
-    absurd (let z : ◌≡◌ {A = ℕ} 0 1 = cc in omega arith)
-found_fault (fault k i) file code place made ends =
-    let same : end.Fault k i ≡ end.Fault code place = sym (ap (λ f. f.end) made) ∙ ends in
-    cc
+pub found_fault : (h : HeadRead) (f : FileFault) → Err f ≡ head_file h → h ≡ fault f.number f.bit
+found_fault (declared sizes i) f made = absurd (true≢false (ap is_ok (sym made)))
+found_fault (fault k i) f made =
+    let same : f ≡ fields.fault_at k i = cc in
+    rw same
 
 -- What is known of a head that was read.
 pub record Declared (sizes : List ℕ) (at : ℕ) : Type 0 where
@@ -226,7 +242,7 @@ module _ (s : List ℕ) where
   pub head_in : HeadIn (head_at s)
   unfolding head_at count_read
   head_in =
-      by_field s HeadIn 0 3 (count_read s) (fault_missing s 10 18 10 refl) (λ c next t.
+      by_field_or s HeadIn 0 3 10 (count_read s) (fault_missing s 10 18 10 refl) (λ c next t.
       by_test HeadIn (leb 1 c && leb c 4) _ _
       (λ e. declared_in c (leb-true c 4 (and_right (leb 1 c) (leb c 4) e)) (sizes_read s c) (upto s c) (omega arith))
       (λ e. fault_at s 10 18 11 refl 0 (omega arith)))

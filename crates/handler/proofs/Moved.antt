@@ -3,24 +3,24 @@
 use Prim.Native.Nat.{ℕ, zero, suc, ◌+◌, ◌*◌, ◌^◌, ◌≤◌, ◌<◌}
 use mathlib.Core.Bool.{Bool, true, false, cond, ◌&&◌, ◌||◌}
 use mathlib.Core.List.{List}
-use mathlib.Core.Path.{◌≡◌, refl, ◌∙◌}
+use mathlib.Core.Path.{◌≡◌, refl, ap, ◌∙◌}
 use native.Mathlib.Nat.{add_assoc}
 use native.Mathlib.Omega.{arith}
 use lib.Dec.{leb, ltb, eqb}
 use lib.ListN.{length}
-use Rattle.bits.specs.Fields.{bit_at, field_at}
-use Rattle.bits.specs.declared.Field.TheVariants.{Value}
+use Rattle.std.specs.Prelude.{Some, Result, Ok, Err, ok_or}
+use Rattle.bits.specs.Fields.{bit_length, bit_at, fault_at, field_at, field_or}
+use Rattle.bits.specs.declared.FileFault.{FileFault}
 use Rattle.bits.proofs.Laws.{bits_agree, There, found}
-use Rattle.bits.proofs.Places.{by_field}
 use Rattle.states.specs.Sets.{capacity}
 use Rattle.semantics.specs.Language.{Expr}
 use Rattle.semantics.specs.States.{product}
 use Rattle.handler.specs.declared.expressions.ExprHead.{ExprHead}
-use Rattle.handler.specs.declared.expressions.ExprHead.TheVariants.{Integer, Truth, Variable, Operation, Fault}
+use Rattle.handler.specs.declared.expressions.ExprHead.TheVariants.{Integer, Truth, Variable, Operation}
 use Rattle.handler.specs.Header.{HeadRead, declared, fault, size_read, add_size, sizes_read, count_read, head_at}
 use Rattle.handler.specs.Expressions.{integer_head, truth_head, variable_head, operation_head, payload_head, tag_head, expr_head, ExprRead, good, bad, joined, operands, on_expr_head, expr_at, whole_expr}
 use Rattle.handler.specs.Kinds.{width}
-use Rattle.handler.proofs.Heads.{by_test, head_read}
+use Rattle.handler.proofs.Heads.{by_test, by_field_or, head_read}
 use Rattle.handler.proofs.Folds.{Headed, headed, expr_read}
 
 -- The bits from a cursor of one file on are those from a cursor of another, where they are all there.
@@ -48,9 +48,10 @@ module _ (a b : List ℕ) where
   same_first x y width s w within = same_part x y width s 0 w x y (omega arith) (omega arith) (omega arith)
 
   -- A field that is there is there elsewhere.
-  pub field_moved : (x y w v next end : ℕ) → There a x w v next → Same a x b y w → end ≡ y + w → field_at b y w ≡ Value v end
-  field_moved x y w v next end t s ends =
-      rw (ends, t.value, bits_agree a b x y w s.bits) (found b y w t.least t.most s.inside s.fits)
+  pub field_moved : (x y w k v next end : ℕ) → There a x w v next → Same a x b y w → end ≡ y + w → field_or b y w k ≡ Ok (v, end)
+  unfolding field_or
+  field_moved x y w k v next end t s ends =
+      rw (ends, t.value, bits_agree a b x y w s.bits) (ap (λ o. ok_or o (fault_at k (bit_length b))) (found b y w t.least t.most s.inside s.fits))
 
   -- Sizes that are read from a are read from b.
   abbrev SizesMove : HeadRead → HeadRead → Type 0
@@ -62,13 +63,13 @@ module _ (a b : List ℕ) where
   size_moves (fault k place) g m = tt
   size_moves (declared sizes at) g m =
       let Moves : HeadRead → Type 0 = λ h. SizesMove h (add_size b g) in
-      by_field a Moves at 5 (size_read a sizes at) tt (λ size next t.
+      by_field_or a Moves at 5 10 (size_read sizes at) tt (λ size next t.
       by_test Moves (ltb size 2 || ltb 16 size) _ _ (λ e. tt) (λ e.
       by_test Moves (ltb capacity (product sizes * size)) _ _ (λ f. tt) (λ f s.
       let same = same_part 0 0 next s in
       rw (
         m (same_first 0 0 next s at (omega (arith, t.moved))),
-        field_moved at at 5 size next next t (same at 5 at at (omega arith) (omega arith) (omega (arith, t.moved))) t.moved,
+        field_moved at at 5 10 size next next t (same at 5 at at (omega arith) (omega arith) (omega (arith, t.moved))) t.moved,
         e,
         f,
       ))))
@@ -82,56 +83,56 @@ module _ (a b : List ℕ) where
   unfolding head_at count_read
   moved_head sizes at read s =
       let Moves : HeadRead → Type 0 = λ h. h ≡ declared sizes at → head_at b ≡ declared sizes at in
-      by_field a Moves 0 3 (count_read a) (λ e. absurd (let z : ◌≡◌ {A = ℕ} 0 1 = cc in omega arith)) (λ count next t.
+      by_field_or a Moves 0 3 10 (count_read a) (λ e. absurd (let z : ◌≡◌ {A = ℕ} 0 1 = cc in omega arith)) (λ count next t.
       by_test Moves (leb 1 count && leb count 4) _ _
       (λ f e. let same = same_first 0 0 at s 3 (omega (arith, (head_read a sizes at read).starts)) in
-      rw (field_moved 0 0 3 count next 3 t same refl, f) (rw e at (sizes_move count) s))
+      rw (field_moved 0 0 3 10 count next 3 t same refl, f) (rw e at (sizes_move count) s))
       (λ f e. absurd (let z : ◌≡◌ {A = ℕ} 0 1 = cc in omega arith))) read
 
   module _ (count x y : ℕ) where
     -- The head of a node of an expression.
-    abbrev NodeMoves : ExprHead → ExprHead → Type 0
-    NodeMoves (Integer z next) h = Same a x b y 10 → h ≡ Integer z (y + 10)
-    NodeMoves (Truth t next) h = Same a x b y 3 → h ≡ Truth t (y + 3)
-    NodeMoves (Variable v next) h = Same a x b y 4 → h ≡ Variable v (y + 4)
-    NodeMoves (Operation o next) h = Same a x b y 5 → h ≡ Operation o (y + 5)
-    NodeMoves (Fault k place) h = Unit {0}
+    abbrev NodeMoves : Result ExprHead FileFault → Result ExprHead FileFault → Type 0
+    NodeMoves (Ok (Integer z next)) h = Same a x b y 10 → h ≡ Ok (Integer z (y + 10))
+    NodeMoves (Ok (Truth t next)) h = Same a x b y 3 → h ≡ Ok (Truth t (y + 3))
+    NodeMoves (Ok (Variable v next)) h = Same a x b y 4 → h ≡ Ok (Variable v (y + 4))
+    NodeMoves (Ok (Operation o next)) h = Same a x b y 5 → h ≡ Ok (Operation o (y + 5))
+    NodeMoves (Err _) h = Unit {0}
 
     -- The field after the tag, of a node that takes `wide` bits.
-    payload_moved : (wide w v next : ℕ) → There a (x + 2) w v next → wide ≡ 2 + w → Same a x b y wide → field_at b (y + 2) w ≡ Value v (y + wide)
+    payload_moved : (wide w v next : ℕ) → There a (x + 2) w v next → wide ≡ 2 + w → Same a x b y wide → field_or b (y + 2) w 10 ≡ Ok (v, (y + wide))
     payload_moved wide w v next t sum s =
-        field_moved (x + 2) (y + 2) w v next (y + wide) t (same_part x y wide s 2 w (x + 2) (y + 2) refl refl (omega arith)) (omega arith)
+        field_moved (x + 2) (y + 2) w 10 v next (y + wide) t (same_part x y wide s 2 w (x + 2) (y + 2) refl refl (omega arith)) (omega arith)
 
     payload_moves : (tag : ℕ) → NodeMoves (payload_head a count (x + 2) tag) (payload_head b count (y + 2) tag)
     unfolding payload_head integer_head truth_head variable_head operation_head
     payload_moves tag =
         chosen NodeMoves (eqb tag 0) _ _ _ _
-        (by_field a (λ h. NodeMoves h (integer_head b (field_at b (y + 2) 8))) (x + 2) 8 (integer_head a) tt (λ n next t s. rw (payload_moved 10 8 n next t refl s)))
+        (by_field_or a (λ h. NodeMoves h (integer_head (field_or b (y + 2) 8 10))) (x + 2) 8 10 integer_head tt (λ n next t s. rw (payload_moved 10 8 n next t refl s)))
         (chosen NodeMoves (eqb tag 1) _ _ _ _
-        (by_field a (λ h. NodeMoves h (truth_head b (field_at b (y + 2) 1))) (x + 2) 1 (truth_head a) tt (λ n next t s. rw (payload_moved 3 1 n next t refl s)))
+        (by_field_or a (λ h. NodeMoves h (truth_head (field_or b (y + 2) 1 10))) (x + 2) 1 10 truth_head tt (λ n next t s. rw (payload_moved 3 1 n next t refl s)))
         (chosen NodeMoves (eqb tag 2) _ _ _ _
-        (by_field a (λ h. NodeMoves h (variable_head b count (y + 2) (field_at b (y + 2) 2))) (x + 2) 2 (variable_head a count (x + 2)) tt
-        (λ v next t. by_test (λ h. NodeMoves h (variable_head b count (y + 2) (field_at b (y + 2) 2))) (ltb v count) _ _
+        (by_field_or a (λ h. NodeMoves h (variable_head count (y + 2) (field_or b (y + 2) 2 10))) (x + 2) 2 10 (variable_head count (x + 2)) tt
+        (λ v next t. by_test (λ h. NodeMoves h (variable_head count (y + 2) (field_or b (y + 2) 2 10))) (ltb v count) _ _
         (λ e s. rw (payload_moved 4 2 v next t refl s, e)) (λ e. tt)))
-        (by_field a (λ h. NodeMoves h (operation_head b (y + 2) (field_at b (y + 2) 3))) (x + 2) 3 (operation_head a (x + 2)) tt
-        (λ o next t. by_test (λ h. NodeMoves h (operation_head b (y + 2) (field_at b (y + 2) 3))) (eqb o 7) _ _
+        (by_field_or a (λ h. NodeMoves h (operation_head (y + 2) (field_or b (y + 2) 3 10))) (x + 2) 3 10 (operation_head (x + 2)) tt
+        (λ o next t. by_test (λ h. NodeMoves h (operation_head (y + 2) (field_or b (y + 2) 3 10))) (eqb o 7) _ _
         (λ e. tt) (λ e s. rw (payload_moved 5 3 o next t refl s, e))))))
 
     -- What is read after a tag is read if the tag is the same.
-    after_tag : (h g k : ExprHead) → (Same a x b y 2 → k ≡ g) → NodeMoves h g → NodeMoves h k
-    after_tag (Integer z next) g k tag m = λ s. tag (same_first x y 10 s 2 (omega arith)) ∙ m s
-    after_tag (Truth t next) g k tag m = λ s. tag (same_first x y 3 s 2 (omega arith)) ∙ m s
-    after_tag (Variable v next) g k tag m = λ s. tag (same_first x y 4 s 2 (omega arith)) ∙ m s
-    after_tag (Operation o next) g k tag m = λ s. tag (same_first x y 5 s 2 (omega arith)) ∙ m s
-    after_tag (Fault j place) g k tag m = tt
+    after_tag : (h g k : Result ExprHead FileFault) → (Same a x b y 2 → k ≡ g) → NodeMoves h g → NodeMoves h k
+    after_tag (Ok (Integer z next)) g k tag m = λ s. tag (same_first x y 10 s 2 (omega arith)) ∙ m s
+    after_tag (Ok (Truth t next)) g k tag m = λ s. tag (same_first x y 3 s 2 (omega arith)) ∙ m s
+    after_tag (Ok (Variable v next)) g k tag m = λ s. tag (same_first x y 4 s 2 (omega arith)) ∙ m s
+    after_tag (Ok (Operation o next)) g k tag m = λ s. tag (same_first x y 5 s 2 (omega arith)) ∙ m s
+    after_tag (Err _) g k tag m = tt
 
     node_moves : (nodes : ℕ) → NodeMoves (expr_head a count nodes x) (expr_head b count nodes y)
     unfolding expr_head tag_head
     node_moves nodes =
-        by_field a (λ h. NodeMoves h (expr_head b count nodes y)) x 2 (tag_head a count nodes x) tt (λ tag next t.
-        let full : (s : List ℕ) (at : ℕ) → ExprHead = λ s at. cond (leb 31 nodes) (Fault 17 at) (payload_head s count (at + 2) tag) in
+        by_field_or a (λ h. NodeMoves h (expr_head b count nodes y)) x 2 10 (tag_head a count nodes x) tt (λ tag next t.
+        let full : (s : List ℕ) (at : ℕ) → Result ExprHead FileFault = λ s at. cond (leb 31 nodes) (Err (fault_at 17 at)) (payload_head s count (at + 2) tag) in
         rw t.moved (after_tag (full a x) (full b y) (expr_head b count nodes y)
-        (λ s. rw (field_moved x y 2 tag next (y + 2) t s refl))
+        (λ s. rw (field_moved x y 2 10 tag next (y + 2) t s refl))
         (chosen NodeMoves (leb 31 nodes) _ _ _ _ tt (payload_moves tag))))
 
   -- An expression that is read from a is read from b.
@@ -148,7 +149,7 @@ module _ (a b : List ℕ) where
       Below : Type 0
       Below = (n i j : ℕ) → ExprMoves i j (expr_at levels a count n i) (expr_at levels b count n j)
 
-      right : (g : ExprHead) (o : ℕ) → NodeMoves count x y (Operation o (x + 5)) g → Below → (l : Expr) (n i : ℕ)
+      right : (g : Result ExprHead FileFault) (o : ℕ) → NodeMoves count x y (Ok (Operation o (x + 5))) g → Below → (l : Expr) (n i : ℕ)
           → expr_at levels a count (suc nodes) (x + 5) ≡ good l n i → (r : ExprRead) → expr_at levels a count n i ≡ r
           → ExprMoves x y (joined o l r) (on_expr_head g nodes (expr_at levels b count))
       right g o m later l n i first (bad k place) second = tt
@@ -161,18 +162,18 @@ module _ (a b : List ℕ) where
           let end : behind + width r ≡ y + wide = omega arith in
           rw (m (same_first x y wide s 5 (omega arith)), left, whole, end)
 
-      left : (g : ExprHead) (o : ℕ) → NodeMoves count x y (Operation o (x + 5)) g → Below → (l : ExprRead)
+      left : (g : Result ExprHead FileFault) (o : ℕ) → NodeMoves count x y (Ok (Operation o (x + 5))) g → Below → (l : ExprRead)
           → expr_at levels a count (suc nodes) (x + 5) ≡ l → ExprMoves x y (operands o l (expr_at levels a count)) (on_expr_head g nodes (expr_at levels b count))
       left g o m later (bad k place) first = tt
       left g o m later (good l n i) first = right g o m later l n i first (expr_at levels a count n i) refl
 
-      by : (h : ExprHead) → Headed a count nodes x h → (g : ExprHead) → NodeMoves count x y h g → Below
+      by : (h : Result ExprHead FileFault) → Headed a count nodes x h → (g : Result ExprHead FileFault) → NodeMoves count x y h g → Below
           → ExprMoves x y (on_expr_head h nodes (expr_at levels a count)) (on_expr_head g nodes (expr_at levels b count))
-      by (Integer z next) p g m later = λ s. rw (m s)
-      by (Truth t next) p g m later = λ s. rw (m s)
-      by (Variable v next) p g m later = λ s. rw (m s)
-      by (Operation o next) p g m later = rw p.1 (left g o m later (expr_at levels a count (suc nodes) (x + 5)) refl)
-      by (Fault k place) p g m later = tt
+      by (Ok (Integer z next)) p g m later = λ s. rw (m s)
+      by (Ok (Truth t next)) p g m later = λ s. rw (m s)
+      by (Ok (Variable v next)) p g m later = λ s. rw (m s)
+      by (Ok (Operation o next)) p g m later = rw p.1 (left g o m later (expr_at levels a count (suc nodes) (x + 5)) refl)
+      by (Err _) p g m later = tt
 
   pub moved_whole : (count x y : ℕ) (e : Expr) (nodes next : ℕ) → whole_expr a count x ≡ good e nodes next → Same a x b y (width e)
       → whole_expr b count y ≡ good e nodes (y + width e)

@@ -7,21 +7,23 @@ use native.Mathlib.Omega.{arith}
 use borrow.Author.Tests.{leb-false, ltb-true, ltb-false, eqb-false}
 use lib.Dec.{leb, ltb, eqb}
 use lib.ListN.{length}
-use Rattle.bits.proofs.Places.{FaultIn, by_field, fault_at, fault_missing}
+use Rattle.std.specs.Prelude.{Result, Ok, Err}
+use Rattle.bits.specs.declared.FileFault.{FileFault}
+use Rattle.bits.proofs.Places.{FaultIn, fault_at, fault_missing}
 use Rattle.semantics.specs.Language.{Expr, Stmt, nil, assign, seq, par, if, while}
 use Rattle.handler.specs.declared.StmtHead.{StmtHead}
-use Rattle.handler.specs.declared.StmtHead.TheVariants.{Nil, Assign, Pair, Test, Fault}
+use Rattle.handler.specs.declared.StmtHead.TheVariants.{Nil, Assign, Pair, Test}
 use Rattle.handler.specs.Expressions.{ExprRead, good, bad, whole_expr}
 use Rattle.handler.specs.Statements.{target_head, code_head, mark_head, stmt_head, StmtRead, whole, fault, on_assigned, on_body, on_test, on_right, on_left_side, on_stmt_head, stmt_at}
 use Rattle.handler.specs.Kinds.{width, stmt_width}
 use Rattle.handler.specs.Terms.{expr_nodes, stmt_terms}
 use Rattle.handler.specs.StatementTable.{statements, stmt_levels}
 use Rattle.handler.proofs.TermTable.{ExprFits, ExprsFit}
-use Rattle.handler.proofs.Heads.{neither, by_test}
+use Rattle.handler.proofs.Heads.{neither, by_test, by_field_or}
 use Rattle.handler.proofs.Folds.{expr_read, all_read as expressions}
 
 -- One level of reading, with `levels - 1` below it as in the code.
-pub stmt_step : (bytes : List ℕ) (count levels before at : ℕ) (head : StmtHead) → 0 < levels
+pub stmt_step : (bytes : List ℕ) (count levels before at : ℕ) (head : Result StmtHead FileFault) → 0 < levels
     → stmt_head bytes count (levels - 1) before at ≡ head
     → stmt_at levels bytes count before at ≡ on_stmt_head head (whole_expr bytes count) before (stmt_at (levels - 1) bytes count)
 unfolding stmt_at
@@ -33,18 +35,18 @@ stmt_step bytes count (suc levels) before at head more e =
 
 -- What is known of a statement's head: there was room for the statement, where the head ends, that an assigned variable exists, and
 -- that the head is in the file. A fault is in the file if the statement begins there.
-unfoldable pub Marked : List ℕ → ℕ → ℕ → ℕ → ℕ → StmtHead → Type 0
-Marked bytes count below before at (Nil next) = (0 < below) × (before < 63) × (next ≡ at + 3) × (next ≤ 8 * length bytes)
-Marked bytes count below before at (Assign v next) =
+unfoldable pub Marked : List ℕ → ℕ → ℕ → ℕ → ℕ → Result StmtHead FileFault → Type 0
+Marked bytes count below before at (Ok (Nil next)) = (0 < below) × (before < 63) × (next ≡ at + 3) × (next ≤ 8 * length bytes)
+Marked bytes count below before at (Ok (Assign v next)) =
     (0 < below) × (before < 63) × (next ≡ at + 5) × (v < count) × (v < 4) × (next ≤ 8 * length bytes)
-Marked bytes count below before at (Pair code next) =
+Marked bytes count below before at (Ok (Pair code next)) =
     (0 < below) × (before < 63) × (next ≡ at + 3) × (2 ≤ code) × (code < 4) × (next ≤ 8 * length bytes)
-Marked bytes count below before at (Test code next) =
+Marked bytes count below before at (Ok (Test code next)) =
     (0 < below) × (before < 63) × (next ≡ at + 3) × (4 ≤ code) × (code < 6) × (next ≤ 8 * length bytes)
-Marked bytes count below before at (Fault k place) = at ≤ 8 * length bytes → FaultIn bytes 10 18 k place
+Marked bytes count below before at (Err f) = at ≤ 8 * length bytes → FaultIn bytes 10 18 f.number f.bit
 
 module _ (bytes : List ℕ) (count below before at : ℕ) where
-  abbrev Here : StmtHead → Type 0
+  abbrev Here : Result StmtHead FileFault → Type 0
   Here = Marked bytes count below before at
 
   on_code : 0 < below → before < 63 → (code next : ℕ) → next ≡ at + 3 → next ≤ 8 * length bytes → Here (code_head bytes count at code next)
@@ -52,16 +54,16 @@ module _ (bytes : List ℕ) (count below before at : ℕ) where
   on_code deep room code next moved inside =
       by_test Here (eqb code 0) _ _ (λ e. omega arith) (λ some.
       by_test Here (eqb code 1) _ _
-      (λ e. by_field bytes Here next 2 (target_head bytes count next) (λ here. fault_missing bytes 10 18 10 refl) (λ v after t.
+      (λ e. by_field_or bytes Here next 2 10 (target_head count next) (λ here. fault_missing bytes 10 18 10 refl) (λ v after t.
       by_test Here (ltb v count) _ _ (λ e. omega (arith, ltb-true v count e)) (λ e here. fault_at bytes 10 18 15 refl next inside))) (λ more.
       by_test Here (ltb code 4) _ _
       (λ e. let zero = eqb-false code 0 some in let one = eqb-false code 1 more in omega (arith, ltb-true code 4 e)) (λ most.
       by_test Here (ltb code 6) _ _ (λ e. omega (arith, ltb-true code 6 e, ltb-false code 4 most)) (λ e. fault_at bytes 10 18 14 refl at))))
 
-  pub marked : (head : StmtHead) → stmt_head bytes count below before at ≡ head → Here head
+  pub marked : (head : Result StmtHead FileFault) → stmt_head bytes count below before at ≡ head → Here head
   unfolding Marked stmt_head mark_head
   marked head e =
-      rw e at (by_field bytes Here at 3 (mark_head bytes count (eqb below 0 || leb 63 before) at) (λ here. fault_missing bytes 10 18 10 refl) (λ code next t.
+      rw e at (by_field_or bytes Here at 3 10 (mark_head bytes count (eqb below 0 || leb 63 before) at) (λ here. fault_missing bytes 10 18 10 refl) (λ code next t.
       by_test Here (eqb below 0 || leb 63 before) _ _ (λ e. fault_at bytes 10 18 17 refl at) (λ e.
       let few = neither (eqb below 0) (leb 63 before) e in
       let some = eqb-false below 0 few.0 in
@@ -143,7 +145,7 @@ module _ (bytes : List ℕ) (levels count before at : ℕ) where
       (λ t. made (if e b) after end (omega arith) known.targets (omega arith, first.fits, known.exprs))
       (λ t. made (while e b) after end (omega arith) known.targets (omega arith, first.fits, known.exprs))
 
-  assigned : (v next : ℕ) → Marked bytes count levels before at (Assign v next) → (x : ExprRead) → whole_expr bytes count next ≡ x
+  assigned : (v next : ℕ) → Marked bytes count levels before at (Ok (Assign v next)) → (x : ExprRead) → whole_expr bytes count next ≡ x
       → Known (on_assigned v (suc before) x)
   unfolding Marked
   assigned v next p (bad k place) read = λ here. whole_fault bytes count next k place read p.5
@@ -164,13 +166,13 @@ module _ (bytes : List ℕ) (levels count before at : ℕ) where
     test code next placed inside (good e nodes behind) read =
         body code next nodes behind placed e (whole_read bytes count next e nodes behind read) (stmt (suc before) behind) (later (suc before) behind)
 
-    level : (h : StmtHead) → Marked bytes count levels before at h → Known (on_stmt_head h (whole_expr bytes count) before stmt)
+    level : (h : Result StmtHead FileFault) → Marked bytes count levels before at h → Known (on_stmt_head h (whole_expr bytes count) before stmt)
     unfolding Marked
-    level (Nil next) p = made nil (suc before) next (omega arith) tt tt
-    level (Assign v next) p = assigned v next p (whole_expr bytes count next) refl
-    level (Pair code next) p = left code next p.2 p.5 (stmt (suc before) next) (later (suc before) next)
-    level (Test code next) p = test code next p.2 p.5 (whole_expr bytes count next) refl
-    level (Fault k place) p = p
+    level (Ok (Nil next)) p = made nil (suc before) next (omega arith) tt tt
+    level (Ok (Assign v next)) p = assigned v next p (whole_expr bytes count next) refl
+    level (Ok (Pair code next)) p = left code next p.2 p.5 (stmt (suc before) next) (later (suc before) next)
+    level (Ok (Test code next)) p = test code next p.2 p.5 (whole_expr bytes count next) refl
+    level (Err f) p = p
 
 pub all_read : (levels : ℕ) (bytes : List ℕ) (count before at : ℕ) → AllRead bytes levels count before at (stmt_at levels bytes count before at)
 unfolding stmt_at

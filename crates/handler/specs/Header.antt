@@ -1,15 +1,13 @@
 -- docs/FORMAT.md, "Head": 3 bits for the number of variables, 5 bits for each size. A head is the list of its sizes,
 -- variable 0 first. The number of variables is its length, and N is its product.
-use Rattle.std.specs.Prelude.{ℕ, zero, suc, ◌-◌, ◌*◌, Bool, cond, ◌&&◌, ◌||◌, List, [], ◌∷◌, ◌++◌, leb, ltb, eqb, length, get_or, take, replicate}
-use Rattle.bits.specs.Fields.{bit_length, field_at}
-use Rattle.bits.specs.declared.Field.{Field}
-use Rattle.bits.specs.declared.Field.TheVariants.{Value, Missing}
+use Rattle.std.specs.Prelude.{ℕ, zero, suc, ◌-◌, ◌*◌, Bool, cond, ◌&&◌, ◌||◌, List, [], ◌∷◌, ◌++◌, leb, ltb, eqb, length, get_or, take, replicate, Result, Ok, Err}
+use Rattle.bits.specs.Fields.{fault_at, field_or}
+use Rattle.bits.specs.declared.FileFault.{FileFault}
 use Rattle.states.specs.Search.{all}
 use Rattle.states.specs.Sets.{capacity}
 use Rattle.semantics.specs.States.{product, Machine, machine_of}
 use Rattle.handler.specs.declared.head.Head.{Head}
 use Rattle.handler.specs.declared.head.HeadFile.{HeadFile}
-use Rattle.handler.specs.declared.head.HeadEnd.TheVariants as end
 
 -- The sizes and the statement's first bit, or the first fault and its place.
 pub data HeadRead : Type 0 where
@@ -17,15 +15,15 @@ pub data HeadRead : Type 0 where
   fault : ℕ → ℕ → HeadRead
 
 -- One more size, at its place: 10 if it is missing, 12 if it is not 2 to 16, 13 at the size that brings N over 64, the capacity of a set.
-unfoldable pub size_read : List ℕ → List ℕ → ℕ → Field → HeadRead
-size_read bytes sizes at Missing = fault 10 (bit_length bytes)
-size_read bytes sizes at (Value size next) =
+unfoldable pub size_read : List ℕ → ℕ → Result (ℕ × ℕ) FileFault → HeadRead
+size_read sizes at (Err missing) = fault missing.number missing.bit
+size_read sizes at (Ok (size, next)) =
     cond (ltb size 2 || ltb 16 size) (fault 12 at)
     (cond (ltb capacity (product sizes * size)) (fault 13 at) (declared (sizes ++ size ∷ []) next))
 
 unfoldable pub add_size : List ℕ → HeadRead → HeadRead
 add_size bytes (fault k place) = fault k place
-add_size bytes (declared sizes at) = size_read bytes sizes at (field_at bytes at 5)
+add_size bytes (declared sizes at) = size_read sizes at (field_or bytes at 5 10)
 
 -- The head after so many sizes.
 unfoldable pub sizes_read : List ℕ → ℕ → HeadRead
@@ -33,25 +31,22 @@ sizes_read bytes zero = declared [] 3
 sizes_read bytes (suc k) = add_size bytes (sizes_read bytes k)
 
 -- 11: the number of variables is not 1 to 4.
-unfoldable pub count_read : List ℕ → Field → HeadRead
-count_read bytes Missing = fault 10 (bit_length bytes)
-count_read bytes (Value count next) = cond (leb 1 count && leb count 4) (sizes_read bytes count) (fault 11 0)
+unfoldable pub count_read : List ℕ → Result (ℕ × ℕ) FileFault → HeadRead
+count_read bytes (Err missing) = fault missing.number missing.bit
+count_read bytes (Ok (count, next)) = cond (leb 1 count && leb count 4) (sizes_read bytes count) (fault 11 0)
 
 -- The head of a file.
 unfoldable pub head_at : List ℕ → HeadRead
-head_at bytes = count_read bytes (field_at bytes 0 3)
+head_at bytes = count_read bytes (field_or bytes 0 3 10)
 
 -- The head as the code passes it on. Past the count the sizes are 1.
 unfoldable pub head_of : List ℕ → Head
 head_of sizes = record { count = length sizes; sizes = sizes ++ replicate (4 - length sizes) 1; states = product sizes }
 
--- The head of a faulty file declares nothing.
-abbrev pub no_head : Head
-no_head = record { count = 0; sizes = replicate 4 1; states = 0 }
-
-abbrev pub head_file : HeadRead → HeadFile
-head_file (declared sizes at) = record { head = head_of sizes; end = end.Statement at }
-head_file (fault k place) = record { head = no_head; end = end.Fault k place }
+-- The head and the statement's first bit, or the fault.
+abbrev pub head_file : HeadRead → Result HeadFile FileFault
+head_file (declared sizes at) = Ok (record { head = head_of sizes; at = at })
+head_file (fault k place) = Err (fault_at k place)
 
 -- The sizes of the variables of a head.
 unfoldable pub sizes_in : Head → List ℕ

@@ -1,9 +1,6 @@
 -- docs/FORMAT.md, "Order of faults": the handler file front to back, then 16 if the file has no other fault.
-use Rattle.std.specs.Prelude.{ℕ, List, length}
-use Rattle.std.proofs.Math.Option.{Option, none, some}
+use Rattle.std.specs.Prelude.{ℕ, List, length, Option, Some, None, Result, Ok, Err}
 use Rattle.bits.specs.Fields.{fill_at}
-use Rattle.bits.specs.declared.Fill.{Fill}
-use Rattle.bits.specs.declared.Fill.TheVariants.{Ends, Wrong}
 use Rattle.semantics.specs.Language.{Stmt}
 use Rattle.handler.specs.Header as head
 use Rattle.handler.specs.Statements.{StmtRead, whole, fault, whole_stmt}
@@ -15,13 +12,13 @@ pub data HandlerRead : Type 0 where
   refused : ℕ → ℕ → HandlerRead
 
 abbrev pub on_kinds : List ℕ → ℕ → Stmt → Option ℕ → HandlerRead
-on_kinds sizes at S none = handler sizes at S
-on_kinds sizes at S (some place) = refused 16 place
+on_kinds sizes at S None = handler sizes at S
+on_kinds sizes at S (Some place) = refused 16 place
 
 -- 18: a fill bit is not zero, or a byte follows the last field.
-abbrev pub on_handler_fill : List ℕ → ℕ → Stmt → Fill → HandlerRead
-on_handler_fill sizes at S Ends = on_kinds sizes at S (stmt_kind_error at S)
-on_handler_fill sizes at S (Wrong place) = refused 18 place
+abbrev pub on_handler_fill : List ℕ → ℕ → Stmt → Result (Unit {0}) ℕ → HandlerRead
+on_handler_fill sizes at S (Ok _) = on_kinds sizes at S (stmt_kind_error at S)
+on_handler_fill sizes at S (Err place) = refused 18 place
 
 abbrev pub on_stmt : List ℕ → List ℕ → ℕ → StmtRead → HandlerRead
 on_stmt bytes sizes at (fault k place) = refused k place

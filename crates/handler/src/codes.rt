@@ -1,4 +1,5 @@
-// The numbers of the faults of the handler file (docs/FORMAT.md, "Faults of reading").
+// The numbers of the faults of the handler file (docs/FORMAT.md, "Faults of reading"). They are numbers, not an enum, because the paper
+// and the C interface name them so.
 
 // A field runs past the end of the file.
 pub const MISSING: u32 = 10;

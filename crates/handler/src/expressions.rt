@@ -1,17 +1,17 @@
 // Expressions: reading a node, and the summary of a whole expression.
-ghost use Rattle.std.specs.Prelude.{cond, ◌≡◌, ◌+◌, ◌≤◌, ◌<◌};
+ghost use Rattle.std.specs.Prelude.{cond, ◌≡◌, ◌+◌, ◌≤◌, ◌<◌, Option, Some, Ok};
 ghost use Rattle.std.specs.Int.Signed.{mag};
-ghost use Rattle.bits.specs.Fields.{field_at};
+ghost use Rattle.bits.specs.Fields.{field_or};
 ghost use Rattle.semantics.specs.Language.{same_kind};
 ghost use Rattle.handler.specs.Expressions.{signed, integer_head, truth_head, variable_head, operation_head, payload_head, expr_head, bad, on_expr_head, expr_at, whole_expr};
-ghost use Rattle.handler.specs.Shapes.{earlier_of, expr_shape};
+ghost use Rattle.handler.specs.Shapes.{expr_shape};
 ghost use Rattle.handler.specs.Terms.{bits16, TermsStored};
 ghost use Rattle.handler.specs.Refinement.{TermFits, HeadFits, leaf_term};
 
 use crate::codes::{MISSING, NO_VARIABLE, TOO_MANY, UNUSED};
 use crate::terms;
 use crate::terms::{Term, store_term};
-use bits::Field;
+use bits::FileFault;
 use semantics::{Kind, Row};
 
 // An expression has at most 31 nodes. One level more than that is read.
@@ -40,37 +40,23 @@ const VARIABLE: u64 = 2;
 // The unused operation.
 const NO_OPERATION: u64 = 7;
 
-// What an expression's first bits hold: a constant, a variable or an operation, with the cursor after it; or a fault.
+// What an expression's first bits hold: a constant, a variable or an operation, with the cursor after it.
 #[derive(Clone, Copy)]
 pub enum ExprHead {
     Integer(i64, usize),
     Truth(bool, usize),
     Variable(u32, usize),
     Operation(u32, usize),
-    Fault(u32, usize),
 }
 
-// Where the kinds do not fit: nowhere, or at the first bit of the first node whose result is not of the wanted kind.
-#[derive(Clone, Copy)]
-pub enum KindError {
-    Nowhere,
-    At(usize),
-}
-
-// A summary of a whole expression: its kind error, its E, the number of nodes so far and the cursor after it.
+// A summary of a whole expression: its kind error, which is the first bit of the first node whose result is not of the wanted kind, its
+// E, the number of nodes so far and the cursor after it.
 #[derive(Clone, Copy)]
 pub struct ExprSummary {
-    pub error: KindError,
+    pub error: Option<usize>,
     pub e: u32,
     pub nodes: u32,
     pub next: usize,
-}
-
-// The summary of a whole expression, or its first fault.
-#[derive(Clone, Copy)]
-pub enum ExprShape {
-    Whole(ExprSummary),
-    Fault(u32, usize),
 }
 
 // The value of 8 bits in two's complement.
@@ -82,105 +68,92 @@ fn signed_of(n: u64) -> i64
 }
 
 // Reads an integer constant: 8 bits.
-fn integer_at(src: &[u8], at: usize) -> ExprHead
-    ensures { result ≡ integer_head src.now (field_at src.now at 8) }
+#[tactic(auto, using(crate::proofs::Heads::there_or), unfolding(crate::specs::Expressions::integer_head))]
+fn integer_at(src: &[u8], at: usize) -> Result<ExprHead, FileFault>
+    ensures { result ≡ integer_head (field_or src.now at 8 10) }
 {
-    let Field::Value(n, next) = bits::read(src, at, INTEGER_BITS) else {
-        return ExprHead::Fault(MISSING, bits::bit_length(src));
-    };
-    ExprHead::Integer(signed_of(n), next)
+    let (n, next) = bits::read_or(src, at, INTEGER_BITS, MISSING)?;
+    Ok(ExprHead::Integer(signed_of(n), next))
 }
 
 // Reads a truth constant: 1 bit.
-fn truth_at(src: &[u8], at: usize) -> ExprHead
-    ensures { result ≡ truth_head src.now (field_at src.now at 1) }
+#[tactic(auto, unfolding(crate::specs::Expressions::truth_head))]
+fn truth_at(src: &[u8], at: usize) -> Result<ExprHead, FileFault>
+    ensures { result ≡ truth_head (field_or src.now at 1 10) }
 {
-    let Field::Value(n, next) = bits::read(src, at, TRUTH_BITS) else {
-        return ExprHead::Fault(MISSING, bits::bit_length(src));
-    };
-    ExprHead::Truth(n == 1, next)
+    let (n, next) = bits::read_or(src, at, TRUTH_BITS, MISSING)?;
+    Ok(ExprHead::Truth(n == 1, next))
 }
 
 // Reads a variable: 2 bits.
-fn variable_at(src: &[u8], count: u32, at: usize) -> ExprHead
-    ensures { result ≡ variable_head src.now count at (field_at src.now at 2) }
+#[tactic(auto, using(crate::proofs::Heads::there_or), unfolding(crate::specs::Expressions::variable_head))]
+fn variable_at(src: &[u8], count: u32, at: usize) -> Result<ExprHead, FileFault>
+    ensures { result ≡ variable_head count at (field_or src.now at 2 10) }
 {
-    let Field::Value(v, next) = bits::read(src, at, VARIABLE_BITS) else {
-        return ExprHead::Fault(MISSING, bits::bit_length(src));
-    };
+    let (v, next) = bits::read_or(src, at, VARIABLE_BITS, MISSING)?;
     if v < count as u64 {
-        ExprHead::Variable(v as u32, next)
+        Ok(ExprHead::Variable(v as u32, next))
     } else {
-        ExprHead::Fault(NO_VARIABLE, at)
+        Err(FileFault {
+            number: NO_VARIABLE,
+            bit: at,
+        })
     }
 }
 
 // Reads an operation: 3 bits.
-fn operation_at(src: &[u8], at: usize) -> ExprHead
-    ensures { result ≡ operation_head src.now at (field_at src.now at 3) }
+#[tactic(auto, using(crate::proofs::Heads::there_or), unfolding(crate::specs::Expressions::operation_head))]
+fn operation_at(src: &[u8], at: usize) -> Result<ExprHead, FileFault>
+    ensures { result ≡ operation_head at (field_or src.now at 3 10) }
 {
-    let Field::Value(o, next) = bits::read(src, at, OPERATION_BITS) else {
-        return ExprHead::Fault(MISSING, bits::bit_length(src));
-    };
+    let (o, next) = bits::read_or(src, at, OPERATION_BITS, MISSING)?;
     if o == NO_OPERATION {
-        return ExprHead::Fault(UNUSED, at);
+        return Err(FileFault {
+            number: UNUSED,
+            bit: at,
+        });
     }
-    ExprHead::Operation(o as u32, next)
+    Ok(ExprHead::Operation(o as u32, next))
 }
 
 // Reads what follows a node's tag, at the cursor after the tag.
-fn payload_at(src: &[u8], count: u32, at: usize, tag: u64) -> ExprHead
+#[tactic(auto, unfolding(crate::specs::Expressions::payload_head))]
+fn payload_at(src: &[u8], count: u32, at: usize, tag: u64) -> Result<ExprHead, FileFault>
     ensures { result ≡ payload_head src.now count at tag }
 {
-    if tag == INTEGER {
-        return integer_at(src, at);
+    match tag {
+        INTEGER => integer_at(src, at),
+        TRUTH => truth_at(src, at),
+        VARIABLE => variable_at(src, count, at),
+        _ => operation_at(src, at),
     }
-    if tag == TRUTH {
-        return truth_at(src, at);
-    }
-    if tag == VARIABLE {
-        return variable_at(src, count, at);
-    }
-    operation_at(src, at)
 }
 
 // Reads the head of the node at a cursor, with `nodes` nodes of its expression before it.
-pub(crate) fn expr_head_at(src: &[u8], count: u32, nodes: u32, at: usize) -> ExprHead
+#[tactic(auto, unfolding(crate::specs::Expressions::expr_head, crate::specs::Expressions::tag_head))]
+pub(crate) fn expr_head_at(
+    src: &[u8],
+    count: u32,
+    nodes: u32,
+    at: usize,
+) -> Result<ExprHead, FileFault>
     ensures { result ≡ expr_head src.now count nodes at }
 {
-    let Field::Value(tag, next) = bits::read(src, at, TAG_BITS) else {
-        return ExprHead::Fault(MISSING, bits::bit_length(src));
-    };
+    let (tag, next) = bits::read_or(src, at, TAG_BITS, MISSING)?;
     if nodes >= MOST_EXPR_NODES {
-        return ExprHead::Fault(TOO_MANY, at);
+        return Err(FileFault {
+            number: TOO_MANY,
+            bit: at,
+        });
     }
     payload_at(src, count, next, tag)
 }
 
 // The kind error of the node at `at`: its own if its result is not of the wanted kind, otherwise that of its operands.
-fn wanted_of(res: Kind, wanted: Kind, at: usize, below: KindError) -> KindError
-    ensures { result ≡ cond (same_kind res wanted) below (KindError.At at) }
+fn wanted_of(res: Kind, wanted: Kind, at: usize, below: Option<usize>) -> Option<usize>
+    ensures { result ≡ cond (same_kind res wanted) below (Some at) }
 {
-    match res {
-        Kind::Integer => match wanted {
-            Kind::Integer => below,
-            Kind::Truth => KindError::At(at),
-        },
-        Kind::Truth => match wanted {
-            Kind::Integer => KindError::At(at),
-            Kind::Truth => below,
-        },
-    }
-}
-
-// The first kind error of two parts, in file order.
-pub(crate) fn earlier_of(first: KindError, second: KindError) -> KindError
-    ensures { result ≡ earlier_of first second }
-{
-    match first {
-        KindError::Nowhere => second,
-        KindError::At(_) => first,
-    }
+    if res == wanted { below } else { Some(at) }
 }
 
 // An integer as 16 bits in two's complement: the remainder, from 0 up, by 65,536.
@@ -217,53 +190,32 @@ fn leaf_term(head: ExprHead) -> Term
             value: 0,
             right: 0,
         },
-        ExprHead::Fault(_, _) => Term {
-            tag: 0,
-            value: 0,
-            right: 0,
-        },
     }
 }
 
-// The shape of a node without operands, from its head. The operands of an operation are not read here.
-fn leaf_of(head: ExprHead, wanted: Kind, nodes: u32, at: usize) -> ExprShape
+// The summary of a node without operands, from its head. The operands of an operation are not read here.
+fn leaf_of(head: ExprHead, wanted: Kind, nodes: u32, at: usize) -> Result<ExprSummary, FileFault>
     requires { nodes ≤ 31 }
-    ensures { result ≡ expr_shape wanted at (on_expr_head head nodes (λ _ place. bad 14 place)) }
+    ensures { result ≡ expr_shape wanted at (on_expr_head (Ok head) nodes (λ _ place. bad 14 place)) }
 {
-    match head {
-        ExprHead::Integer(_, next) => {
-            let error = wanted_of(Kind::Integer, wanted, at, KindError::Nowhere);
-            ExprShape::Whole(ExprSummary {
-                error,
-                e: 0,
-                nodes: nodes + 1,
-                next,
-            })
-        }
-        ExprHead::Truth(_, next) => {
-            let error = wanted_of(Kind::Truth, wanted, at, KindError::Nowhere);
-            ExprShape::Whole(ExprSummary {
-                error,
-                e: 0,
-                nodes: nodes + 1,
-                next,
-            })
-        }
-        ExprHead::Variable(_, next) => {
-            let error = wanted_of(Kind::Integer, wanted, at, KindError::Nowhere);
-            ExprShape::Whole(ExprSummary {
-                error,
-                e: 1,
-                nodes: nodes + 1,
-                next,
-            })
-        }
-        ExprHead::Operation(_, next) => ExprShape::Fault(UNUSED, next),
-        ExprHead::Fault(k, place) => ExprShape::Fault(k, place),
-    }
+    let (kind, e, next) = match head {
+        ExprHead::Integer(_, next) => (Kind::Integer, 0, next),
+        ExprHead::Truth(_, next) => (Kind::Truth, 0, next),
+        ExprHead::Variable(_, next) => (Kind::Integer, 1, next),
+        ExprHead::Operation(_, next) => return Err(FileFault {
+            number: UNUSED,
+            bit: next,
+        }),
+    };
+    Ok(ExprSummary {
+        error: wanted_of(kind, wanted, at, None),
+        e,
+        nodes: nodes + 1,
+        next,
+    })
 }
 
-// The shape of the expression at a cursor, with `levels` levels to read. Its nodes are stored in the table: the expression's first
+// The summary of the expression at a cursor, with `levels` levels to read. Its nodes are stored in the table: the expression's first
 // node as number `base`, and `nodes` of its nodes are stored before. An operation that was read always has a row.
 fn expr_walk(
     src: &[u8],
@@ -274,49 +226,46 @@ fn expr_walk(
     base: u32,
     nodes: u32,
     at: usize,
-) -> ExprShape
+) -> Result<ExprSummary, FileFault>
     requires { (nodes ≤ 31) × (base ≤ 1953) }
     ensures value { result ≡ expr_shape wanted at (expr_at levels src.now count nodes at) }
     ensures terms_stored { TermsStored table.old table.new (base + nodes) (expr_at levels src.now count nodes at) }
 {
     if levels == 0 {
-        return ExprShape::Fault(TOO_MANY, at);
+        return Err(FileFault {
+            number: TOO_MANY,
+            bit: at,
+        });
     }
-    let head = expr_head_at(src, count, nodes, at);
+    let head = expr_head_at(src, count, nodes, at)?;
     let ExprHead::Operation(o, next) = head else {
         store_term(table, base + nodes, leaf_term(head));
         return leaf_of(head, wanted, nodes, at);
     };
     let Row::Kinds(a, b, result) = semantics::row_of(o as usize) else {
-        return ExprShape::Fault(UNUSED, at);
+        return Err(FileFault {
+            number: UNUSED,
+            bit: at,
+        });
     };
     let below = levels - 1;
-    let left_shape = expr_walk(src, table, count, a, below, base, nodes + 1, next);
-    let ExprShape::Whole(left) = left_shape else {
-        return left_shape;
-    };
+    let left = expr_walk(src, table, count, a, below, base, nodes + 1, next)?;
     let term = Term {
         tag: terms::OPERATION,
         value: o,
         right: base + left.nodes,
     };
     store_term(table, base + nodes, term);
-    let right_shape = expr_walk(src, table, count, b, below, base, left.nodes, left.next);
-    let ExprShape::Whole(right) = right_shape else {
-        return right_shape;
-    };
-    let left_error = left.error;
-    let right_error = right.error;
-    let error = wanted_of(result, wanted, at, earlier_of(left_error, right_error));
-    ExprShape::Whole(ExprSummary {
-        error,
+    let right = expr_walk(src, table, count, b, below, base, left.nodes, left.next)?;
+    Ok(ExprSummary {
+        error: wanted_of(result, wanted, at, left.error.or(right.error)),
         e: left.e + right.e + 1,
         nodes: right.nodes,
         next: right.next,
     })
 }
 
-// The shape of the whole expression at a cursor. Its nodes are stored in the table from number `base` on.
+// The summary of the whole expression at a cursor. Its nodes are stored in the table from number `base` on.
 pub(crate) fn expr_shape(
     src: &[u8],
     table: &mut [u32],
@@ -324,7 +273,7 @@ pub(crate) fn expr_shape(
     wanted: Kind,
     base: u32,
     at: usize,
-) -> ExprShape
+) -> Result<ExprSummary, FileFault>
     requires { base ≤ 1953 }
     ensures value { result ≡ expr_shape wanted at (whole_expr src.now count at) }
     ensures terms_stored { TermsStored table.old table.new base (whole_expr src.now count at) }

@@ -1,10 +1,10 @@
 // The head of the file: the number of variables and their sizes.
-ghost use Rattle.std.specs.Prelude.{◌≡◌, true, ◌+◌, ◌<◌, get_or};
+ghost use Rattle.std.specs.Prelude.{◌≡◌, true, ◌+◌, ◌<◌, get_or, Ok};
 ghost use Rattle.semantics.specs.States.{product};
-ghost use Rattle.handler.specs.Header.{fault, sizes_read, head_at, no_head, head_file, is_size, in_limits, is_head, sizes_in, machine_in};
+ghost use Rattle.handler.specs.Header.{sizes_read, head_at, head_file, is_size, in_limits, is_head, sizes_in, machine_in};
 
 use crate::codes::{MISSING, SIZE, STATES, VARIABLES};
-use bits::Field;
+use bits::FileFault;
 use states::CAPACITY;
 
 // docs/FORMAT.md, "Limits": 1 to 4 variables, sizes of 2 to 16, and no more states than a set can hold.
@@ -29,84 +29,55 @@ pub struct Head {
     pub states: u32,
 }
 
-// The first bit of the statement after the head; or the head's first fault and its place.
-#[derive(Clone, Copy)]
-pub enum HeadEnd {
-    Statement(usize),
-    Fault(u32, usize),
-}
-
-// The head of a file, and what comes after it.
+// The head of a file, and the first bit of the statement after it.
 #[derive(Clone, Copy)]
 pub struct HeadFile {
     pub head: Head,
-    pub end: HeadEnd,
-}
-
-// The head of a faulty file declares nothing.
-pub fn no_head() -> Head
-    ensures { result ≡ no_head }
-{
-    Head {
-        count: 0,
-        sizes: [1; 4],
-        states: 0,
-    }
-}
-
-// A head with a fault.
-fn faulty(code: u32, place: usize) -> HeadFile
-    ensures { result ≡ head_file (fault code place) }
-{
-    let head = no_head();
-    HeadFile {
-        head,
-        end: HeadEnd::Fault(code, place),
-    }
+    pub at: usize,
 }
 
 // Reads one more size after the first k. The product is computed in 64 bits.
-fn add_size(src: &[u8], k: u64, file: HeadFile) -> HeadFile
-    requires { (k < 4) × (file ≡ head_file (sizes_read src.now k)) }
+fn add_size(src: &[u8], k: u64, file: HeadFile) -> Result<HeadFile, FileFault>
+    requires { (k < 4) × (Ok file ≡ head_file (sizes_read src.now k)) }
     ensures { result ≡ head_file (sizes_read src.now (k + 1)) }
 {
-    let end = file.end;
-    let HeadEnd::Statement(at) = end else {
-        return file;
-    };
-    let Field::Value(size, next) = bits::read(src, at, SIZE_BITS) else {
-        return faulty(MISSING, bits::bit_length(src));
-    };
+    let HeadFile { head, at } = file;
+    let (size, next) = bits::read_or(src, at, SIZE_BITS, MISSING)?;
     if size < LEAST_SIZE || size > MOST_SIZE {
-        return faulty(SIZE, at);
+        return Err(FileFault {
+            number: SIZE,
+            bit: at,
+        });
     }
-    let head = file.head;
     let states = head.states as u64 * size;
     if states > MOST_STATES {
-        return faulty(STATES, at);
+        return Err(FileFault {
+            number: STATES,
+            bit: at,
+        });
     }
     let mut sizes = head.sizes;
     sizes[k as usize] = size as u32;
-    let more = Head {
-        count: head.count + 1,
-        sizes,
-        states: states as u32,
-    };
-    HeadFile {
-        head: more,
-        end: HeadEnd::Statement(next),
-    }
+    Ok(HeadFile {
+        head: Head {
+            count: head.count + 1,
+            sizes,
+            states: states as u32,
+        },
+        at: next,
+    })
 }
 
 // Reads the head of the file, or finds its first fault.
-pub fn read_head(src: &[u8]) -> HeadFile
+pub fn read_head(src: &[u8]) -> Result<HeadFile, FileFault>
     ensures { result ≡ head_file (head_at src.now) }
 {
-    let Field::Value(count, first) = bits::read(src, 0, COUNT_BITS) else {
-        return faulty(MISSING, bits::bit_length(src));
-    };
+    let (count, first) = bits::read_or(src, 0, COUNT_BITS, MISSING)?;
     if count < 1 || count > MOST_VARIABLES {
-        return faulty(VARIABLES, 0);
+        return Err(FileFault {
+            number: VARIABLES,
+            bit: 0,
+        });
     }
     let none = Head {
         count: 0,
@@ -115,12 +86,12 @@ pub fn read_head(src: &[u8]) -> HeadFile
     };
     let mut file = HeadFile {
         head: none,
-        end: HeadEnd::Statement(first),
+        at: first,
     };
     for k in 0..count {
-        file = add_size(src, k, file);
+        file = add_size(src, k, file)?;
     }
-    file
+    Ok(file)
 }
 
 // Whether a variable can have this size. A variable past the count has size 1.

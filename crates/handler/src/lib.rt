@@ -1,7 +1,6 @@
 // The handler file, read once from front to back.
 #![tactic(auto)]
 
-use expressions::KindError;
 use head::Head;
 
 pub mod codes;
@@ -31,14 +30,13 @@ pub const MOST_STATEMENTS: usize = 63;
 pub const MOST_STATEMENT_LEVELS: u32 = 16;
 
 // What a statement's first bits hold, with the cursor after them: nil; an assignment, by its variable; a sequence or parallel, by its
-// code; an if or while, by its code; or a fault.
+// code; or an if or while, by its code.
 #[derive(Clone, Copy)]
 pub enum StmtHead {
     Nil(usize),
     Assign(u32, usize),
     Pair(u32, usize),
     Test(u32, usize),
-    Fault(u32, usize),
 }
 
 // A summary of a whole statement: its step number, capped at 2 ^ 32, its kind error, the number of statements and of expression nodes
@@ -46,18 +44,11 @@ pub enum StmtHead {
 #[derive(Clone, Copy)]
 pub struct StmtSummary {
     pub steps: u64,
-    pub error: KindError,
+    pub error: Option<usize>,
     pub statements: u32,
     pub terms: u32,
     pub levels: u32,
     pub next: usize,
-}
-
-// The summary of a whole statement, or its first fault.
-#[derive(Clone, Copy)]
-pub enum StmtShape {
-    Whole(StmtSummary),
-    Fault(u32, usize),
 }
 
 // A summary of a handler file: the first bit of its statement, the bit after it, the number of statements and of their levels, and the
@@ -71,17 +62,10 @@ pub struct HandlerSummary {
     pub steps: u64,
 }
 
-// The summary of a handler file, or its first fault and the place.
-#[derive(Clone, Copy)]
-pub enum HandlerFound {
-    Handler(HandlerSummary),
-    Fault(u32, usize),
-}
-
-// What reading a handler file gives: its summary or fault, its head, and the table of its statements (`table`), all 0 after a fault.
+// What reading a handler file gives: its summary, its head, and the table of its statements (`table`).
 #[derive(Drop)]
 pub struct HandlerFile {
-    pub found: HandlerFound,
+    pub summary: HandlerSummary,
     pub head: Head,
     pub statements: [u64; MOST_STATEMENTS],
 }

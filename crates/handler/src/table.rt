@@ -23,26 +23,10 @@ fn word_of(s: Statement) -> u64
 }
 
 // Stores a statement as number j of a table.
-pub(crate) fn store_statement(
-    table: &mut [u64],
-    j: u32,
-    code: u32,
-    target: u32,
-    after: u32,
-    expr: u32,
-    bit: usize,
-)
-    requires { (j < length table.old) × (bit < 2 ^ 32) }
-    ensures { table.new
-        ≡ set table.old j (statement_word (record { code = code; target = target; after = after; expr = expr; bit = bit })) }
+pub(crate) fn store_statement(table: &mut [u64], j: u32, s: Statement)
+    requires { (j < length table.old) × (s.bit < 2 ^ 32) }
+    ensures { table.new ≡ set table.old j (statement_word s) }
 {
-    let s = Statement {
-        code,
-        target,
-        after,
-        expr,
-        bit,
-    };
     table[j as usize] = word_of(s);
 }
 
@@ -50,7 +34,7 @@ pub(crate) fn store_statement(
 pub fn statement_at(table: &[u64], j: usize) -> Statement
     ensures { result ≡ statement_in table.now j }
 {
-    let word = if j < table.len() { table[j] } else { 0 };
+    let word = table.get(j).copied().unwrap_or(0);
     Statement {
         code: (word % 8) as u32,
         target: (word / 8 % 4) as u32,

@@ -49,7 +49,7 @@ pub(crate) fn store_term(table: &mut [u32], i: u32, term: Term)
 pub fn term_at(table: &[u32], i: usize) -> Term
     ensures { result ≡ term_in table.now i }
 {
-    let word = if i < table.len() { table[i] } else { 0 };
+    let word = table.get(i).copied().unwrap_or(0);
     Term {
         tag: word % 4,
         value: word / 4 % 65536,
