@@ -1,22 +1,21 @@
 -- docs/FORMAT.md, "Order of faults": both files within their length, the handler file front to back, and then the proof file over its N.
-use Rattle.std.specs.Prelude.{ℕ, ◌+◌, ◌^◌, min, cond, List, replicate}
+use Rattle.std.specs.Prelude.{ℕ, ◌+◌, ◌^◌, min, cond, List, Result, Ok, Err}
+use Rattle.bits.specs.Fields.{fault_at}
 use Rattle.semantics.specs.Language.{Stmt}
 use Rattle.semantics.specs.States.{product}
 use Rattle.semantics.specs.StepNumber.{steps}
 use Rattle.semantics.specs.Derivations.{Derivation, nodes, levels}
 use Rattle.handler.specs.declared.HandlerSummary.{HandlerSummary}
-use Rattle.handler.specs.Header.{head_of, no_head}
+use Rattle.handler.specs.Header.{head_of}
 use Rattle.handler.specs.Kinds.{stmt_width}
 use Rattle.handler.specs.Reading.{HandlerRead, handler, refused, read_handler}
-use Rattle.handler.specs.Statements.{most_statements}
 use Rattle.handler.specs.Shapes.{terms_after}
 use Rattle.handler.specs.StatementTable.{statements, stmt_levels, statement_table}
 use Rattle.derivation.specs.declared.ProofHead.{ProofHead}
-use Rattle.derivation.specs.Nodes.{most_nodes}
 use Rattle.derivation.specs.NodeTable.{node_table}
 use Rattle.derivation.specs.Reading as Proofs
-use Rattle.pair.specs.declared.PairFound.{PairFound}
-use Rattle.pair.specs.declared.PairFound.TheVariants as found
+use Rattle.pair.specs.declared.PairFault.{PairFault}
+use Rattle.pair.specs.declared.PairFault.TheVariants.{TooLong, At}
 use Rattle.pair.specs.declared.PairFile.{PairFile}
 use Rattle.pair.specs.Limits.{too_long}
 
@@ -83,19 +82,18 @@ proof_head x = record {
   root = x.root_bit;
 }
 
--- Of files that are not read nothing is kept.
-abbrev pub nothing_found : PairFound → PairFile
-nothing_found why = record { found = why; head = no_head; statements = replicate most_statements 0; nodes = replicate most_nodes 0 }
-
-unfoldable pub pair_file : PairRead → PairFile
-pair_file long = nothing_found found.TooLong
-pair_file (faulty k place) = nothing_found (found.Fault k place)
-pair_file (pair x) = record {
-  found = found.Pair (record { handler = handler_summary x; proof = proof_head x });
+abbrev pub file_of : Pair → PairFile
+file_of x = record {
+  read = record { handler = handler_summary x; proof = proof_head x };
   head = head_of x.sizes;
   statements = statement_table x.statement_bit x.statement;
   nodes = node_table x.root_bit x.derivation;
 }
+
+unfoldable pub pair_file : PairRead → Result PairFile PairFault
+pair_file long = Err TooLong
+pair_file (faulty k place) = Err (At (fault_at k place))
+pair_file (pair x) = Ok (file_of x)
 
 -- What reading leaves in the buffer for the nodes of the expressions: it is untouched where a file is too long.
 unfoldable pub terms_read : List ℕ → List ℕ → List ℕ → List ℕ

@@ -2,19 +2,21 @@
 #![tactic(auto)]
 
 ghost use Rattle.std.specs.Prelude.{◌≡◌};
-ghost use Rattle.derivation.specs.Reading.{read_proof};
+ghost use Rattle.derivation.specs.Reading.{read_proof, proof_file};
 ghost use Rattle.derivation.specs.Tables.{written};
+ghost use Rattle.pair.specs.declared.PairFault.TheVariants.{At};
 ghost use Rattle.pair.specs.Limits.{too_long};
-ghost use Rattle.pair.specs.Reading.{nothing_found, read_pair, pair_file, terms_read};
+ghost use Rattle.pair.specs.Reading.{read_pair, pair_file, terms_read};
 ghost use Rattle.pair.specs.Modes.{rows, work_read};
 ghost use Rattle.pair.specs.Refinement.{file_over, word_limited};
 
+use bits::FileFault;
 use derivation::reading::read_proof;
 use derivation::words::{clear, write_tables};
-use derivation::{MOST_NODES, ProofFound, ProofHead};
-use handler::head::{Head, no_head};
+use derivation::{MOST_NODES, ProofHead};
+use handler::head::Head;
 use handler::reading::read_handler;
-use handler::{HandlerFound, HandlerSummary, MOST_STATEMENTS};
+use handler::{HandlerFile, HandlerSummary, MOST_STATEMENTS};
 
 // docs/FORMAT.md, "Limits": the longest handler file and the longest proof file, in bytes.
 pub const MOST_HANDLER_BYTES: usize = 16384;
@@ -40,19 +42,25 @@ pub struct PairSummary {
     pub proof: ProofHead,
 }
 
-// Both summaries; or the first fault, at a bit of its file; or a file is too long.
+// Why a pair is not read: a file is over its length, or the first fault of a file.
 #[derive(Clone, Copy)]
-pub enum PairFound {
-    Pair(PairSummary),
-    Fault(u32, usize),
+pub enum PairFault {
     TooLong,
+    At(FileFault),
 }
 
-// What reading a pair gives: what was found, the head, the table of the statements and that of the nodes. Where nothing was found the tables
-// are 0.
+impl From<FileFault> for PairFault {
+    ghost from_gives = { λ fault result. result ≡ At fault };
+
+    fn from(fault: FileFault) -> PairFault {
+        PairFault::At(fault)
+    }
+}
+
+// A pair without a fault: both summaries, the head, the table of the statements and that of the nodes.
 #[derive(Drop)]
 pub struct PairFile {
-    pub found: PairFound,
+    pub read: PairSummary,
     pub head: Head,
     pub statements: [u64; MOST_STATEMENTS],
     pub nodes: [u64; MOST_NODES],
@@ -74,78 +82,46 @@ pub fn too_long(handler: &[u8], proof: &[u8]) -> bool
     (handler.len() > MOST_HANDLER_BYTES) | (proof.len() > MOST_PROOF_BYTES)
 }
 
-// A pair of which nothing is kept.
-fn nothing(found: PairFound) -> PairFile
-    ensures { result ≡ nothing_found found }
-{
-    let head = no_head();
-    PairFile {
-        found,
-        head,
-        statements: [0; MOST_STATEMENTS],
-        nodes: [0; MOST_NODES],
-    }
-}
-
 // Reads the proof file over what was read of the handler file.
-fn read_over(
-    proof: &[u8],
-    handler: HandlerSummary,
-    head: Head,
-    statements: [u64; MOST_STATEMENTS],
-) -> PairFile
-    ensures { result ≡ file_over handler head statements (read_proof proof.now head.states) }
+fn read_over(proof: &[u8], handler: HandlerFile) -> Result<PairFile, PairFault>
+    ensures { result ≡ file_over handler (proof_file (read_proof proof.now handler.head.states)) }
 {
-    let file = read_proof(proof, head.states);
-    let found = file.found;
-    match found {
-        ProofFound::Fault(number, place) => nothing(PairFound::Fault(number, place)),
-        ProofFound::Proof(proof) => {
-            let nodes = file.nodes;
-            PairFile {
-                found: PairFound::Pair(PairSummary { handler, proof }),
-                head,
-                statements,
-                nodes,
-            }
-        }
-    }
+    let file = read_proof(proof, handler.head.states)?;
+    Ok(PairFile {
+        read: PairSummary {
+            handler: handler.summary,
+            proof: file.head,
+        },
+        head: handler.head,
+        statements: handler.statements,
+        nodes: file.nodes,
+    })
 }
 
 // Reads two files, or finds their first fault. The nodes of the expressions are stored in `exprs`, as far as it goes.
-fn read_files(handler: &[u8], proof: &[u8], exprs: &mut [u32]) -> PairFile
+fn read_files(handler: &[u8], proof: &[u8], exprs: &mut [u32]) -> Result<PairFile, PairFault>
     ensures file { result ≡ pair_file (read_pair handler.now proof.now) }
     ensures terms { exprs.new ≡ terms_read handler.now proof.now exprs.old }
 {
     if too_long(handler, proof) {
-        return nothing(PairFound::TooLong);
+        return Err(PairFault::TooLong);
     }
-    let file = read_handler(handler, exprs);
-    let found = file.found;
-    match found {
-        HandlerFound::Fault(number, place) => nothing(PairFound::Fault(number, place)),
-        HandlerFound::Handler(summary) => {
-            let head = file.head;
-            let statements = file.statements;
-            read_over(proof, summary, head, statements)
-        }
-    }
+    let file = read_handler(handler, exprs)?;
+    read_over(proof, file)
 }
 
 // Reads two files, or finds their first fault. No expression is kept.
-pub fn read_pair(handler: &[u8], proof: &[u8]) -> PairFile
+pub fn read_pair(handler: &[u8], proof: &[u8]) -> Result<PairFile, PairFault>
     ensures { result ≡ pair_file (read_pair handler.now proof.now) }
 {
-    let mut none = [0u32; 0];
-    read_files(handler, proof, &mut none)
+    read_files(handler, proof, &mut [0u32; 0])
 }
 
 // Writes the tables of a proof file into the work words, as the arrangement has them.
 fn fill_by(proof: &[u8], mode: Mode, n: u32, head: ProofHead, work: &mut [u64])
     ensures { work.new ≡ written (word_limited mode.arrangement proof.now n head.sets head.relations) work.old }
 {
-    let arrangement = mode.arrangement;
-    match arrangement {
+    match mode.arrangement {
         Arrangement::Rows => write_tables(proof, n, head.sets, head.relations, work),
     }
 }
@@ -158,23 +134,20 @@ pub fn load_pair(
     mode: Mode,
     exprs: &mut [u32],
     work: &mut [u64],
-) -> PairFile
+) -> Result<PairFile, PairFault>
     ensures answer { result ≡ pair_file (read_pair handler.now proof.now) }
     ensures terms { exprs.new ≡ terms_read handler.now proof.now exprs.old }
     ensures tables { work.new ≡ work_read proof.now mode (read_pair handler.now proof.now) work.old }
 {
-    let file = read_files(handler, proof, exprs);
-    let found = file.found;
-    match found {
-        PairFound::TooLong => file,
-        PairFound::Fault(_, _) => {
+    match read_files(handler, proof, exprs) {
+        Ok(file) => {
+            fill_by(proof, mode, file.head.states, file.read.proof, work);
+            Ok(file)
+        }
+        Err(PairFault::At(fault)) => {
             clear(work);
-            file
+            Err(PairFault::At(fault))
         }
-        PairFound::Pair(read) => {
-            let head = file.head;
-            fill_by(proof, mode, head.states, read.proof, work);
-            file
-        }
+        Err(PairFault::TooLong) => Err(PairFault::TooLong),
     }
 }
