@@ -1,7 +1,7 @@
 -- How the walks fill both tables: the word of an operation or a statement is stored before the words of its parts, between them or after
 -- them, and the nodes of a statement's expressions one after the other.
 use Prim.Native.Nat.{ℕ, suc, ◌+◌, ◌-◌, ◌<◌, ◌≤◌}
-use mathlib.Core.List.{List, [], ◌∷◌, ◌++◌}
+use mathlib.Core.List.{List, ◌∷◌, ◌++◌}
 use mathlib.Core.Path.{◌≡◌, sym, ◌∙◌, refl, ap}
 use mathlib.Core.Bool.{Bool, true, false, cond}
 use native.Mathlib.Omega.{arith}
@@ -10,7 +10,7 @@ use borrow.Author.Tests.{eqb-true, eqb-false}
 use lib.ListN.{length, set}
 use lib.Dec.{eqb}
 use lib.Seq.{sets}
-use Rattle.std.specs.Prelude.{Result, Ok, Err}
+use Rattle.std.specs.Prelude.{Ok, Err}
 use Rattle.bits.specs.declared.FileFault.{FileFault}
 use Rattle.semantics.specs.declared.Kind.{Kind}
 use Rattle.semantics.specs.Language.{Expr, Stmt, seq, par, if, while}

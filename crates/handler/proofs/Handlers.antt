@@ -1,5 +1,5 @@
 -- What a handler file that was read says of its head, its statement and its kinds.
-use Prim.Native.Nat.{ℕ, ◌+◌, ◌*◌, ◌^◌, ◌≤◌, ◌<◌, min}
+use Prim.Native.Nat.{ℕ, ◌+◌, ◌*◌, ◌≤◌, ◌<◌}
 use mathlib.Core.Bool.{true≢false}
 use mathlib.Core.List.{List}
 use Rattle.std.specs.Prelude.{Option, Some, None, Result, Ok, Err, is_ok}
@@ -11,8 +11,6 @@ use Rattle.bits.specs.Fields as fields
 use Rattle.bits.specs.declared.FileFault.{FileFault}
 use Rattle.bits.proofs.Places.{FaultIn, fault_at, fill_inside}
 use Rattle.semantics.specs.Language.{Stmt, nil, assign, seq, par, if, while}
-use Rattle.semantics.specs.States.{product}
-use Rattle.semantics.specs.StepNumber.{steps}
 use Rattle.semantics.specs.Conditions.{target_of}
 use Rattle.handler.specs.Header as head
 use Rattle.handler.specs.declared.HandlerFile.{HandlerFile}
@@ -21,7 +19,7 @@ use Rattle.handler.specs.Kinds.{stmt_width, stmt_kind_error}
 use Rattle.handler.specs.Terms.{stmt_terms}
 use Rattle.handler.specs.StatementTable.{statements, stmt_levels, statement_table}
 use Rattle.handler.specs.Reading.{HandlerRead, handler, refused, on_kinds, on_handler_fill, on_stmt, on_head, read_handler}
-use Rattle.handler.specs.Shapes.{handler_file, terms_after}
+use Rattle.handler.specs.Shapes.{summary_of, handler_file, terms_after}
 use Rattle.handler.proofs.Heads.{head_in, head_read}
 use Rattle.handler.proofs.TermTable.{ExprsFit, ExprsIn, exprs_stored}
 use Rattle.handler.proofs.StmtFolds.{TargetsBelow, all_read, stmt_read}
@@ -111,24 +109,16 @@ pub record FoundHandler (r : HandlerRead) (file : HandlerFile) : Type 0 where
   pub sizes : List ℕ
   pub S : Stmt
   pub read : r ≡ handler sizes file.summary.at S
+  pub summary : file.summary ≡ summary_of sizes file.summary.at S
   pub head : file.head ≡ head.head_of sizes
   pub table : file.statements ≡ statement_table file.summary.at S
-  pub ends : file.summary.end ≡ file.summary.at + stmt_width S
-  pub counted : file.summary.statements ≡ statements S
-  pub high : file.summary.levels ≡ stmt_levels S
-  pub stepping : file.summary.steps ≡ min (steps (product sizes) S) (2 ^ 32)
 
 pub found_handler : (r : HandlerRead) (file : HandlerFile) → handler_file r ≡ Ok file → FoundHandler r file
 unfolding handler_file
 found_handler (handler sizes at S) file e =
-    let made : HandlerFile =
-    record {
-      summary = record { at = at; end = at + stmt_width S; statements = statements S; levels = stmt_levels S; steps = min (steps (product sizes) S) (2 ^ 32) };
-      head = head.head_of sizes;
-      statements = statement_table at S;
-    } in
+    let made : HandlerFile = record { summary = summary_of sizes at S; head = head.head_of sizes; statements = statement_table at S } in
     let same : made ≡ file = cc in
-    rw (← same) (record { sizes = sizes; S = S; read = refl; head = refl; table = refl; ends = refl; counted = refl; high = refl; stepping = refl })
+    rw (← same) (record { sizes = sizes; S = S; read = refl; summary = refl; head = refl; table = refl })
 found_handler (refused k place) file e = absurd (true≢false (ap is_ok (sym e)))
 
 -- The target of an assignment is below 4; that of any other statement is 0.

@@ -8,8 +8,8 @@ use native.Mathlib.Nat.{add_assoc}
 use native.Mathlib.Omega.{arith}
 use lib.Dec.{leb, ltb, eqb}
 use lib.ListN.{length}
-use Rattle.std.specs.Prelude.{Some, Result, Ok, Err, ok_or}
-use Rattle.bits.specs.Fields.{bit_length, bit_at, fault_at, field_at, field_or}
+use Rattle.std.specs.Prelude.{Result, Ok, Err, ok_or}
+use Rattle.bits.specs.Fields.{bit_length, bit_at, fault_at, field_or}
 use Rattle.bits.specs.declared.FileFault.{FileFault}
 use Rattle.bits.proofs.Laws.{bits_agree, There, found}
 use Rattle.states.specs.Sets.{capacity}

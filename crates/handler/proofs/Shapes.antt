@@ -23,17 +23,15 @@ use Rattle.semantics.specs.States.{product}
 use Rattle.handler.specs.declared.expressions.ExprSummary.{ExprSummary}
 use Rattle.handler.specs.declared.expressions.ExprHead.TheVariants.{Operation}
 use Rattle.handler.specs.Expressions.{expr_head, ExprRead, good, bad, expr_at, whole_expr}
-use Rattle.handler.specs.Kinds.{width, kind_error, stmt_width, stmt_kind_error}
-use Rattle.handler.specs.Shapes.{expr_summary, expr_shape, stmt_summary, stmt_shape, assigned_of, pair_of, tested_of, fitting_of, filled_of, handler_found, handler_file}
+use Rattle.handler.specs.Kinds.{width, stmt_width, stmt_kind_error}
+use Rattle.handler.specs.Shapes.{expr_summary, expr_shape, stmt_summary, stmt_shape, assigned_of, pair_of, tested_of, fitting_of, filled_of, handler_found, summary_of}
 use Rattle.handler.specs.declared.StmtSummary.{StmtSummary}
 use Rattle.handler.specs.declared.HandlerSummary.{HandlerSummary}
-use Rattle.handler.specs.declared.HandlerFile.{HandlerFile}
-use Rattle.handler.specs.Header.{head_of}
 use Rattle.handler.specs.declared.StmtHead.TheVariants.{Assign, Pair, Test}
 use Rattle.handler.specs.Statements.{stmt_head, StmtRead, whole, fault, paired, tested, stmt_at, whole_stmt}
 use Rattle.handler.specs.Terms.{expr_nodes, stmt_terms}
-use Rattle.handler.specs.StatementTable.{statements, stmt_levels, statement_table}
-use Rattle.handler.specs.Reading.{on_kinds, on_handler_fill, on_stmt}
+use Rattle.handler.specs.StatementTable.{statements, stmt_levels}
+use Rattle.handler.specs.Reading.{HandlerRead, handler, refused, on_kinds, on_handler_fill, on_stmt}
 use Rattle.handler.proofs.Folds.{inner_step, Headed, headed_as, expr_read}
 use Rattle.handler.proofs.Heads.{by_test}
 use Rattle.handler.proofs.StmtFolds.{stmt_step, Marked, marked, whole_read, ReadStmt, stmt_read}
@@ -284,15 +282,14 @@ module _ (bytes : List ℕ) (count levels before at N i : ℕ) (more : 0 < level
             (marked bytes count (levels - 1) before at _ head).2
             known.ends known.counted)
 
--- The file of a handler, from its summary.
-abbrev filed : List ℕ → ℕ → Stmt → Result HandlerSummary FileFault → Result HandlerFile FileFault
-filed sizes at S (Ok summary) = Ok (record { summary = summary; head = head_of sizes; statements = statement_table at S })
-filed sizes at S (Err f) = Err f
+-- What the summary of a file, or a fault after its statement, says of the file.
+abbrev pub Ended : List ℕ → ℕ → Stmt → HandlerRead → Result HandlerSummary FileFault → Type 0
+Ended sizes at S r (Ok summary) = (r ≡ handler sizes at S) × (summary ≡ summary_of sizes at S)
+Ended sizes at S r (Err f) = r ≡ refused f.number f.bit
 
--- The file of a handler, from the summary of its statement: that of the handler that is read, or the fault after the statement.
-found_made : (bytes sizes : List ℕ) (at : ℕ) (S : Stmt) (after next : ℕ) → whole_stmt bytes (length sizes) at ≡ whole S after next
-    → handler_file (on_stmt bytes sizes at (whole S after next)) ≡ filed sizes at S (handler_found bytes at (stmt_summary (product sizes) 0 at S after next))
-unfolding handler_file whole_stmt
+pub found_made : (bytes sizes : List ℕ) (at : ℕ) (S : Stmt) (after next : ℕ) → whole_stmt bytes (length sizes) at ≡ whole S after next
+    → Ended sizes at S (on_stmt bytes sizes at (whole S after next)) (handler_found bytes at (stmt_summary (product sizes) 0 at S after next))
+unfolding whole_stmt
 found_made bytes sizes at S after next read = by (fill_at bytes next)
   where
     w : StmtSummary
@@ -304,10 +301,10 @@ found_made bytes sizes at S after next read = by (fill_at bytes next)
     counted : after ≡ statements S
     counted = omega (arith, known.counted)
 
-    kinds : (o : Option ℕ) → handler_file (on_kinds sizes at S o) ≡ filed sizes at S (fitting_of at w o)
-    kinds None = rw (counted, known.ends)
+    kinds : (o : Option ℕ) → Ended sizes at S (on_kinds sizes at S o) (fitting_of at w o)
+    kinds None = (refl, rw (counted, known.ends))
     kinds (Some place) = refl
 
-    by : (f : Result (Unit {0}) ℕ) → handler_file (on_handler_fill sizes at S f) ≡ filed sizes at S (filled_of at w f)
+    by : (f : Result (Unit {0}) ℕ) → Ended sizes at S (on_handler_fill sizes at S f) (filled_of at w f)
     by (Ok _) = kinds (stmt_kind_error at S)
     by (Err place) = refl

@@ -8,8 +8,8 @@ use native.Mathlib.Omega.{arith}
 use borrow.Author.Tests.{ne_eqb, lt-leb}
 use lib.Dec.{leb, ltb, eqb}
 use lib.ListN.{length}
-use Rattle.std.specs.Prelude.{Result, Ok, Err, ok_or}
-use Rattle.bits.specs.Fields.{bit_length, bits_at, fault_at, field_or, fill_at}
+use Rattle.std.specs.Prelude.{Result, Ok, Err}
+use Rattle.bits.specs.Fields.{bits_at, field_or, fill_at}
 use Rattle.bits.specs.declared.FileFault.{FileFault}
 use Rattle.bits.proofs.Laws.{found}
 use Rattle.bits.proofs.Places.{either}

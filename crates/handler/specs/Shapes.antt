@@ -79,21 +79,14 @@ tested_of N code e b =
       next = b.next;
     }
 
+-- The summary of a handler file.
+abbrev pub summary_of : List ℕ → ℕ → Stmt → HandlerSummary
+summary_of sizes at S =
+    record { at = at; end = at + stmt_width S; statements = statements S; levels = stmt_levels S; steps = min (steps (product sizes) S) (2 ^ 32) }
+
 -- What reading a handler file gives.
 unfoldable pub handler_file : HandlerRead → Result HandlerFile FileFault
-handler_file (handler sizes at S) =
-    Ok (record {
-      summary =
-          record {
-            at = at;
-            end = at + stmt_width S;
-            statements = statements S;
-            levels = stmt_levels S;
-            steps = min (steps (product sizes) S) (2 ^ 32);
-          };
-      head = head_of sizes;
-      statements = statement_table at S;
-    })
+handler_file (handler sizes at S) = Ok (record { summary = summary_of sizes at S; head = head_of sizes; statements = statement_table at S })
 handler_file (refused k place) = Err (fault_at k place)
 
 -- What reading a handler file leaves in the buffer for the nodes of its expressions: after a fault all its words are 0.

@@ -4,7 +4,7 @@ use Prim.Native.Nat.{ℕ, suc, ◌+◌, ◌-◌, ◌*◌, ◌≤◌, ◌<◌}
 use native.Mathlib.Numerals.{add-one}
 use native.Mathlib.Omega.{arith}
 use mathlib.Core.List.{List, [], ◌∷◌, ◌++◌, append_assoc}
-use mathlib.Core.Path.{◌≡◌, sym, ap, ◌∙◌}
+use mathlib.Core.Path.{◌≡◌, ap, ◌∙◌}
 use borrow.Author.Rules.{rules}
 use borrow.Author.Tests.{lt-ltb, le-ltb}
 use lib.ListN.{length, set, replicate, length-append}
@@ -14,7 +14,7 @@ use Rattle.states.specs.Sets.{capacity}
 use Rattle.bits.specs.Fields.{field_or}
 use Rattle.semantics.specs.States.{product}
 use Rattle.handler.specs.declared.head.HeadFile.{HeadFile}
-use Rattle.handler.specs.Header.{declared, size_read, add_size, sizes_read, head_of, head_file}
+use Rattle.handler.specs.Header.{size_read, add_size, sizes_read, head_of, head_file}
 use Rattle.handler.proofs.Heads.{sized, product_snoc, found_head}
 use Rattle.handler.proofs.head.add_size.Goals.{then-size-lt-LEAST_SIZE-via-then-size-lt-LEAST_SIZE, then-size-lt-LEAST_SIZE-via-else-size-lt-LEAST_SIZE+then-size-gt-MOST_SIZE}
 use Rattle.handler.proofs.head.add_size.Goals as goal

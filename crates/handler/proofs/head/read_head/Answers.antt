@@ -1,14 +1,13 @@
 -- After k rounds the head is that of the first k sizes, and a fault of these is that of the head.
-use Prim.Native.Nat.{ℕ, zero, suc, ◌+◌, ◌-◌, ◌≤◌}
+use Prim.Native.Nat.{ℕ, zero, suc, ◌+◌, ◌-◌}
 use mathlib.Core.List.{List}
-use mathlib.Core.Path.{◌≡◌, refl, sym, ap, ◌∙◌}
+use mathlib.Core.Path.{◌≡◌, sym, ◌∙◌}
 use native.Mathlib.Nat.{add-zero, add-suc}
 use native.Mathlib.Omega.{arith}
 use borrow.Author.Rules.{rules}
 use borrow.Author.Tests.{le-leb, lt-leb}
 use Rattle.bits.specs.declared.FileFault.{FileFault}
-use Rattle.std.specs.Prelude.{Err}
-use Rattle.handler.specs.Header.{fault, add_size, sizes_read, count_read, head_at, head_of, head_file}
+use Rattle.handler.specs.Header.{fault, add_size, sizes_read, count_read, head_at, head_of}
 use Rattle.handler.proofs.Heads.{there_or, found_fault}
 use Rattle.handler.proofs.head.read_head.Goals.{then-count-lt1-via-then-count-lt1, then-count-lt1-via-else-count-lt1+then-count-gt-MOST_VARIABLES}
 use Rattle.handler.proofs.head.read_head.Goals as goal
