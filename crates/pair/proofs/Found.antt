@@ -1,7 +1,6 @@
 -- What the code finds in two files says what was read.
 use Prim.Native.Nat.{ℕ}
 use mathlib.Core.List.{List}
-use mathlib.Core.Bool.{false}
 use mathlib.Core.Path.{◌≡◌, refl}
 use native.Mathlib.Omega.{arith}
 use Rattle.std.specs.Prelude.{Result, Ok, Err}
@@ -9,27 +8,30 @@ use Rattle.bits.specs.declared.FileFault.{FileFault}
 use Rattle.semantics.specs.States.{product}
 use Rattle.handler.specs.declared.HandlerFile.{HandlerFile}
 use Rattle.handler.specs.Header.{head_of}
-use Rattle.handler.specs.Reading.{HandlerRead, handler, refused, read_handler}
+use Rattle.handler.specs.Reading.{HandlerRead, handler, refused}
 use Rattle.handler.specs.Shapes.{handler_file}
 use Rattle.derivation.specs.Reading as Proofs
 use Rattle.pair.specs.declared.PairFault.{PairFault}
 use Rattle.pair.specs.declared.PairFault.TheVariants.{TooLong, At}
 use Rattle.pair.specs.declared.PairFile.{PairFile}
-use Rattle.pair.specs.Limits.{too_long}
-use Rattle.pair.specs.Reading.{Pair, PairRead, pair, faulty, long, on_proof, on_handler, read_pair, file_of, pair_file}
+use Rattle.pair.specs.Reading.{Pair, PairRead, pair, faulty, long, on_proof, on_handler, file_of, pair_file}
 use Rattle.pair.specs.Refinement.{file_over}
 
--- What is kept of the proof file over a handler file that was read, and of one with a fault.
+-- What is kept of a handler file that was read and what its proof file was read as, and of one with a fault.
+abbrev on_proof_read : Result HandlerFile FileFault → Proofs.ProofRead → Result PairFile PairFault
+on_proof_read (Err fault) r = Err (At fault)
+on_proof_read (Ok f) r = file_over f (Proofs.proof_file r)
+
 abbrev pub on_file : List ℕ → Result HandlerFile FileFault → Result PairFile PairFault
 on_file pb (Err fault) = Err (At fault)
-on_file pb (Ok f) = file_over f (Proofs.proof_file (Proofs.read_proof pb f.head.states))
+on_file pb (Ok f) = on_proof_read (Ok f) (Proofs.read_proof pb f.head.states)
 
 pub kept : (pb : List ℕ) (r : HandlerRead) → pair_file (on_handler pb r) ≡ on_file pb (handler_file r)
 unfolding handler_file pair_file head_of
 kept pb (refused k place) = refl
 kept pb (handler sizes at S) = by (Proofs.read_proof pb (product sizes))
   where
-    by : (r : Proofs.ProofRead) → pair_file (on_proof sizes at S r) ≡ file_over (record { summary = _; head = head_of sizes; statements = _ }) (Proofs.proof_file r)
+    by : (r : Proofs.ProofRead) → pair_file (on_proof sizes at S r) ≡ on_proof_read (handler_file (handler sizes at S)) r
     by (Proofs.refused k place) = refl
     by (Proofs.proof sets relations root d) = refl
 

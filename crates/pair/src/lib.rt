@@ -13,7 +13,7 @@ ghost use Rattle.pair.specs.Refinement.{file_over, word_limited};
 use bits::FileFault;
 use derivation::reading::read_proof;
 use derivation::words::{clear, write_tables};
-use derivation::{MOST_NODES, ProofHead};
+use derivation::{MOST_NODES, ProofFile, ProofHead};
 use handler::head::Head;
 use handler::reading::read_handler;
 use handler::{HandlerFile, HandlerSummary, MOST_STATEMENTS};
@@ -86,15 +86,23 @@ pub fn too_long(handler: &[u8], proof: &[u8]) -> bool
 fn read_over(proof: &[u8], handler: HandlerFile) -> Result<PairFile, PairFault>
     ensures { result ≡ file_over handler (proof_file (read_proof proof.now handler.head.states)) }
 {
-    let file = read_proof(proof, handler.head.states)?;
+    let HandlerFile {
+        summary,
+        head,
+        statements,
+    } = handler;
+    let ProofFile {
+        head: tables,
+        nodes,
+    } = read_proof(proof, head.states)?;
     Ok(PairFile {
         read: PairSummary {
-            handler: handler.summary,
-            proof: file.head,
+            handler: summary,
+            proof: tables,
         },
-        head: handler.head,
-        statements: handler.statements,
-        nodes: file.nodes,
+        head,
+        statements,
+        nodes,
     })
 }
 
