@@ -215,6 +215,7 @@ fn node_walk(
 }
 
 // Where the derivation at a root node ends; its nodes go into the table.
+#[tactic(auto, unfolding(crate::specs::Nodes::whole_node))]
 pub(crate) fn read_nodes(
     src: &[u8],
     tables: TablesHead,
