@@ -43,6 +43,7 @@ fn are_there(src: &[u8], n: u32, sets: u32, relations: u32) -> bool
 }
 
 // The number of relations, and then the tables of a file with so many sets.
+#[tactic(auto, using(crate::proofs::Heads::passed_on, crate::proofs::Counts::count_range), unfolding(crate::specs::Tables::relations_read))]
 fn read_relations(src: &[u8], n: u32, sets: u32) -> Result<TablesHead, FileFault>
     requires { sets ≤ most_tables }
     ensures { result ≡ relations_read src.now n sets (field_or src.now 5 5 20) }
@@ -70,6 +71,7 @@ fn read_relations(src: &[u8], n: u32, sets: u32) -> Result<TablesHead, FileFault
 }
 
 // The head of a proof file over n states, or its first fault.
+#[tactic(auto, using(crate::proofs::Heads::passed_on, crate::proofs::Counts::count_range), unfolding(crate::specs::Tables::tables_at, crate::specs::Tables::sets_read))]
 pub fn read_tables(src: &[u8], n: u32) -> Result<TablesHead, FileFault>
     ensures { result ≡ tables_at src.now n }
 {

@@ -113,6 +113,7 @@ fn names_head(src: &[u8], tables: TablesHead, rule: u32, at: usize) -> Result<No
 }
 
 // The head of a node with `before` nodes before it, where `below` levels are left below it.
+#[tactic(auto, using(crate::proofs::Heads::passed_on), unfolding(crate::specs::Nodes::node_head, crate::specs::Nodes::rule_head))]
 fn node_head_at(
     src: &[u8],
     tables: TablesHead,
@@ -215,6 +216,7 @@ fn node_walk(
 }
 
 // Where the derivation at a root node ends; its nodes go into the table.
+#[tactic(auto, unfolding(crate::specs::Nodes::whole_node))]
 pub(crate) fn read_nodes(
     src: &[u8],
     tables: TablesHead,

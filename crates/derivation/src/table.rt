@@ -8,6 +8,7 @@ use super::Node;
 use semantics::Names;
 
 // The word of a node.
+#[tactic(auto, unfolding(crate::specs::NodeTable::node_word))]
 pub(crate) fn node_word(node: Node) -> u64
     requires { Fits node × (node.bit < 2 ^ 30) }
     ensures { result ≡ node_word node }
@@ -20,6 +21,7 @@ pub(crate) fn node_word(node: Node) -> u64
 }
 
 // The node that a word of the table holds.
+#[tactic(auto, unfolding(crate::specs::NodeTable::node_of))]
 fn node_of(word: u64) -> Node
     ensures { result ≡ node_of word }
 {
@@ -40,11 +42,9 @@ fn node_of(word: u64) -> Node
 }
 
 // Node i of a table; past the end of the table, the node that the word 0 holds.
+#[tactic(auto, unfolding(crate::specs::NodeTable::node_in))]
 pub fn node_at(table: &[u64], i: usize) -> Node
     ensures { result ≡ node_in table.now i }
 {
-    if i < table.len() {
-        return node_of(table[i]);
-    }
-    node_of(0)
+    node_of(table.get(i).copied().unwrap_or(0))
 }

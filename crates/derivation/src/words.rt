@@ -23,6 +23,7 @@ fn word_at(src: &[u8], at: usize, n: usize) -> u64
 }
 
 // Word `part` of the set that n bits of the file from a cursor on hold.
+#[tactic(auto, unfolding(crate::specs::Tables::set_word_at))]
 fn set_word_at(src: &[u8], at: usize, n: usize, part: usize) -> u64
     requires { (at ≤ 2 ^ 20) × (part < set_words) }
     ensures { result ≡ set_word_at src.now at n part }
@@ -94,6 +95,7 @@ pub(crate) fn fill(src: &[u8], n: usize, sets: usize, relations: usize, work: &m
 }
 
 // Whether there can be so many states, sets and relations.
+#[tactic(auto, unfolding(crate::specs::Tables::are_tables))]
 fn are_tables(n: u32, sets: u32, relations: u32) -> bool
     ensures { result ≡ are_tables n sets relations }
 {

@@ -1,7 +1,7 @@
 -- After a proof its counts are few; which words the definition has, the answer says.
 use mathlib.Core.Path.{sym, ◌∙◌}
 use native.Mathlib.Omega.{arith}
-use Rattle.derivation.proofs.Files.{counted, stages, answered, no_words}
+use Rattle.derivation.proofs.Files.{counted, stages, answered}
 use Rattle.derivation.proofs.reading.load.Goals as goal
 
 pub fill-requires : goal.fill-requires

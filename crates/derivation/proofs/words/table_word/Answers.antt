@@ -61,11 +61,11 @@ set_word_at-requires-2 c = let a = c.args in
 
 pub returns : goal.returns
 unfolding table_word entry_word set_at
-returns c = let row = c in
+returns c =
     rw (
-      le-ltb _ most_tables row.if-entry-lt-MOST_TABLES.false,
-      lt-ltb _ _ row.if-relation-relations.false,
-      lt-ltb _ _ row.if-state-n.false,
+      le-ltb _ most_tables c.if-entry-lt-MOST_TABLES.false,
+      lt-ltb _ _ c.if-relation-relations.false,
+      lt-ltb _ _ c.if-state-n.false,
       ← c.row_cursor.ensures,
     )
     c.set_word_at-2.ensures

@@ -17,5 +17,4 @@ pub returns-then-are_tables : goal.returns-then-are_tables
 returns-then-are_tables c = c.fill.ensures ∙ written_same _ _ _ (λ j. sym (limited_word_lem _ _ _ _ j (within (goal.at.returns-then-are_tables c).Then-are_tables)))
 
 pub returns-else-are_tables : goal.returns-else-are_tables
-returns-else-are_tables c = let e = c in
-    c.clear.ensures ∙ written_same _ _ _ (λ j. sym (no_word _ _ _ _ j (sym e.are_tables.ensures ∙ e.if-are_tables.false)))
+returns-else-are_tables c = c.clear.ensures ∙ written_same _ _ _ (λ j. sym (no_word _ _ _ _ j (sym c.are_tables.ensures ∙ c.if-are_tables.false)))
