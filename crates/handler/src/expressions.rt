@@ -177,7 +177,7 @@ fn leaf_term(head: ExprHead) -> Term
         },
         ExprHead::Truth(b, _) => Term {
             tag: terms::TRUTH,
-            value: if b { 1 } else { 0 },
+            value: b as u32,
             right: 0,
         },
         ExprHead::Variable(v, _) => Term {
