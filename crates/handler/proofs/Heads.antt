@@ -8,7 +8,7 @@ use mathlib.Core.List.{List, [], ◌∷◌, ◌++◌}
 use mathlib.Core.Path.{◌≡◌, refl, sym, ap, ◌∙◌}
 use lib.Dec.{leb, ltb}
 use lib.ListN.{length, get_or, take, replicate, length-take, length-append, get_or-replicate, get_or-eq_default}
-use lib.Seq.{take-append_seam, get_or-take}
+use lib.Seq.{take-append_seam}
 use Rattle.states.specs.Sets.{capacity}
 use Rattle.std.specs.Prelude.{Option, Some, None, Result, Ok, Err, is_ok, ok_or}
 use Rattle.bits.specs.Fields.{bit_length, field_at, field_or}
@@ -110,19 +110,10 @@ get_d_padded [] n v h = get_or-replicate n v 1 0 (omega arith)
 get_d_padded (size ∷ sizes) n zero h = refl
 get_d_padded (size ∷ sizes) n (suc v) h = get_d_padded sizes n v (omega arith)
 
--- The size of a declared variable is its entry in the array; that of any other is 1.
+-- The size of a variable that is not declared is 1.
 pub size_past : (head : Head) (v : ℕ) → head.count ≤ v → get_or (sizes_in head) v 1 ≡ 1
 unfolding sizes_in
 size_past head v h = get_or-eq_default (sizes_in head) 1 {n = v} (omega (arith, length-take head.count head.sizes))
-
-pub size_at : (head : Head) (v : ℕ) → v < length head.sizes → v < head.count → get_or (sizes_in head) v 1 ≡ get_or head.sizes v 0
-unfolding sizes_in
-size_at head v there few = get_or-take head.count head.sizes v 1 few ∙ either head.sizes v there
-  where
-    either : (l : List ℕ) (i : ℕ) → i < length l → get_or l i 1 ≡ get_or l i 0
-    either [] i h = absurd (omega arith)
-    either (x ∷ l) zero h = refl
-    either (x ∷ l) (suc i) h = either l i (omega arith)
 
 -- What is known of a head whose numbers are within the limits.
 pub record Limited (head : Head) : Type 0 where

@@ -60,11 +60,12 @@ pub struct ExprSummary {
 }
 
 // The value of 8 bits in two's complement.
+#[tactic(auto, unfolding(crate::specs::Expressions::signed))]
 fn signed_of(n: u64) -> i64
     requires { n < 256 }
     ensures { result ≡ signed n }
 {
-    if n < 128 { n as i64 } else { n as i64 - 256 }
+    (n as u8).cast_signed() as i64
 }
 
 // Reads an integer constant: 8 bits.
@@ -157,11 +158,12 @@ fn wanted_of(res: Kind, wanted: Kind, at: usize, below: Option<usize>) -> Option
 }
 
 // An integer as 16 bits in two's complement: the remainder, from 0 up, by 65,536.
+#[tactic(auto, unfolding(crate::specs::Terms::bits16))]
 fn bits_of(z: i64) -> u32
     requires { mag z < 32768 }
     ensures { result ≡ bits16 z }
 {
-    (z + 65536) as u32 % 65536
+    (z as i16).cast_unsigned() as u32
 }
 
 // The node of the table for a node without operands, from its head. That of an operation is not made here.
@@ -177,7 +179,7 @@ fn leaf_term(head: ExprHead) -> Term
         },
         ExprHead::Truth(b, _) => Term {
             tag: terms::TRUTH,
-            value: if b { 1 } else { 0 },
+            value: b as u32,
             right: 0,
         },
         ExprHead::Variable(v, _) => Term {

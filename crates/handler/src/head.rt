@@ -98,7 +98,7 @@ pub fn read_head(src: &[u8]) -> Result<HeadFile, FileFault>
 fn is_size(size: u32) -> bool
     ensures { result ≡ is_size size }
 {
-    (1 <= size) & (size as u64 <= MOST_SIZE)
+    1 <= size && size as u64 <= MOST_SIZE
 }
 
 // The size of variable v; 1 if it is not declared.
@@ -108,20 +108,17 @@ pub fn size_of(head: Head, v: u32) -> u32
     if v >= head.count {
         return 1;
     }
-    if v as u64 >= MOST_VARIABLES {
-        return 1;
-    }
-    let sizes = head.sizes;
-    sizes[v as usize]
+    head.sizes.get(v as usize).copied().unwrap_or(1)
 }
 
 // Whether the numbers are within the limits of a head.
+#[tactic(auto, unfolding(crate::specs::Header::in_limits))]
 fn in_limits(head: Head) -> bool
     ensures { result ≡ in_limits head }
 {
-    let few = (head.count as u64 <= MOST_VARIABLES) & (head.states as u64 <= MOST_STATES);
-    let sizes = head.sizes;
-    few & (is_size(sizes[0]) & is_size(sizes[1]) & is_size(sizes[2]) & is_size(sizes[3]))
+    head.count as u64 <= MOST_VARIABLES
+        && head.states as u64 <= MOST_STATES
+        && head.sizes.iter().all(|size| is_size(*size))
 }
 
 // The product of the sizes. They are small, so it fits.
@@ -133,17 +130,15 @@ fn product_of(head: Head) -> u32
 }
 
 // Whether the numbers make a head: they are within the limits, and N is the product of the sizes.
+#[tactic(auto, unfolding(crate::specs::Header::is_head))]
 pub fn is_head(head: Head) -> bool
     ensures { result ≡ is_head head }
 {
-    if in_limits(head) {
-        head.states == product_of(head)
-    } else {
-        false
-    }
+    in_limits(head) && head.states == product_of(head)
 }
 
 // The number of states; 0 if the numbers do not make a head.
+#[tactic(auto, unfolding(crate::specs::Header::machine_in))]
 pub fn states_in(head: Head) -> u32
     ensures { result ≡ (machine_in head).states }
 {

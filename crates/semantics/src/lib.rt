@@ -16,7 +16,7 @@ pub struct Names {
 }
 
 // The kinds of values.
-#[derive(Clone, Copy)]
+#[derive(Clone, Copy, PartialEq, Eq)]
 pub enum Kind {
     Integer,
     Truth,
