@@ -25,7 +25,7 @@ use Rattle.evaluation.specs.declared.Values.{Values}
 use Rattle.evaluation.specs.declared.Variable.{Variable}
 use Rattle.handler.specs.Terms.{expr_in}
 use Rattle.evaluation.specs.Values.{leads_to, variable_in, is_small}
-use Rattle.evaluation.specs.Refinement.{integers_kind, integer_in, value_in, Evaluated, stored_by}
+use Rattle.evaluation.specs.Refinement.{integer_in, value_in, Evaluated, stored_by}
 use Rattle.evaluation.proofs.Sizes.{split}
 use Rattle.evaluation.proofs.Laws.{states_most, after_below, small, variable_small, variable_states, store_variable}
 use Rattle.evaluation.proofs.successors.Given as goal
@@ -35,7 +35,7 @@ abbrev pub ends : Variable → List ℤ → ℕ → ℕ → Bool
 ends x integers s t = ltb t capacity && eqb (stored_by x s (get_or integers s (pos 0))) t
 
 abbrev pub invariant-loop-s : goal.invariant-loop-s
-invariant-loop-s l = (l.s ≤ l.s-end) × RowsFilled (ends l.x l.integers) l.s l.rows
+invariant-loop-s l = RowsFilled (ends l.x l.integers) l.s l.rows
 
 abbrev pub decreases-loop-s : goal.decreases-loop-s
 decreases-loop-s l = l.s-end - l.s
