@@ -79,10 +79,8 @@ fn weight_of(head: Head, v: u32) -> u32
         return 1;
     }
     let mut product = 1;
-    let mut later = head.count;
-    while later > v + 1 {
-        later -= 1;
-        product = product * size_of(head, later);
+    for later in (v + 1..head.count).rev() {
+        product *= size_of(head, later);
     }
     product
 }
@@ -338,10 +336,10 @@ pub fn successors(exprs: &[u32], head: Head, v: u32, expr: u32) -> [u64; RELATIO
     ensures { (s t : ℕ) → mem (entry_at result s) t
         ≡ (ltb s (machine_in head).states && leads_to (after_store (machine_in head) v (expr_in exprs.now expr) s) t) }
 {
-    let mut rows = [0u64; RELATION_WORDS];
     let Some(Values::Integers(integers)) = values_at(exprs, head, expr) else {
-        return rows;
+        return [0; RELATION_WORDS];
     };
+    let mut rows = [0u64; RELATION_WORDS];
     let x = variable_of(head, v);
     let present = variable_row(x.states, x.weight, x.size);
     for s in 0..x.states {

@@ -93,7 +93,7 @@ fn compares(o: u32, a: i64, b: i64) -> bool
 {
     match o {
         LESS => a < b,
-        EQUAL => (a <= b) & (b <= a),
+        EQUAL => a == b,
         _ => a > b,
     }
 }
