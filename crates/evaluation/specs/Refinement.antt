@@ -39,10 +39,6 @@ leaf_bound = 65536
 abbrev pub value_bound : ℕ
 value_bound = 281474976710656
 
--- The magnitude of a short value is below this.
-abbrev pub short_bound : ℕ
-short_bound = 33554432
-
 -- The integer at a state, 0 where there is none, and the value there.
 abbrev pub integer_in : std.Option Values → ℕ → ℤ
 integer_in None s = pos 0

@@ -14,7 +14,7 @@ ghost use Rattle.semantics.specs.Conditions.{is_true, is_false, after_store, occ
 ghost use Rattle.handler.specs.Header.{is_head, sizes_in, machine_in};
 ghost use Rattle.handler.specs.Terms.{signed16, on_term, expr_from, expr_in};
 ghost use Rattle.evaluation.specs.Values.{in_mask, leads_to, variable_in, value_by, is_small, agree_in};
-ghost use Rattle.evaluation.specs.Refinement.{expr_levels, doubled, value_bound, short_bound, integer_in, value_in, Applied, LeafRow, Walked, Evaluated, stored_by};
+ghost use Rattle.evaluation.specs.Refinement.{expr_levels, doubled, value_bound, integer_in, value_in, Applied, LeafRow, Walked, Evaluated, stored_by};
 
 use handler::expressions::MOST_EXPR_NODES;
 use handler::head::{Head, is_head, size_of, states_in};
@@ -26,14 +26,6 @@ use states::{CAPACITY, RELATION_WORDS, StateSet};
 
 // The levels to which an expression is walked, one more than the 31 nodes of an expression of a file.
 const EXPR_LEVELS: u32 = MOST_EXPR_NODES + 1;
-
-// More than the magnitude of any value: a constant has 16 bits, and each level above it adds at most one bit.
-const VALUE_BOUND: u64 = 281474976710656;
-
-// More than the magnitude of a short value. A sum with so many times a size has 32 bits.
-const SHORT_BOUND: u32 = 33554432;
-
-const BELOW_SHORT: i64 = -33554433;
 
 // The codes of the operations + − < = > ∧ ∨, from 0. Those below LESS give an integer, those from LESS to below AND compare two
 // integers, and the last two take truth values.
@@ -284,47 +276,20 @@ pub fn agreeing(x: Variable, s: u32) -> StateSet
     }
 }
 
-// Whether a value is short, as almost every value is.
-fn is_short(z: i64) -> bool
-    ensures { result ≡ ltb (mag z) short_bound }
-{
-    (BELOW_SHORT < z) & (z < SHORT_BOUND as i64)
-}
-
-// The remainder, from 0 up, of a value by a size. The `%` of a signed number rounds toward 0. So enough sizes are added that the sum
-// is not negative.
-fn wrapped_long(size: u32, z: i64) -> u32
-    requires { (0 < size) × (size ≤ capacity) × (mag z < value_bound) }
-    ensures { result ≡ remainder z size }
-{
-    let lifted = z + (VALUE_BOUND * size as u64) as i64;
-    (lifted as u64 % size as u64) as u32
-}
-
-// The same of a short value: the sum has 32 bits, and is divided in less time.
-fn wrapped_short(size: u32, z: i64) -> u32
-    requires { (0 < size) × (size ≤ capacity) × (mag z < short_bound) }
-    ensures { result ≡ remainder z size }
-{
-    let lifted = z + (SHORT_BOUND * size) as i64;
-    lifted as u32 % size
-}
-
-// The remainder, from 0 up, of a value by a size.
+// The remainder, from 0 up, of a value by a size. Almost every value has 32 bits, and is then divided in less time.
 fn wrapped(size: u32, z: i64) -> u32
-    requires { (0 < size) × (size ≤ capacity) × (mag z < value_bound) }
+    requires { (0 < size) × (size ≤ capacity) }
     ensures { result ≡ remainder z size }
 {
-    if is_short(z) {
-        wrapped_short(size, z)
-    } else {
-        wrapped_long(size, z)
+    match i32::try_from(z) {
+        Ok(short) => short.rem_euclid(size as i32) as u32,
+        Err(_) => z.rem_euclid(size as i64) as u32,
     }
 }
 
 // The state after a store of z at state s, from the value that the variable has there.
 fn store(x: Variable, s: u32, value: i64, z: i64) -> u32
-    requires { (is_small x ≡ true) × (s < capacity) × (value ≡ pos (value_by x s)) × (mag z < value_bound) }
+    requires { (is_small x ≡ true) × (s < capacity) × (value ≡ pos (value_by x s)) }
     ensures { result ≡ stored_by x s z }
 {
     s - value as u32 * x.weight + wrapped(x.size, z) * x.weight

@@ -45,9 +45,7 @@ pub overflow_sub-result : goal.overflow_sub-result
 overflow_sub-result c = rw (held (goal.at.overflow_sub-result c).Start) (taken c.args.x c.args.s)
 
 pub wrapped-requires : goal.wrapped-requires
-wrapped-requires c = let a = c in
-    let known = small a.args.x a.requires.0 in
-    (known.sized, known.short, rw (to_z-of_z a.ranges.z) a.requires.3)
+wrapped-requires c = let known = small c.args.x c.requires.0 in (known.sized, known.short)
 
 pub overflow_mul-result-2 : goal.overflow_mul-result-2
 overflow_mul-result-2 c = omega (arith, added _ c.requires.0 _ _ c.wrapped.ensures)

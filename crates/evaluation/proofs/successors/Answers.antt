@@ -104,17 +104,9 @@ bounds-integers-s c = omega (arith, small _ (small_variable _ _ _ c.variable_of-
 pub store-end-requires : goal.store-end-requires
 store-end-requires c =
     let s = c.loop-s.s in
-    let x = c.variable_of-x in
     let present : SFits w64 (get_or c.variable_row-present.result s (pos 0)) = search rules in
-    let integer : SFits w64 (get_or c.in-Some-Integers.integers s (pos 0)) = search rules in
-    let known = rw c.in-Some-Integers.field-0-is at c.in-Some-Integers.ensures in
-    let all : x.result.states ≡ (machine_in c.args.head).states = ap (λ y. y.states) x.ensures ∙ variable_states _ _ in
-    let h = small_variable _ _ _ x.ensures in (
-      h,
-      omega (arith, small _ h),
-      to_z-of_z present ∙ c.variable_row-present.ensures s c.loop-s-test.true,
-      rw (to_z-of_z integer) (known.small s (rw (← all) c.loop-s-test.true)),
-    )
+    let h = small_variable _ _ _ c.variable_of-x.ensures in
+    (h, omega (arith, small _ h), to_z-of_z present ∙ c.variable_row-present.ensures s c.loop-s-test.true)
 
 pub loop-s-preserved : goal.loop-s-preserved
 loop-s-preserved c =
