@@ -141,15 +141,12 @@ fn apply_op(n: u32, o: u32, left: &Values, right: &Values) -> Option<Values>
 }
 
 // The value of 16 bits in two's complement.
+#[tactic(auto, using(std::proofs::lemmas::Int::ints), unfolding(handler::specs::Terms::signed16))]
 fn signed_of(value: u32) -> i64
     requires { value < 65536 }
     ensures { result ≡ signed16 value }
 {
-    if value < 32768 {
-        value as i64
-    } else {
-        value as i64 - 65536
-    }
+    (value as u16).cast_signed() as i64
 }
 
 // The values at n states of a node without operands.
@@ -215,10 +212,7 @@ pub fn truths_at(exprs: &[u32], head: Head, expr: u32) -> Truths
 fn occurs_in(mask: u32, v: u32) -> u32
     ensures { result ≡ cond (in_mask mask v) 1 0 }
 {
-    if v >= 32 {
-        return 0;
-    }
-    (mask >> v) % 2
+    mask.checked_shr(v).unwrap_or(0) % 2
 }
 
 // How many variable occurrences are of variables in a mask, in the expression whose first node is number i of a table. A level at
@@ -254,14 +248,11 @@ pub fn occurrences_at(exprs: &[u32], mask: u32, expr: u32) -> u32
 
 // Whether there are no more states than a set can hold, and the weight and the size, by which states are divided, are not 0 and no
 // larger.
+#[tactic(auto, unfolding(crate::specs::Values::is_small))]
 fn is_small(x: Variable) -> bool
     ensures { result ≡ is_small x }
 {
-    (x.states <= CAPACITY)
-        & (0 < x.weight)
-        & (x.weight <= CAPACITY)
-        & (0 < x.size)
-        & (x.size <= CAPACITY)
+    x.states <= CAPACITY && (1..=CAPACITY).contains(&x.weight) && (1..=CAPACITY).contains(&x.size)
 }
 
 // The states that agree with s in a variable; none where s is not a state. A caller that asks about many states makes the variable
