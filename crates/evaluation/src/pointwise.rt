@@ -98,17 +98,6 @@ fn compares(o: u32, a: i64, b: i64) -> bool
     }
 }
 
-// The states found so far, with s added if `one` is true.
-fn with_state(found: StateSet, s: u32, one: bool) -> StateSet
-    ensures { (t : ℕ) → has result t ≡ (has found t || one && (ltb t capacity && eqb s t)) }
-{
-    if one {
-        found.join(StateSet::single(s))
-    } else {
-        found
-    }
-}
-
 // The states at which two integers compare as operation o asks.
 pub(crate) fn compared(
     n: u32,
@@ -121,7 +110,9 @@ pub(crate) fn compared(
 {
     let mut found = StateSet::empty();
     for s in 0..n {
-        found = with_state(found, s, compares(o, left[s as usize], right[s as usize]));
+        if compares(o, left[s as usize], right[s as usize]) {
+            found = found.join(StateSet::single(s));
+        }
     }
     found
 }
@@ -141,10 +132,8 @@ pub(crate) fn states_with(n: u32, weight: u32, size: u32, value: u32) -> StateSe
 {
     let period = weight * size;
     let mut found = StateSet::empty();
-    let mut from = value * weight;
-    while from < n {
+    for from in (value * weight..n).step_by(period as usize) {
         found = with_run(found, from, from + weight);
-        from += period;
     }
     found.meet(StateSet::below(n))
 }

@@ -1,9 +1,9 @@
 -- After the states below s, the set holds those of them at which the comparison is true.
 use Prim.Native.Nat.{ℕ, zero, suc, ◌≤◌, ◌<◌}
 use native.Mathlib.Omega.{arith}
-use mathlib.Core.Bool.{Bool, true}
+use mathlib.Core.Bool.{Bool, true, ◌||◌, or-false}
 use mathlib.Core.Option.{none, some}
-use mathlib.Core.Path.{◌≡◌, refl, ap, ap₂, ◌∙◌}
+use mathlib.Core.Path.{◌≡◌, refl, sym, ap, ap₂, ◌∙◌}
 use borrow.Author.Rules.{rules}
 use borrow.Author.Tests.{lt-ltb}
 use lib.IntN.{ℤ, pos}
@@ -11,10 +11,12 @@ use lib.ListN.{get_or}
 use mir.Syntax.{w64}
 use mir.Val.{SFits}
 use mir.Facts.{to_z-of_z}
+use Rattle.states.specs.Sets.{has}
 use Rattle.semantics.specs.Language.{truth, of_integers}
 use Rattle.semantics.specs.States.{is_truth}
 use Rattle.evaluation.specs.Refinement.{less_code, and_code}
 use Rattle.evaluation.proofs.Runs.{holds_no_state, holds_more}
+use Rattle.evaluation.proofs.pointwise.compared.Goals.{then-compares, else-compares}
 use Rattle.evaluation.proofs.pointwise.compared.Goals as goal
 
 -- A comparison of two integers gives a truth value.
@@ -40,8 +42,13 @@ loop-s-preserved c =
     let right = get_or c.args.right.now c.loop-s.s (pos 0) in
     let a : SFits w64 left = search rules in
     let b : SFits w64 right = search rules in
-    holds_more (λ t. is_truth true (get_or (of_integers (get_or c.args.left.now t (pos 0)) (get_or c.args.right.now t (pos 0))) c.args.o none)) _ _ _ _
-    (omega arith) (carried c.args.o left right _ _ _ (to_z-of_z a) (to_z-of_z b) c.compares.ensures) c.with_state-found.ensures c.loop-s.invariant
+    let more = holds_more (λ t. is_truth true (get_or (of_integers (get_or c.args.left.now t (pos 0)) (get_or c.args.right.now t (pos 0))) c.args.o none))
+    c.loop-s.s c.loop-s.found c.if-compares.found c.compares.result (omega arith) (carried c.args.o left right _ _ _ (to_z-of_z a) (to_z-of_z b) c.compares.ensures) in
+    elim c.if-compares.branch [
+      | then-compares w ↦
+          more (λ t. rw (w.found-is, w.if-compares.true) (w.join-found.ensures t ∙ ap (λ b. has c.loop-s.found t || b) (w.single.ensures t))) c.loop-s.invariant
+      | else-compares w ↦ more (λ t. rw (w.found-is, w.if-compares.false) (sym (or-false _))) c.loop-s.invariant
+    ]
 
 pub returns : goal.returns
 returns c s l =
