@@ -78,6 +78,7 @@ fn weight_of(head: Head, v: u32) -> u32
 }
 
 // Variable v of a head; with no states where the head is one that no file has.
+#[tactic(auto, unfolding(crate::specs::Values::variable_in))]
 pub fn variable_of(head: Head, v: u32) -> Variable
     ensures { result ≡ variable_in head v }
 {
@@ -183,6 +184,7 @@ fn values_walk(exprs: &[u32], head: Head, n: u32, levels: u32, i: usize) -> Opti
 }
 
 // The values of a whole expression.
+#[tactic(auto, using(crate::proofs::Walking::whole_row))]
 fn values_at(exprs: &[u32], head: Head, expr: u32) -> Option<Values>
     ensures { Evaluated head exprs.now expr result }
 {
@@ -237,6 +239,7 @@ fn occurrences_walk(exprs: &[u32], mask: u32, levels: u32, i: usize) -> u32
 }
 
 // How many variable occurrences in an expression are of variables in a mask. R usually moves no variable, and then nothing is read.
+#[tactic(auto, using(crate::proofs::Walking::none_occur), unfolding(handler::specs::Terms::expr_in))]
 pub fn occurrences_at(exprs: &[u32], mask: u32, expr: u32) -> u32
     ensures { result ≡ occurrences (in_mask mask) (expr_in exprs.now expr) }
 {
