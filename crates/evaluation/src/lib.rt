@@ -118,8 +118,8 @@ fn of_integers(
 }
 
 // The results of operation o on two truth values, state by state.
-fn of_truths(n: u32, o: u32, left: StateSet, right: StateSet) -> Option<Values>
-    ensures { Applied n (λ s. get_or (of_truths (has left s) (has right s)) o none) (Some (Values.Truths left)) (Some (Values.Truths right)) result }
+fn of_truths(o: u32, left: StateSet, right: StateSet) -> Option<Values>
+    ensures { (n : ℕ) → Applied n (λ s. get_or (of_truths (has left s) (has right s)) o none) (Some (Values.Truths left)) (Some (Values.Truths right)) result }
 {
     match o {
         AND => Some(Values::Truths(left.meet(right))),
@@ -136,7 +136,7 @@ fn apply_op(n: u32, o: u32, left: &Values, right: &Values) -> Option<Values>
 {
     match (left, right) {
         (Values::Integers(a), Values::Integers(b)) => of_integers(n, o, a, b),
-        (Values::Truths(a), Values::Truths(b)) => of_truths(n, o, *a, *b),
+        (Values::Truths(a), Values::Truths(b)) => of_truths(o, *a, *b),
         _ => None,
     }
 }
@@ -203,7 +203,8 @@ pub fn truths_at(exprs: &[u32], head: Head, expr: u32) -> Truths
             fails: none,
         };
     };
-    let states = StateSet::below(states_in(head));
+    let n = states_in(head);
+    let states = StateSet::below(n);
     Truths {
         holds: states.meet(truths),
         fails: states.narrow(truths),

@@ -65,7 +65,7 @@ pub returns : goal.returns
 unfolding is_true is_false test
 returns c =
     let known = rw c.in-Some-Truths.field-0-is at c.in-Some-Truths.ensures in
-    let all = c.states_in.ensures in
+    let all = c.states_in-n.ensures in
     record {
       holding = λ s. rw (c.meet.ensures s, c.below-states.ensures s) (tested _ _ _ _ known true s _ _ all refl);
       failing = λ s. rw (c.narrow.ensures s, c.below-states.ensures s) (tested _ _ _ _ known false s _ _ all (not_as _));

@@ -13,18 +13,9 @@ use Rattle.evaluation.proofs.pointwise.states_with.Goals as goal
 period : (c : Start) → let a = c.args in (0 < a.weight * a.size) × (a.weight * a.size ≤ capacity * capacity)
 period c = (mul-pos c.requires.1 (omega arith), mul-le-mul {n₂ = capacity} {m₂ = capacity} c.requires.2 c.requires.3)
 
-pub overflow_mul-period : goal.overflow_mul-period
-overflow_mul-period c = omega (arith, period c)
-
 pub loop-from-init : goal.loop-from-init
 loop-from-init c = let p = c.requires in
     (first_run _ _ _ p.1 p.4, no_run _ _ _ p.1 p.4 _ c.empty-found.ensures)
-
-pub overflow_add-from : goal.overflow_add-from
-overflow_add-from c = omega arith
-
-pub loop-from-smaller : goal.loop-from-smaller
-loop-from-smaller c = omega (arith, period (goal.at.loop-from-smaller c).Start)
 
 pub loop-from-preserved : goal.loop-from-preserved
 loop-from-preserved c = let p = c.requires in

@@ -23,12 +23,6 @@ carried o a b r x y z p q e h = rw e (h.0 ∙ ap₂ (λ i j. get_or (of_integers
 pub loop-s-init : goal.loop-s-init
 loop-s-init c = cells_none (pos 0) _
 
-pub sum-requires : goal.sum-requires
-sum-requires c =
-    let a : SFits w64 (get_or c.args.left.now c.loop-s.s (pos 0)) = search rules in
-    let b : SFits w64 (get_or c.args.right.now c.loop-s.s (pos 0)) = search rules in
-    rw (to_z-of_z a, to_z-of_z b) (c.requires.1, c.requires.2 c.loop-s.s c.loop-s-test.true)
-
 pub loop-s-preserved : goal.loop-s-preserved
 loop-s-preserved c =
     let left = get_or c.args.left.now c.loop-s.s (pos 0) in

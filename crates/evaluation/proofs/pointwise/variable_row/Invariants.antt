@@ -19,7 +19,7 @@ Value weight size s z = z ≡ pos (s / weight % size)
 
 abbrev pub invariant-loop-s : goal.invariant-loop-s
 invariant-loop-s l =
-    (l.s ≤ l.n) × (l.place ≡ l.s % l.weight) × (l.value ≡ l.s / l.weight % l.size) × Cells (pos 0) (Value l.weight l.size) l.s l.row
+    (l.place ≡ l.s % l.weight) × (l.value ≡ l.s / l.weight % l.size) × Cells (pos 0) (Value l.weight l.size) l.s l.row
 
 abbrev pub decreases-loop-s : goal.decreases-loop-s
 decreases-loop-s l = l.n - l.s
