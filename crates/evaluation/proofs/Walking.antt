@@ -4,7 +4,7 @@ use Prim.Native.Nat.{ℕ, zero, suc, ◌+◌, ◌-◌, ◌*◌, ◌≤◌, ◌<�
 use native.Mathlib.Numerals.{add-one}
 use native.Mathlib.Omega.{arith}
 use native.Mathlib.Nat.{zero-div}
-use mathlib.Core.List.{List, [], ◌∷◌}
+use mathlib.Core.List.{List}
 use mathlib.Core.Option.{Option, none, some}
 use Rattle.std.specs.Prelude.{Some, None}
 use Rattle.std.specs.Prelude as std
@@ -17,7 +17,7 @@ use lib.ListN.{length, get_or, replicate, get_or-replicate, get_or-eq_default}
 use lib.Signed.{mag}
 use Rattle.states.specs.declared.StateSet.{StateSet}
 use Rattle.states.specs.Sets.{capacity, has}
-use Rattle.semantics.specs.Language.{Val, int, truth, Expr, op, apply, lit, var}
+use Rattle.semantics.specs.Language.{Val, int, Expr, op, apply, lit, var}
 use Rattle.semantics.specs.States.{Machine, value, both}
 use Rattle.semantics.specs.Conditions.{occurrences}
 use Rattle.handler.specs.declared.head.Head.{Head}

@@ -1,18 +1,17 @@
 -- The old value is subtracted before the new one, which is below the size, is added, so no number is larger than a state plus the
 -- square of the capacity.
-use Prim.Native.Nat.{ℕ, ◌*◌, ◌/◌, ◌≤◌, ◌<◌}
-use native.Mathlib.Nat.{mod-lt, mul-le-mul}
+use Prim.Native.Nat.{ℕ, ◌*◌, ◌≤◌, ◌<◌}
+use native.Mathlib.Nat.{mul-le-mul}
 use native.Mathlib.Omega.{arith}
 use mathlib.Core.Bool.{true}
 use mathlib.Core.Path.{◌≡◌, ◌∙◌}
 use lib.IntN.{ℤ, pos}
 use mir.Syntax.{w64}
 use mir.Val.{of_z, to_z}
-use mir.Facts.{Fits-below, to_z-of_z}
+use mir.Facts.{to_z-of_z}
 use Rattle.states.specs.Sets.{capacity}
 use Rattle.semantics.specs.States.{remainder}
 use Rattle.semantics.proofs.Remainder.{remainder_below}
-use Rattle.semantics.proofs.Storing.{share_within}
 use Rattle.evaluation.specs.declared.Variable.{Variable}
 use Rattle.evaluation.specs.Values.{value_by, is_small}
 use Rattle.evaluation.proofs.Laws.{small}

@@ -1,10 +1,10 @@
 -- Row s holds the state after the store at s. The loop fills the rows below s; those from N on stay empty, because no store starts
 -- there.
-use Prim.Native.Nat.{ℕ, zero, suc, ◌-◌, ◌≤◌, ◌<◌, zero-le}
+use Prim.Native.Nat.{ℕ, ◌≤◌, ◌<◌, zero-le}
 use native.Mathlib.Omega.{arith}
 use mathlib.Core.Bool.{Bool, true, false, ◌&&◌}
-use mathlib.Core.List.{List, [], ◌∷◌}
-use mathlib.Core.Option.{none, some}
+use mathlib.Core.List.{List}
+use mathlib.Core.Option.{some}
 use mathlib.Core.Path.{◌≡◌, refl, sym, ap, ◌∙◌}
 use borrow.Author.Rules.{rules}
 use borrow.Author.Tests.{lt-ltb, le-ltb}
@@ -14,10 +14,10 @@ use lib.ListN.{get_or}
 use mir.Syntax.{w64}
 use mir.Val.{SFits}
 use mir.Facts.{to_z-of_z}
-use Rattle.states.specs.Sets.{capacity, mem, has, entry_at}
+use Rattle.states.specs.Sets.{capacity, mem, entry_at}
 use Rattle.states.proofs.Search.{bool_ext, and_right, and_both}
 use Rattle.states.proofs.EntryLaws.{RowsFilled, rows_none, rows_more}
-use Rattle.semantics.specs.Language.{int, truth}
+use Rattle.semantics.specs.Language.{int}
 use Rattle.semantics.specs.States.{Machine, store_of}
 use Rattle.semantics.specs.Conditions.{after_store}
 use Rattle.handler.specs.declared.head.Head.{Head}
@@ -29,7 +29,7 @@ use Rattle.std.specs.Prelude as std
 use Rattle.evaluation.specs.declared.Variable.{Variable}
 use Rattle.handler.specs.Terms.{expr_in}
 use Rattle.evaluation.specs.Values.{leads_to, variable_in, is_small}
-use Rattle.evaluation.specs.Refinement.{integer_in, value_in, Evaluated, stored_by}
+use Rattle.evaluation.specs.Refinement.{value_in, Evaluated, stored_by}
 use Rattle.evaluation.proofs.Sizes.{split}
 use Rattle.evaluation.proofs.Laws.{states_most, after_below, small, variable_small, variable_states, store_variable}
 use Rattle.evaluation.proofs.successors.Invariants.{ends}

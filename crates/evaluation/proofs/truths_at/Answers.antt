@@ -4,7 +4,7 @@ use Prim.Native.Nat.{ℕ}
 use native.Mathlib.Omega.{arith}
 use mathlib.Core.Bool.{Bool, true, false, not, ◌&&◌, and-false}
 use mathlib.Core.List.{List}
-use mathlib.Core.Option.{none, some}
+use mathlib.Core.Option.{some}
 use mathlib.Core.Path.{◌≡◌, refl, sym, ap, ◌∙◌}
 use borrow.Author.Rules.{rules}
 use borrow.Author.Tests.{lt-ltb, le-ltb}
@@ -12,7 +12,7 @@ use lib.Dec.{ltb}
 use Rattle.std.specs.Prelude.{Some, None}
 use Rattle.std.specs.Prelude as std
 use Rattle.states.specs.declared.StateSet.{StateSet}
-use Rattle.states.specs.Sets.{capacity, has}
+use Rattle.states.specs.Sets.{capacity}
 use Rattle.semantics.specs.Language.{truth}
 use Rattle.semantics.specs.States.{value, is_truth}
 use Rattle.semantics.specs.Conditions.{is_true, is_false}

@@ -1,5 +1,5 @@
 -- After the states below s, the set holds those of them at which the comparison is true.
-use Prim.Native.Nat.{ℕ, ◌-◌}
+use Prim.Native.Nat.{◌-◌}
 use mathlib.Core.Bool.{true}
 use mathlib.Core.Option.{none}
 use lib.IntN.{pos}

@@ -1,16 +1,15 @@
 -- The cells below s hold the variable's values there; `place` and `value` are those of s.
-use Prim.Native.Nat.{ℕ, ◌+◌, ◌-◌, ◌/◌, ◌%◌, ◌≤◌}
-use native.Mathlib.Nat.{mod-le, mod-lt, mod-add-mod, div-le_self, zero-mod, zero-div}
+use Prim.Native.Nat.{◌+◌, ◌/◌, ◌%◌}
+use native.Mathlib.Nat.{mod-le, mod-add-mod, div-le_self, zero-mod, zero-div}
 use native.Mathlib.Omega.{arith}
 use mathlib.Core.Bool.{cond}
-use mathlib.Core.Path.{◌≡◌, sym, ap, ap₂, ◌∙◌}
-use borrow.Author.Rules.{rules}
+use mathlib.Core.Path.{sym, ap, ap₂, ◌∙◌}
 use lib.Dec.{eqb}
-use lib.IntN.{ℤ, pos}
+use lib.IntN.{pos}
 use mir.Syntax.{w64}
 use mir.Val.{SFits}
 use mir.Facts.{to_z-of_z}
-use Rattle.states.proofs.Cells.{Cells, cells_none, cells_more}
+use Rattle.states.proofs.Cells.{cells_none, cells_more}
 use Rattle.evaluation.proofs.Runs.{value_on}
 use Rattle.evaluation.proofs.pointwise.variable_row.Invariants.{Value}
 use Rattle.evaluation.proofs.pointwise.variable_row.Goals.{In-loop-s}

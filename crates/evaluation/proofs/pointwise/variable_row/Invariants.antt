@@ -1,17 +1,8 @@
 -- The cells below s hold the variable's values there; `place` and `value` are those of s.
-use Prim.Native.Nat.{ℕ, ◌+◌, ◌-◌, ◌/◌, ◌%◌, ◌≤◌}
-use native.Mathlib.Nat.{mod-le, mod-lt, mod-add-mod, div-le_self, zero-mod, zero-div}
-use native.Mathlib.Omega.{arith}
-use mathlib.Core.Bool.{cond}
-use mathlib.Core.Path.{◌≡◌, sym, ap, ap₂, ◌∙◌}
-use borrow.Author.Rules.{rules}
-use lib.Dec.{eqb}
+use Prim.Native.Nat.{ℕ, ◌-◌, ◌/◌, ◌%◌}
+use mathlib.Core.Path.{◌≡◌}
 use lib.IntN.{ℤ, pos}
-use mir.Syntax.{w64}
-use mir.Val.{SFits}
-use mir.Facts.{to_z-of_z}
-use Rattle.states.proofs.Cells.{Cells, cells_none, cells_more}
-use Rattle.evaluation.proofs.Runs.{value_on}
+use Rattle.states.proofs.Cells.{Cells}
 use Rattle.evaluation.proofs.pointwise.variable_row.Given as goal
 
 abbrev pub Value : ℕ → ℕ → ℕ → ℤ → Type 0
