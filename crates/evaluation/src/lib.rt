@@ -150,7 +150,9 @@ fn signed_of(value: u32) -> i64
     (value as u16).cast_signed() as i64
 }
 
-// The values at n states of a node without operands.
+// The values at n states of a node without operands. It is not inlined, so that its row is on the stack once, and not at every level
+// of the walk.
+#[inline(never)]
 fn leaf_row(head: Head, n: u32, term: Term) -> Values
     requires { (n ≡ (machine_in head).states) × (term.tag < 3) × (term.value < 65536) }
     ensures { (a b : Expr) → LeafRow n (machine_in head) (Some result) (on_term term a b) }
