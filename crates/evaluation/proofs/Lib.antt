@@ -3,6 +3,5 @@ pub mod Sizes
 pub mod Integers
 pub mod Walking
 pub mod Laws
-pub mod Lifting
 pub mod Runs
 pub mod Cases

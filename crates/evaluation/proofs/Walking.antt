@@ -4,8 +4,10 @@ use Prim.Native.Nat.{ℕ, zero, suc, ◌+◌, ◌-◌, ◌*◌, ◌≤◌, ◌<�
 use native.Mathlib.Numerals.{add-one}
 use native.Mathlib.Omega.{arith}
 use native.Mathlib.Nat.{zero-div}
-use mathlib.Core.List.{List, [], ◌∷◌}
+use mathlib.Core.List.{List}
 use mathlib.Core.Option.{Option, none, some}
+use Rattle.std.specs.Prelude.{Some, None}
+use Rattle.std.specs.Prelude as std
 use mathlib.Core.Path.{◌≡◌, refl, sym, ap, ◌∙◌, ap₂}
 use mathlib.Core.Bool.{cond}
 use borrow.Author.Tests.{ne_eqb, eqb-false}
@@ -15,7 +17,7 @@ use lib.ListN.{length, get_or, replicate, get_or-replicate, get_or-eq_default}
 use lib.Signed.{mag}
 use Rattle.states.specs.declared.StateSet.{StateSet}
 use Rattle.states.specs.Sets.{capacity, has}
-use Rattle.semantics.specs.Language.{Val, int, truth, Expr, op, apply, lit, var}
+use Rattle.semantics.specs.Language.{Val, int, Expr, op, apply, lit, var}
 use Rattle.semantics.specs.States.{Machine, value, both}
 use Rattle.semantics.specs.Conditions.{occurrences}
 use Rattle.handler.specs.declared.head.Head.{Head}
@@ -24,7 +26,8 @@ use Rattle.handler.specs.Header.{machine_in}
 use Rattle.handler.proofs.Heads.{by_test}
 use Rattle.handler.specs.Terms.{signed16, term_of, term_in, on_term, expr_from, expr_in}
 use Rattle.evaluation.specs.declared.Values.{Values}
-use Rattle.evaluation.specs.Refinement.{integers_kind, truths_kind, nothing_kind, expr_levels, doubled, leaf_bound, value_bound, integer_in, value_in, Applied, LeafRow, Walked, Evaluated}
+use Rattle.evaluation.specs.declared.Values.TheVariants.{Integers, Truths}
+use Rattle.evaluation.specs.Refinement.{expr_levels, doubled, leaf_bound, value_bound, integer_in, value_in, Applied, LeafRow, Walked, Evaluated}
 use Rattle.evaluation.specs.Values.{in_mask}
 use Rattle.evaluation.proofs.Sizes.{split}
 
@@ -63,9 +66,6 @@ pub value_small : (table : List ℕ) (i : ℕ) → (term_in table i).value < 655
 unfolding term_in term_of
 value_small table i = omega arith
 
-no_value : (row : Values) → nothing_kind ≤ row.kind → (s : ℕ) → value_in row s ≡ none
-no_value row past s = get_or-eq_default (some (int (integer_in row s)) ∷ some (truth (has row.truths s)) ∷ []) none {n = row.kind} past
-
 both_none : (f : Val → Val → Option Val) (a : Option Val) → both f a none ≡ none
 both_none f none = refl
 both_none f (some a) = refl
@@ -75,71 +75,68 @@ unfolding signed16
 signed_small n h = by_test (λ z. mag z < leaf_bound) (ltb n 32768) _ _ (λ e. h) (λ e. omega arith)
 
 -- The rows of leaves.
-module _ (n : ℕ) (m : Machine) (x : Term) (row : Values) (a b : Expr) where
-  pub integer_row : n ≤ capacity → x.tag ≡ 0 → x.value < 65536
-      → (row.kind ≡ integers_kind) × (row.integers ≡ replicate capacity (signed16 x.value)) → LeafRow n m row (on_term x a b)
-  integer_row most is low made =
+module _ (n : ℕ) (m : Machine) (x : Term) (a b : Expr) where
+  pub integer_row : (row : List ℤ) → n ≤ capacity → x.tag ≡ 0 → x.value < 65536 → row ≡ replicate capacity (signed16 x.value)
+      → LeafRow n m (Some (Integers row)) (on_term x a b)
+  integer_row row most is low made =
       record {
-        each = λ s l. rw (is, made.0, made.1, get_or-replicate capacity s (signed16 x.value) (pos 0) (omega arith));
-        small = λ s l. rw (made.1, get_or-replicate capacity s (signed16 x.value) (pos 0) (omega arith)) (signed_small x.value low);
+        each = λ s l. rw (is, made, get_or-replicate capacity s (signed16 x.value) (pos 0) (omega arith));
+        small = λ s l. rw (made, get_or-replicate capacity s (signed16 x.value) (pos 0) (omega arith)) (signed_small x.value low);
       }
 
   pub truth_row : (set : StateSet) → n ≤ capacity → x.tag ≡ 1 → ((s : ℕ) → s < capacity → has set s ≡ eqb x.value 1)
-      → (row.kind ≡ truths_kind) × (row.truths ≡ set) × ((s : ℕ) → integer_in row s ≡ pos 0) → LeafRow n m row (on_term x a b)
-  truth_row set most is always made =
-      record { each = λ s l. rw (is, made.0, made.1, always s (omega arith)); small = λ s l. rw (made.2 s) (omega arith) }
+      → LeafRow n m (Some (Truths set)) (on_term x a b)
+  truth_row set most is always = record { each = λ s l. rw (is, always s (omega arith)); small = λ s l. omega arith }
 
-  pub variable_row : (values : List ℤ) → x.tag ≡ 2
-      → ((s : ℕ) → s < n → (get_or values s (pos 0) ≡ m.get s x.value) × (mag (get_or values s (pos 0)) < leaf_bound))
-      → (row.kind ≡ integers_kind) × (row.integers ≡ values) → LeafRow n m row (on_term x a b)
-  variable_row values is each made =
-      record { each = λ s l. rw (is, made.0, made.1) (ap (λ z. some (int z)) (each s l).0); small = λ s l. rw made.1 (each s l).1 }
+  pub variable_row : (row : List ℤ) → x.tag ≡ 2
+      → ((s : ℕ) → s < n → (get_or row s (pos 0) ≡ m.get s x.value) × (mag (get_or row s (pos 0)) < leaf_bound))
+      → LeafRow n m (Some (Integers row)) (on_term x a b)
+  variable_row row is each = record { each = λ s l. rw is (ap (λ z. some (int z)) (each s l).0); small = λ s l. (each s l).1 }
 
 -- Where a walk is, and how far it may go: the table, the states, the levels left, and the node's number.
 module _ (table : List ℕ) (n : ℕ) (m : Machine) (levels i : ℕ) where
   -- Where no level is left.
-  pub walked_out : (row : Values) → levels ≡ 0 → (row.kind ≡ nothing_kind) × ((s : ℕ) → integer_in row s ≡ pos 0)
-      → Walked n m levels row (expr_from levels table i)
+  pub walked_out : levels ≡ 0 → Walked n m levels None (expr_from levels table i)
   unfolding expr_from
-  walked_out row none_left made =
-      record { each = λ s l. rw (none_left, made.0); small = λ s l. rw (none_left, made.1 s) (omega arith) }
+  walked_out none_left = record { each = λ s l. rw none_left; small = λ s l. rw none_left (omega arith) }
 
   module _ (more : 0 < levels) where
-    pub walked_leaf : (row : Values) → ((a b : Expr) → LeafRow n m row (on_term (term_in table i) a b)) → Walked n m levels row (expr_from levels table i)
+    pub walked_leaf : (row : std.Option Values) → ((a b : Expr) → LeafRow n m row (on_term (term_in table i) a b)) → Walked n m levels row (expr_from levels table i)
     walked_leaf row made =
         let known = made (expr_from (levels - 1) table (i + 1)) (expr_from (levels - 1) table (term_in table i).right) in
         rw (term_step table levels i more) (record { each = known.each; small = λ s l. omega (arith, known.small s l, doubled_least leaf_bound levels) })
 
-    module _ (last : 3 ≤ (term_in table i).tag) (left : Values) (first : Walked n m (levels - 1) left (expr_from (levels - 1) table (i + 1))) where
+    module _ (last : 3 ≤ (term_in table i).tag) where
       abbrev o : ℕ
       o = (term_in table i).value
 
-      step : expr_from levels table i ≡ op o (expr_from (levels - 1) table (i + 1)) (expr_from (levels - 1) table (term_in table i).right)
+      abbrev first_operand : Expr
+      first_operand = expr_from (levels - 1) table (i + 1)
+
+      abbrev second_operand : Expr
+      second_operand = expr_from (levels - 1) table (term_in table i).right
+
+      step : expr_from levels table i ≡ op o first_operand second_operand
       step = term_step table levels i more ∙ is_operation (term_in table i) _ _ last
 
-      pub walked_left : nothing_kind ≤ left.kind → Walked n m levels left (expr_from levels table i)
-      walked_left past =
-          rw step (record {
-            each = λ s l. no_value left past s ∙ rw (sym (first.each s l) ∙ no_value left past s);
-            small = λ s l. omega (arith, doubled_step leaf_bound levels more, first.small s l);
-          })
+      none_small : 0 < doubled leaf_bound levels
+      none_small = omega (arith, doubled_least leaf_bound levels)
 
-      module _ (right : Values) (second : Walked n m (levels - 1) right (expr_from (levels - 1) table (term_in table i).right)) where
-        pub walked_right : nothing_kind ≤ right.kind → Walked n m levels right (expr_from levels table i)
-        walked_right past =
-            rw step (record {
-              each =
-                  λ s l. no_value right past s
-                  ∙ rw (sym (second.each s l) ∙ no_value right past s, both_none (apply o) (value m (expr_from (levels - 1) table (i + 1)) s));
-              small = λ s l. omega (arith, doubled_step leaf_bound levels more, second.small s l);
-            })
+      pub walked_left : Walked n m (levels - 1) None first_operand → Walked n m levels None (expr_from levels table i)
+      walked_left first = rw step (record { each = λ s l. rw (sym (first.each s l)); small = λ s l. none_small })
 
+      pub walked_right : Walked n m (levels - 1) None second_operand → Walked n m levels None (expr_from levels table i)
+      walked_right second =
+          rw step (record { each = λ s l. rw (sym (second.each s l)) (sym (both_none (apply o) (value m first_operand s))); small = λ s l. none_small })
+
+      module _ (left right : std.Option Values) (first : Walked n m (levels - 1) left first_operand)
+          (second : Walked n m (levels - 1) right second_operand) where
         pub operands_small : levels ≤ expr_levels → (s : ℕ) → s < n → mag (integer_in left s) + mag (integer_in right s) < value_bound
         operands_small few s l =
             let most : doubled leaf_bound levels ≤ value_bound = doubled_most leaf_bound levels expr_levels few in
             omega (arith, doubled_step leaf_bound levels more, most, first.small s l, second.small s l)
 
-        pub walked_both : (row : Values) → Applied n (λ s. both (apply o) (value_in left s) (value_in right s)) left right row
+        pub walked_both : (row : std.Option Values) → Applied n (λ s. both (apply o) (value_in left s) (value_in right s)) left right row
             → Walked n m levels row (expr_from levels table i)
         walked_both row made =
             rw step (record {
@@ -148,7 +145,7 @@ module _ (table : List ℕ) (n : ℕ) (m : Machine) (levels i : ℕ) where
             })
 
 -- A whole expression, from the row of a walk with all levels left.
-pub whole_row : (head : Head) (table : List ℕ) (expr n : ℕ) (row : Values) → n ≡ (machine_in head).states
+pub whole_row : (head : Head) (table : List ℕ) (expr n : ℕ) (row : std.Option Values) → n ≡ (machine_in head).states
     → Walked n (machine_in head) expr_levels row (expr_from expr_levels table expr) → Evaluated head table expr row
 unfolding expr_in
 whole_row head table expr n row all w = record { each = λ s l. w.each s (rw all l); small = λ s l. w.small s (rw all l) }

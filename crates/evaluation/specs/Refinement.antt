@@ -1,5 +1,6 @@
 -- What the private functions promise about the values and stores that they compute. No public promise cites it.
-use Rattle.std.specs.Prelude.{ℕ, zero, suc, ◌+◌, ◌-◌, ◌*◌, ◌≤◌, ◌<◌, ◌≡◌, List, [], ◌∷◌, ℤ, pos, get_or}
+use Rattle.std.specs.Prelude.{ℕ, zero, suc, ◌+◌, ◌-◌, ◌*◌, ◌≤◌, ◌<◌, ◌≡◌, List, [], ◌∷◌, ℤ, pos, get_or, Some, None}
+use Rattle.std.specs.Prelude as std
 use Rattle.std.proofs.Math.Option.{Option, none, some}
 use Rattle.std.specs.Int.Signed.{mag}
 use Rattle.states.specs.Sets.{has}
@@ -10,18 +11,9 @@ use Rattle.handler.specs.Expressions.{most_expr_nodes}
 use Rattle.handler.specs.Header.{machine_in}
 use Rattle.handler.specs.Terms.{expr_in}
 use Rattle.evaluation.specs.declared.Values.{Values}
+use Rattle.evaluation.specs.declared.Values.TheVariants.{Integers, Truths}
 use Rattle.evaluation.specs.declared.Variable.{Variable}
 use Rattle.evaluation.specs.Values.{value_by}
-
--- The kinds of a row: an integer at each state, a truth value at each state, or no value.
-abbrev pub integers_kind : ℕ
-integers_kind = 0
-
-abbrev pub truths_kind : ℕ
-truths_kind = 1
-
-abbrev pub nothing_kind : ℕ
-nothing_kind = 2
 
 -- The codes of < and ∧: the operations below < give an integer, and those from < to below ∧ compare two integers.
 abbrev pub less_code : ℕ
@@ -47,35 +39,35 @@ leaf_bound = 65536
 abbrev pub value_bound : ℕ
 value_bound = 281474976710656
 
--- The magnitude of a short value is below this.
-abbrev pub short_bound : ℕ
-short_bound = 33554432
+-- The integer at a state, 0 where there is none, and the value there.
+abbrev pub integer_in : std.Option Values → ℕ → ℤ
+integer_in None s = pos 0
+integer_in (Some (Integers row)) s = get_or row s (pos 0)
+integer_in (Some (Truths set)) s = pos 0
 
--- The integer at a state, and the value there: by the row's kind an integer, a truth value or none.
-abbrev pub integer_in : Values → ℕ → ℤ
-integer_in row s = get_or row.integers s (pos 0)
-
-abbrev pub value_in : Values → ℕ → Option Val
-value_in row s = get_or (some (int (integer_in row s)) ∷ some (truth (has row.truths s)) ∷ []) row.kind none
+abbrev pub value_in : std.Option Values → ℕ → Option Val
+value_in None s = none
+value_in (Some (Integers row)) s = some (int (get_or row s (pos 0)))
+value_in (Some (Truths set)) s = some (truth (has set s))
 
 -- The values of an operation at n states, from those of its operands. The magnitude of an integer is at most the sum of the operands'
 -- magnitudes plus 1.
-abbrev pub Applied : ℕ → (ℕ → Option Val) → Values → Values → Values → Type 0
+abbrev pub Applied : ℕ → (ℕ → Option Val) → std.Option Values → std.Option Values → std.Option Values → Type 0
 Applied n f left right row =
     (s : ℕ) → s < n → (value_in row s ≡ f s) × (mag (integer_in row s) ≤ mag (integer_in left s) + mag (integer_in right s) + 1)
 
 -- The values at n states of an expression without operands, and a bound on the integers.
-pub record LeafRow (n : ℕ) (m : Machine) (row : Values) (e : Expr) : Type 0 where
+pub record LeafRow (n : ℕ) (m : Machine) (row : std.Option Values) (e : Expr) : Type 0 where
   pub each : (s : ℕ) → s < n → value_in row s ≡ value m e s
   pub small : (s : ℕ) → s < n → mag (integer_in row s) < leaf_bound
 
 -- The values at n states of an expression that is walked to so many levels, and a bound on the integers.
-pub record Walked (n : ℕ) (m : Machine) (levels : ℕ) (row : Values) (e : Expr) : Type 0 where
+pub record Walked (n : ℕ) (m : Machine) (levels : ℕ) (row : std.Option Values) (e : Expr) : Type 0 where
   pub each : (s : ℕ) → s < n → value_in row s ≡ value m e s
   pub small : (s : ℕ) → s < n → mag (integer_in row s) < doubled leaf_bound levels
 
 -- The values of an expression of a table, at the states of a head.
-pub record Evaluated (head : Head) (table : List ℕ) (expr : ℕ) (row : Values) : Type 0 where
+pub record Evaluated (head : Head) (table : List ℕ) (expr : ℕ) (row : std.Option Values) : Type 0 where
   pub each : (s : ℕ) → s < (machine_in head).states → value_in row s ≡ value (machine_in head) (expr_in table expr) s
   pub small : (s : ℕ) → s < (machine_in head).states → mag (integer_in row s) < value_bound
 

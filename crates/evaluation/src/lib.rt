@@ -4,7 +4,7 @@
 
 mod pointwise;
 
-ghost use Rattle.std.specs.Prelude.{◌≡◌, true, cond, ◌&&◌, ℕ, ◌+◌, ◌≤◌, ◌<◌, ltb, pos, get_or};
+ghost use Rattle.std.specs.Prelude.{◌≡◌, true, cond, ◌&&◌, ℕ, ◌+◌, ◌≤◌, ◌<◌, ltb, pos, get_or, Some};
 ghost use Rattle.std.proofs.Math.Option.{none};
 ghost use Rattle.std.specs.Int.Signed.{mag};
 ghost use Rattle.states.specs.Sets.{capacity, mem, has, entry_at};
@@ -14,7 +14,7 @@ ghost use Rattle.semantics.specs.Conditions.{is_true, is_false, after_store, occ
 ghost use Rattle.handler.specs.Header.{is_head, sizes_in, machine_in};
 ghost use Rattle.handler.specs.Terms.{signed16, on_term, expr_from, expr_in};
 ghost use Rattle.evaluation.specs.Values.{in_mask, leads_to, variable_in, value_by, is_small, agree_in};
-ghost use Rattle.evaluation.specs.Refinement.{integers_kind, truths_kind, nothing_kind, expr_levels, doubled, value_bound, short_bound, integer_in, value_in, Applied, LeafRow, Walked, Evaluated, stored_by};
+ghost use Rattle.evaluation.specs.Refinement.{expr_levels, doubled, value_bound, integer_in, value_in, Applied, LeafRow, Walked, Evaluated, stored_by};
 
 use handler::expressions::MOST_EXPR_NODES;
 use handler::head::{Head, is_head, size_of, states_in};
@@ -24,23 +24,8 @@ use pointwise::{always, compared, states_with, sum_row, variable_row};
 use states::entries::put_entry;
 use states::{CAPACITY, RELATION_WORDS, StateSet};
 
-// The kinds of a row: an integer at each state, a truth value at each state, or no value.
-const INTEGERS: u32 = 0;
-
-const TRUTHS: u32 = 1;
-
-const NOTHING: u32 = 2;
-
 // The levels to which an expression is walked, one more than the 31 nodes of an expression of a file.
 const EXPR_LEVELS: u32 = MOST_EXPR_NODES + 1;
-
-// More than the magnitude of any value: a constant has 16 bits, and each level above it adds at most one bit.
-const VALUE_BOUND: u64 = 281474976710656;
-
-// More than the magnitude of a short value. A sum with so many times a size has 32 bits.
-const SHORT_BOUND: u32 = 33554432;
-
-const BELOW_SHORT: i64 = -33554433;
 
 // The codes of the operations + − < = > ∧ ∨, from 0. Those below LESS give an integer, those from LESS to below AND compare two
 // integers, and the last two take truth values.
@@ -54,12 +39,11 @@ const AND: u32 = 5;
 
 const OR: u32 = 6;
 
-// The value of an expression at each state, by kind; it has no value where its operands are of the wrong kinds.
+// The value of an expression at each state. An expression whose operands are of the wrong kinds has none at any state.
 #[derive(Clone, Copy)]
-struct Values {
-    kind: u32,
-    integers: [i64; CAPACITY as usize],
-    truths: StateSet,
+enum Values {
+    Integers([i64; CAPACITY as usize]),
+    Truths(StateSet),
 }
 
 // The states at which a test is true, and those at which it is false.
@@ -87,15 +71,14 @@ fn weight_of(head: Head, v: u32) -> u32
         return 1;
     }
     let mut product = 1;
-    let mut later = head.count;
-    while later > v + 1 {
-        later -= 1;
-        product = product * size_of(head, later);
+    for later in (v + 1..head.count).rev() {
+        product *= size_of(head, later);
     }
     product
 }
 
 // Variable v of a head; with no states where the head is one that no file has.
+#[tactic(auto, unfolding(crate::specs::Values::variable_in))]
 pub fn variable_of(head: Head, v: u32) -> Variable
     ensures { result ≡ variable_in head v }
 {
@@ -114,136 +97,97 @@ pub fn variable_of(head: Head, v: u32) -> Variable
     }
 }
 
-// A row with no value at any state.
-fn nothing() -> Values
-    ensures { (result.kind ≡ nothing_kind) × ((s : ℕ) → integer_in result s ≡ pos 0) }
-{
-    Values {
-        kind: NOTHING,
-        integers: [0; CAPACITY as usize],
-        truths: StateSet::empty(),
-    }
-}
-
-// A row with an integer at each state.
-fn integers_of(integers: [i64; CAPACITY as usize]) -> Values
-    ensures { (result.kind ≡ integers_kind) × (result.integers ≡ integers) }
-{
-    Values {
-        kind: INTEGERS,
-        integers,
-        truths: StateSet::empty(),
-    }
-}
-
-// A row with a truth value at each state.
-fn truths_of(truths: StateSet) -> Values
-    ensures { (result.kind ≡ truths_kind) × (result.truths ≡ truths) × ((s : ℕ) → integer_in result s ≡ pos 0) }
-{
-    Values {
-        kind: TRUTHS,
-        integers: [0; CAPACITY as usize],
-        truths,
-    }
-}
-
 // The results of operation o on two integers, state by state.
-fn of_integers(n: u32, o: u32, left: Values, right: Values) -> Values
-    requires { (n ≤ capacity) × ((s : ℕ) → s < n → mag (integer_in left s) + mag (integer_in right s) < value_bound) }
-    ensures { Applied n (λ s. get_or (of_integers (integer_in left s) (integer_in right s)) o none) left right result }
+fn of_integers(
+    n: u32,
+    o: u32,
+    left: &[i64; CAPACITY as usize],
+    right: &[i64; CAPACITY as usize],
+) -> Option<Values>
+    requires { (n ≤ capacity) × ((s : ℕ) → s < n → mag (get_or left.now s (pos 0)) + mag (get_or right.now s (pos 0)) < value_bound) }
+    ensures { Applied n (λ s. get_or (of_integers (get_or left.now s (pos 0)) (get_or right.now s (pos 0))) o none)
+        (Some (Values.Integers left.now)) (Some (Values.Integers right.now)) result }
 {
     if o < LESS {
-        integers_of(sum_row(n, o, left, right))
+        Some(Values::Integers(sum_row(n, o, left, right)))
     } else if o < AND {
-        truths_of(compared(n, o, left, right))
+        Some(Values::Truths(compared(n, o, left, right)))
     } else {
-        nothing()
+        None
     }
 }
 
 // The results of operation o on two truth values, state by state.
-fn of_truths(n: u32, o: u32, left: Values, right: Values) -> Values
-    ensures { Applied n (λ s. get_or (of_truths (has left.truths s) (has right.truths s)) o none) left right result }
+fn of_truths(o: u32, left: StateSet, right: StateSet) -> Option<Values>
+    ensures { (n : ℕ) → Applied n (λ s. get_or (of_truths (has left s) (has right s)) o none) (Some (Values.Truths left)) (Some (Values.Truths right)) result }
 {
-    let a = left.truths;
-    let b = right.truths;
     match o {
-        AND => truths_of(a.meet(b)),
-        OR => truths_of(a.join(b)),
-        _ => nothing(),
+        AND => Some(Values::Truths(left.meet(right))),
+        OR => Some(Values::Truths(left.join(right))),
+        _ => None,
     }
 }
 
 // The results of operation o on its operands, both of which have values.
-fn apply_op(n: u32, o: u32, left: Values, right: Values) -> Values
-    requires { (n ≤ capacity) × (left.kind < nothing_kind) × (right.kind < nothing_kind)
-        × ((s : ℕ) → s < n → mag (integer_in left s) + mag (integer_in right s) < value_bound) }
-    ensures { Applied n (λ s. both (apply o) (value_in left s) (value_in right s)) left right result }
+fn apply_op(n: u32, o: u32, left: &Values, right: &Values) -> Option<Values>
+    requires { (n ≤ capacity)
+        × ((s : ℕ) → s < n → mag (integer_in (Some left.now) s) + mag (integer_in (Some right.now) s) < value_bound) }
+    ensures { Applied n (λ s. both (apply o) (value_in (Some left.now) s) (value_in (Some right.now) s)) (Some left.now) (Some right.now) result }
 {
-    if left.kind == right.kind {
-        if left.kind == INTEGERS {
-            of_integers(n, o, left, right)
-        } else {
-            of_truths(n, o, left, right)
-        }
-    } else {
-        nothing()
+    match (left, right) {
+        (Values::Integers(a), Values::Integers(b)) => of_integers(n, o, a, b),
+        (Values::Truths(a), Values::Truths(b)) => of_truths(o, *a, *b),
+        _ => None,
     }
 }
 
 // The value of 16 bits in two's complement.
+#[tactic(auto, using(std::proofs::lemmas::Int::ints), unfolding(handler::specs::Terms::signed16))]
 fn signed_of(value: u32) -> i64
     requires { value < 65536 }
     ensures { result ≡ signed16 value }
 {
-    if value < 32768 {
-        value as i64
-    } else {
-        value as i64 - 65536
-    }
+    (value as u16).cast_signed() as i64
 }
 
-// The values at n states of a node without operands.
-fn leaf_row(head: Head, n: u32, term: Term) -> Values
+// The values at n states of a node without operands. It returns what the walk returns, and is not inlined: otherwise each level of the
+// walk takes 2,936 bytes of the stack, and not 2,136.
+#[inline(never)]
+fn leaf_row(head: Head, n: u32, term: Term) -> Option<Values>
     requires { (n ≡ (machine_in head).states) × (term.tag < 3) × (term.value < 65536) }
     ensures { (a b : Expr) → LeafRow n (machine_in head) result (on_term term a b) }
 {
     if term.tag == terms::INTEGER {
-        return integers_of([signed_of(term.value); CAPACITY as usize]);
+        return Some(Values::Integers([signed_of(term.value); CAPACITY as usize]));
     }
     if term.tag == terms::TRUTH {
-        return truths_of(always(term.value == 1));
+        return Some(Values::Truths(always(term.value == 1)));
     }
     let x = variable_of(head, term.value);
-    integers_of(variable_row(n, x.weight, x.size))
+    Some(Values::Integers(variable_row(n, x.weight, x.size)))
 }
 
 // The values at n states of the expression whose first node is number i of a table. A level adds at most one bit to the magnitude of
 // an integer, so the sums fit. An operand without a value ends the walk, because then the whole expression has none either.
-fn values_walk(exprs: &[u32], head: Head, n: u32, levels: u32, i: usize) -> Values
+fn values_walk(exprs: &[u32], head: Head, n: u32, levels: u32, i: usize) -> Option<Values>
     requires { (n ≡ (machine_in head).states) × (levels ≤ expr_levels) }
     ensures { Walked n (machine_in head) levels result (expr_from levels exprs.now i) }
 {
     if levels == 0 {
-        return nothing();
+        return None;
     }
     let term = term_at(exprs, i);
     if term.tag < terms::OPERATION {
         return leaf_row(head, n, term);
     }
-    let left = values_walk(exprs, head, n, levels - 1, i + 1);
-    if left.kind >= NOTHING {
-        return left;
-    }
-    let right = values_walk(exprs, head, n, levels - 1, term.right as usize);
-    if right.kind >= NOTHING {
-        return right;
-    }
-    apply_op(n, term.value, left, right)
+    let left = values_walk(exprs, head, n, levels - 1, i + 1)?;
+    let right = values_walk(exprs, head, n, levels - 1, term.right as usize)?;
+    apply_op(n, term.value, &left, &right)
 }
 
 // The values of a whole expression.
-fn values_at(exprs: &[u32], head: Head, expr: u32) -> Values
+#[tactic(auto, using(crate::proofs::Walking::whole_row))]
+fn values_at(exprs: &[u32], head: Head, expr: u32) -> Option<Values>
     ensures { Evaluated head exprs.now expr result }
 {
     values_walk(exprs, head, states_in(head), EXPR_LEVELS, expr as usize)
@@ -254,17 +198,15 @@ pub fn truths_at(exprs: &[u32], head: Head, expr: u32) -> Truths
     ensures holding { (s : ℕ) → has result.holds s ≡ is_true (machine_in head) (expr_in exprs.now expr) s }
     ensures failing { (s : ℕ) → has result.fails s ≡ is_false (machine_in head) (expr_in exprs.now expr) s }
 {
-    let row = values_at(exprs, head, expr);
-    if row.kind != TRUTHS {
+    let Some(Values::Truths(truths)) = values_at(exprs, head, expr) else {
         let none = StateSet::empty();
         return Truths {
             holds: none,
             fails: none,
         };
-    }
+    };
     let n = states_in(head);
     let states = StateSet::below(n);
-    let truths = row.truths;
     Truths {
         holds: states.meet(truths),
         fails: states.narrow(truths),
@@ -275,10 +217,7 @@ pub fn truths_at(exprs: &[u32], head: Head, expr: u32) -> Truths
 fn occurs_in(mask: u32, v: u32) -> u32
     ensures { result ≡ cond (in_mask mask v) 1 0 }
 {
-    if v >= 32 {
-        return 0;
-    }
-    (mask >> v) % 2
+    mask.checked_shr(v).unwrap_or(0) % 2
 }
 
 // How many variable occurrences are of variables in a mask, in the expression whose first node is number i of a table. A level at
@@ -303,6 +242,7 @@ fn occurrences_walk(exprs: &[u32], mask: u32, levels: u32, i: usize) -> u32
 }
 
 // How many variable occurrences in an expression are of variables in a mask. R usually moves no variable, and then nothing is read.
+#[tactic(auto, using(crate::proofs::Walking::none_occur), unfolding(handler::specs::Terms::expr_in))]
 pub fn occurrences_at(exprs: &[u32], mask: u32, expr: u32) -> u32
     ensures { result ≡ occurrences (in_mask mask) (expr_in exprs.now expr) }
 {
@@ -314,14 +254,11 @@ pub fn occurrences_at(exprs: &[u32], mask: u32, expr: u32) -> u32
 
 // Whether there are no more states than a set can hold, and the weight and the size, by which states are divided, are not 0 and no
 // larger.
+#[tactic(auto, unfolding(crate::specs::Values::is_small))]
 fn is_small(x: Variable) -> bool
     ensures { result ≡ is_small x }
 {
-    (x.states <= CAPACITY)
-        & (0 < x.weight)
-        & (x.weight <= CAPACITY)
-        & (0 < x.size)
-        & (x.size <= CAPACITY)
+    x.states <= CAPACITY && (1..=CAPACITY).contains(&x.weight) && (1..=CAPACITY).contains(&x.size)
 }
 
 // The states that agree with s in a variable; none where s is not a state. A caller that asks about many states makes the variable
@@ -336,47 +273,20 @@ pub fn agreeing(x: Variable, s: u32) -> StateSet
     }
 }
 
-// Whether a value is short, as almost every value is.
-fn is_short(z: i64) -> bool
-    ensures { result ≡ ltb (mag z) short_bound }
-{
-    (BELOW_SHORT < z) & (z < SHORT_BOUND as i64)
-}
-
-// The remainder, from 0 up, of a value by a size. The `%` of a signed number rounds toward 0. So enough sizes are added that the sum
-// is not negative.
-fn wrapped_long(size: u32, z: i64) -> u32
-    requires { (0 < size) × (size ≤ capacity) × (mag z < value_bound) }
-    ensures { result ≡ remainder z size }
-{
-    let lifted = z + (VALUE_BOUND * size as u64) as i64;
-    (lifted as u64 % size as u64) as u32
-}
-
-// The same of a short value: the sum has 32 bits, and is divided in less time.
-fn wrapped_short(size: u32, z: i64) -> u32
-    requires { (0 < size) × (size ≤ capacity) × (mag z < short_bound) }
-    ensures { result ≡ remainder z size }
-{
-    let lifted = z + (SHORT_BOUND * size) as i64;
-    lifted as u32 % size
-}
-
-// The remainder, from 0 up, of a value by a size.
+// The remainder, from 0 up, of a value by a size. Almost every value has 32 bits, and is then divided in less time.
 fn wrapped(size: u32, z: i64) -> u32
-    requires { (0 < size) × (size ≤ capacity) × (mag z < value_bound) }
+    requires { (0 < size) × (size ≤ capacity) }
     ensures { result ≡ remainder z size }
 {
-    if is_short(z) {
-        wrapped_short(size, z)
-    } else {
-        wrapped_long(size, z)
+    match i32::try_from(z) {
+        Ok(short) => short.rem_euclid(size as i32) as u32,
+        Err(_) => z.rem_euclid(size as i64) as u32,
     }
 }
 
 // The state after a store of z at state s, from the value that the variable has there.
 fn store(x: Variable, s: u32, value: i64, z: i64) -> u32
-    requires { (is_small x ≡ true) × (s < capacity) × (value ≡ pos (value_by x s)) × (mag z < value_bound) }
+    requires { (is_small x ≡ true) × (s < capacity) × (value ≡ pos (value_by x s)) }
     ensures { result ≡ stored_by x s z }
 {
     s - value as u32 * x.weight + wrapped(x.size, z) * x.weight
@@ -388,12 +298,10 @@ pub fn successors(exprs: &[u32], head: Head, v: u32, expr: u32) -> [u64; RELATIO
     ensures { (s t : ℕ) → mem (entry_at result s) t
         ≡ (ltb s (machine_in head).states && leads_to (after_store (machine_in head) v (expr_in exprs.now expr) s) t) }
 {
+    let Some(Values::Integers(integers)) = values_at(exprs, head, expr) else {
+        return [0; RELATION_WORDS];
+    };
     let mut rows = [0u64; RELATION_WORDS];
-    let row = values_at(exprs, head, expr);
-    if row.kind != INTEGERS {
-        return rows;
-    }
-    let integers = row.integers;
     let x = variable_of(head, v);
     let present = variable_row(x.states, x.weight, x.size);
     for s in 0..x.states {

@@ -5,9 +5,9 @@ ghost use Rattle.std.proofs.Math.Option.{none, some};
 ghost use Rattle.std.specs.Int.Signed.{mag};
 ghost use Rattle.states.specs.Sets.{capacity, has};
 ghost use Rattle.semantics.specs.Language.{int, truth, of_integers};
-ghost use Rattle.evaluation.specs.Refinement.{less_code, and_code, value_bound, integer_in};
+ghost use Rattle.evaluation.specs.Refinement.{less_code, and_code, value_bound};
 
-use crate::{EQUAL, LESS, PLUS, Values};
+use crate::{EQUAL, LESS, PLUS};
 use states::{CAPACITY, StateSet};
 
 // The number after x, or 0 after the last number below the limit.
@@ -69,14 +69,19 @@ fn sum(o: u32, a: i64, b: i64) -> i64
 }
 
 // The sums or the differences of two rows, state by state.
-pub(crate) fn sum_row(n: u32, o: u32, left: Values, right: Values) -> [i64; CAPACITY as usize]
-    requires { (n ≤ capacity) × (o < less_code) × ((s : ℕ) → s < n → mag (integer_in left s) + mag (integer_in right s) < value_bound) }
-    ensures { (s : ℕ) → s < n → (some (int (get_or result s (pos 0))) ≡ get_or (of_integers (integer_in left s) (integer_in right s)) o none)
-        × (mag (get_or result s (pos 0)) ≤ mag (integer_in left s) + mag (integer_in right s) + 1) }
+pub(crate) fn sum_row(
+    n: u32,
+    o: u32,
+    left: &[i64; CAPACITY as usize],
+    right: &[i64; CAPACITY as usize],
+) -> [i64; CAPACITY as usize]
+    requires { (n ≤ capacity) × (o < less_code) × ((s : ℕ) → s < n → mag (get_or left.now s (pos 0)) + mag (get_or right.now s (pos 0)) < value_bound) }
+    ensures { (s : ℕ) → s < n → (some (int (get_or result s (pos 0))) ≡ get_or (of_integers (get_or left.now s (pos 0)) (get_or right.now s (pos 0))) o none)
+        × (mag (get_or result s (pos 0)) ≤ mag (get_or left.now s (pos 0)) + mag (get_or right.now s (pos 0)) + 1) }
 {
     let mut row = [0i64; CAPACITY as usize];
     for s in 0..n {
-        row[s as usize] = sum(o, left.integers[s as usize], right.integers[s as usize]);
+        row[s as usize] = sum(o, left[s as usize], right[s as usize]);
     }
     row
 }
@@ -88,34 +93,26 @@ fn compares(o: u32, a: i64, b: i64) -> bool
 {
     match o {
         LESS => a < b,
-        EQUAL => (a <= b) & (b <= a),
+        EQUAL => a == b,
         _ => a > b,
     }
 }
 
-// The states found so far, with s added if `one` is true.
-fn with_state(found: StateSet, s: u32, one: bool) -> StateSet
-    ensures { (t : ℕ) → has result t ≡ (has found t || one && (ltb t capacity && eqb s t)) }
-{
-    if one {
-        found.join(StateSet::single(s))
-    } else {
-        found
-    }
-}
-
 // The states at which two integers compare as operation o asks.
-pub(crate) fn compared(n: u32, o: u32, left: Values, right: Values) -> StateSet
+pub(crate) fn compared(
+    n: u32,
+    o: u32,
+    left: &[i64; CAPACITY as usize],
+    right: &[i64; CAPACITY as usize],
+) -> StateSet
     requires { (n ≤ capacity) × (less_code ≤ o) × (o < and_code) }
-    ensures { (s : ℕ) → s < n → some (truth (has result s)) ≡ get_or (of_integers (integer_in left s) (integer_in right s)) o none }
+    ensures { (s : ℕ) → s < n → some (truth (has result s)) ≡ get_or (of_integers (get_or left.now s (pos 0)) (get_or right.now s (pos 0))) o none }
 {
     let mut found = StateSet::empty();
     for s in 0..n {
-        found = with_state(
-            found,
-            s,
-            compares(o, left.integers[s as usize], right.integers[s as usize]),
-        );
+        if compares(o, left[s as usize], right[s as usize]) {
+            found = found.join(StateSet::single(s));
+        }
     }
     found
 }
@@ -135,10 +132,8 @@ pub(crate) fn states_with(n: u32, weight: u32, size: u32, value: u32) -> StateSe
 {
     let period = weight * size;
     let mut found = StateSet::empty();
-    let mut from = value * weight;
-    while from < n {
+    for from in (value * weight..n).step_by(period as usize) {
         found = with_run(found, from, from + weight);
-        from += period;
     }
     found.meet(StateSet::below(n))
 }

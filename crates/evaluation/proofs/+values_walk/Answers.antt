@@ -6,7 +6,7 @@ use Rattle.evaluation.proofs.Walking.{operation_inside, value_small, walked_out,
 use Rattle.evaluation.proofs.+values_walk.Goals as goal
 
 pub returns-then-levels-eq0 : goal.returns-then-levels-eq0
-returns-then-levels-eq0 t c = walked_out _ _ _ _ _ c.nothing.result c.if-levels-eq0.true c.nothing.ensures
+returns-then-levels-eq0 t c = walked_out _ _ _ _ _ c.if-levels-eq0.true
 
 pub leaf_row-requires : goal.leaf_row-requires
 leaf_row-requires t c = (c.requires.0, c.if-term-lt-OPERATION.true, rw c.term_at-term.ensures (value_small c.args.exprs.now c.args.i))
@@ -18,26 +18,25 @@ returns-then-term-lt-OPERATION t c =
 pub overflow_add-i : goal.overflow_add-i
 overflow_add-i t c = omega (arith, operation_inside _ _ (rw c.term_at-term.ensures at c.if-term-lt-OPERATION.false))
 
-pub returns-then-left-ge-NOTHING : goal.returns-then-left-ge-NOTHING
-returns-then-left-ge-NOTHING t c =
-    walked_left _ _ _ _ _ (pos_of_ne-zero c.if-levels-eq0.false) (rw c.term_at-term.ensures at c.if-term-lt-OPERATION.false) _
-    c.values_walk-left.ensures c.if-left-ge-NOTHING.true
+pub returns-in_err-left : goal.returns-in_err-left
+returns-in_err-left t c =
+    rw c.from_residual.ensures
+    (walked_left _ _ _ _ _ (pos_of_ne-zero c.if-levels-eq0.false) (rw c.term_at-term.ensures at c.if-term-lt-OPERATION.false) c.in_err-left.ensures)
 
-pub returns-then-right-ge-NOTHING : goal.returns-then-right-ge-NOTHING
-returns-then-right-ge-NOTHING t c =
-    walked_right _ _ _ _ _ (pos_of_ne-zero c.if-levels-eq0.false) (rw c.term_at-term.ensures at c.if-term-lt-OPERATION.false) _
-    c.values_walk-left.ensures _ (rw c.term_at-term.ensures at c.values_walk-right.ensures) c.if-right-ge-NOTHING.true
+pub returns-in_err-right : goal.returns-in_err-right
+returns-in_err-right t c =
+    rw c.from_residual-in_err-right.ensures
+    (walked_right _ _ _ _ _ (pos_of_ne-zero c.if-levels-eq0.false) (rw c.term_at-term.ensures at c.if-term-lt-OPERATION.false)
+    (rw c.term_at-term.ensures at c.in_err-right.ensures))
 
 pub apply_op-requires : goal.apply_op-requires
 apply_op-requires t c = (
   rw c.requires.0 (states_most c.args.head),
-  c.if-left-ge-NOTHING.false,
-  c.if-right-ge-NOTHING.false,
-  operands_small _ _ _ _ _ (pos_of_ne-zero c.if-levels-eq0.false) (rw c.term_at-term.ensures at c.if-term-lt-OPERATION.false) _
-      c.values_walk-left.ensures _ (rw c.term_at-term.ensures at c.values_walk-right.ensures) c.requires.1,
+  operands_small _ _ _ _ _ (pos_of_ne-zero c.if-levels-eq0.false) (rw c.term_at-term.ensures at c.if-term-lt-OPERATION.false) _ _
+      c.in_ok-left.ensures (rw c.term_at-term.ensures at c.in_ok-right.ensures) c.requires.1,
 )
 
 pub returns : goal.returns
 returns t c =
-    walked_both _ _ _ _ _ (pos_of_ne-zero c.if-levels-eq0.false) (rw c.term_at-term.ensures at c.if-term-lt-OPERATION.false) _
-    c.values_walk-left.ensures _ (rw c.term_at-term.ensures at c.values_walk-right.ensures) _ (rw c.term_at-term.ensures at c.apply_op.ensures)
+    walked_both _ _ _ _ _ (pos_of_ne-zero c.if-levels-eq0.false) (rw c.term_at-term.ensures at c.if-term-lt-OPERATION.false) _ _
+    c.in_ok-left.ensures (rw c.term_at-term.ensures at c.in_ok-right.ensures) _ (rw c.term_at-term.ensures at c.apply_op.ensures)

@@ -4,7 +4,6 @@ use native.Mathlib.Nat.{mod-lt}
 use mathlib.Core.Bool.{Bool, true, false, ◌&&◌}
 use mathlib.Core.Path.{◌≡◌}
 use lib.Dec.{ltb}
-use borrow.Author.Rules.{rules}
 use Rattle.states.proofs.Search.{and_left}
 use Rattle.evaluation.specs.declared.Variable.{Variable}
 use Rattle.evaluation.specs.Values.{is_small, agree_in}

@@ -2,7 +2,7 @@
 use Prim.Native.Nat.{◌≤◌}
 use mathlib.Core.Path.{◌≡◌, ap, ◌∙◌}
 use native.Mathlib.Omega.{arith}
-use borrow.Author.Rules.{rules, sfits_of}
+use borrow.Author.Rules.{sfits_of}
 use lib.ListN.{replicate}
 use mir.Syntax.{w64}
 use mir.Facts.{to_z-of_z}
@@ -18,24 +18,22 @@ most : (c : Start) → c.args.n ≤ capacity
 most c = rw c.requires.0 (states_most c.args.head)
 
 pub returns-then-term-eq-INTEGER : goal.returns-then-term-eq-INTEGER
-returns-then-term-eq-INTEGER c a b = let s = c in
-    let made = c.integers_of.ensures in
+returns-then-term-eq-INTEGER c a b =
     let value = c.signed_of in
-    integer_row s.args.n (machine_in s.args.head) s.args.term c.integers_of.result a b (most (goal.at.returns-then-term-eq-INTEGER c).Start) c.if-term-eq-INTEGER.true s.requires.2
-    (made.0, made.1 ∙ ap (λ z. replicate capacity z) (to_z-of_z {w = w64} {z = value.result} (sfits_of value.type_inv) ∙ value.ensures))
+    integer_row c.args.n (machine_in c.args.head) c.args.term a b _ (most (goal.at.returns-then-term-eq-INTEGER c).Start) c.if-term-eq-INTEGER.true c.requires.2
+    (ap (λ z. replicate capacity z) (to_z-of_z {w = w64} {z = value.result} (sfits_of value.type_inv) ∙ value.ensures))
 
 pub returns-then-term-eq-TRUTH : goal.returns-then-term-eq-TRUTH
-returns-then-term-eq-TRUTH c a b = let s = c in
-    truth_row s.args.n (machine_in s.args.head) s.args.term c.truths_of.result a b c.always.result (most (goal.at.returns-then-term-eq-TRUTH c).Start)
-    c.if-term-eq-TRUTH.true c.always.ensures c.truths_of.ensures
+returns-then-term-eq-TRUTH c a b =
+    truth_row c.args.n (machine_in c.args.head) c.args.term a b c.always.result (most (goal.at.returns-then-term-eq-TRUTH c).Start)
+    c.if-term-eq-TRUTH.true c.always.ensures
 
 pub variable_row-requires : goal.variable_row-requires
 variable_row-requires c = let known = small _ (ap is_small c.variable_of-x.ensures ∙ variable_small _ _) in
     (most (goal.at.variable_row-requires c).Start, known.weighs, known.sized)
 
 pub returns : goal.returns
-returns c a b = let s = c in
-    let is : s.args.term.tag ≡ 2 = omega (arith, s.requires, c.if-term-eq-TRUTH.false, c.if-term-eq-INTEGER.false) in
-    variable_row s.args.n (machine_in s.args.head) s.args.term c.integers_of-2.result a b c.variable_row.result is
-    (variable_values _ _ _ _ c.variable_row.result c.variable_of-x.ensures s.requires.0 c.variable_row.ensures)
-    c.integers_of-2.ensures
+returns c a b =
+    let is : c.args.term.tag ≡ 2 = omega (arith, c.requires, c.if-term-eq-TRUTH.false, c.if-term-eq-INTEGER.false) in
+    variable_row c.args.n (machine_in c.args.head) c.args.term a b c.variable_row.result is
+    (variable_values _ _ _ _ c.variable_row.result c.variable_of-x.ensures c.requires.0 c.variable_row.ensures)

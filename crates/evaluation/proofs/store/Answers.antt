@@ -1,27 +1,22 @@
 -- The old value is subtracted before the new one, which is below the size, is added, so no number is larger than a state plus the
 -- square of the capacity.
-use Prim.Native.Nat.{ℕ, ◌*◌, ◌/◌, ◌≤◌, ◌<◌}
-use native.Mathlib.Nat.{mod-lt, mul-le-mul}
+use Prim.Native.Nat.{ℕ, ◌*◌, ◌≤◌, ◌<◌}
+use native.Mathlib.Nat.{mul-le-mul}
 use native.Mathlib.Omega.{arith}
 use mathlib.Core.Bool.{true}
 use mathlib.Core.Path.{◌≡◌, ◌∙◌}
 use lib.IntN.{ℤ, pos}
 use mir.Syntax.{w64}
 use mir.Val.{of_z, to_z}
-use mir.Facts.{Fits-below, to_z-of_z}
+use mir.Facts.{to_z-of_z}
 use Rattle.states.specs.Sets.{capacity}
 use Rattle.semantics.specs.States.{remainder}
 use Rattle.semantics.proofs.Remainder.{remainder_below}
-use Rattle.semantics.proofs.Storing.{share_within}
 use Rattle.evaluation.specs.declared.Variable.{Variable}
 use Rattle.evaluation.specs.Values.{value_by, is_small}
 use Rattle.evaluation.proofs.Laws.{small}
 use Rattle.evaluation.proofs.store.Goals.{Start}
 use Rattle.evaluation.proofs.store.Goals as goal
-
--- What is subtracted is at most the state's number.
-taken : (x : Variable) (s : ℕ) → value_by x s * x.weight ≤ s
-taken x s = share_within s x.weight x.size
 
 -- What is added is small.
 put : (x : Variable) → is_small x ≡ true → (n : ℕ) → n < x.size → n * x.weight ≤ capacity * capacity
@@ -34,20 +29,8 @@ held c = to_z-of_z c.ranges.value ∙ c.requires.2
 added : (x : Variable) → is_small x ≡ true → (z : ℤ) (n : ℕ) → n ≡ remainder z x.size → n * x.weight ≤ capacity * capacity
 added x h z n is = put x h n (rw is (remainder_below z x.size (small x h).sized))
 
-pub overflow_cast-result : goal.overflow_cast-result
-overflow_cast-result c = let x = c.args.x in
-    rw (held c) (tt, Fits-below {n = capacity} tt (omega (arith, small x c.requires.0, mod-lt (c.args.s / x.weight) (small x c.requires.0).sized)))
-
-pub overflow_mul-result : goal.overflow_mul-result
-overflow_mul-result c = rw (held (goal.at.overflow_mul-result c).Start) (omega (arith, taken c.args.x c.args.s))
-
-pub overflow_sub-result : goal.overflow_sub-result
-overflow_sub-result c = rw (held (goal.at.overflow_sub-result c).Start) (taken c.args.x c.args.s)
-
 pub wrapped-requires : goal.wrapped-requires
-wrapped-requires c = let a = c in
-    let known = small a.args.x a.requires.0 in
-    (known.sized, known.short, rw (to_z-of_z a.ranges.z) a.requires.3)
+wrapped-requires c = let known = small c.args.x c.requires.0 in (known.sized, known.short)
 
 pub overflow_mul-result-2 : goal.overflow_mul-result-2
 overflow_mul-result-2 c = omega (arith, added _ c.requires.0 _ _ c.wrapped.ensures)
@@ -56,4 +39,4 @@ pub overflow_add-result : goal.overflow_add-result
 overflow_add-result c = omega (arith, added _ c.requires.0 _ _ c.wrapped.ensures)
 
 pub returns : goal.returns
-returns c = let a = c in rw (held (goal.at.returns c).Start, c.wrapped.ensures, to_z-of_z a.ranges.z)
+returns c = rw (held (goal.at.returns c).Start, c.wrapped.ensures, to_z-of_z c.ranges.z)

@@ -1,37 +1,20 @@
 -- Before the run at `from`, the set holds the states below `from` that have the value. The weight and the size are at most the
 -- capacity, so every number is small.
-use Prim.Native.Nat.{◌-◌, ◌*◌, ◌≤◌, ◌<◌}
+use Prim.Native.Nat.{◌+◌, ◌*◌, ◌≤◌, ◌<◌}
 use native.Mathlib.Nat.{mul-le-mul, mul-pos}
 use native.Mathlib.Omega.{arith}
-use borrow.Author.Rules.{rules}
 use Rattle.states.specs.Sets.{capacity}
-use Rattle.evaluation.proofs.Runs.{Holds, Starts, has_value, first_run, next_run, no_run, one_run, all_runs}
-use Rattle.evaluation.proofs.pointwise.states_with.Goals.{Start}
+use Rattle.evaluation.proofs.Runs.{first_run, next_run, no_run, one_run, all_runs}
+use Rattle.evaluation.proofs.pointwise.states_with.Goals.{Start, else-loop-from-test, then-loop-from-test+else-from-step-n}
 use Rattle.evaluation.proofs.pointwise.states_with.Goals as goal
 
 -- The period is not 0 and at most the square of the capacity.
 period : (c : Start) → let a = c.args in (0 < a.weight * a.size) × (a.weight * a.size ≤ capacity * capacity)
 period c = (mul-pos c.requires.1 (omega arith), mul-le-mul {n₂ = capacity} {m₂ = capacity} c.requires.2 c.requires.3)
 
-pub overflow_mul-period : goal.overflow_mul-period
-overflow_mul-period c = omega (arith, period c)
-
-pub overflow_mul-from : goal.overflow_mul-from
-overflow_mul-from c = let a = c.args in
-    omega (arith, mul-le-mul {n₁ = a.value} {m₁ = a.weight} {n₂ = capacity} {m₂ = capacity} (omega arith) (omega arith))
-
 pub loop-from-init : goal.loop-from-init
 loop-from-init c = let p = c.requires in
     (first_run _ _ _ p.1 p.4, no_run _ _ _ p.1 p.4 _ c.empty-found.ensures)
-
-pub overflow_add-from : goal.overflow_add-from
-overflow_add-from c = omega arith
-
-pub overflow_add-from-in-loop-from : goal.overflow_add-from-in-loop-from
-overflow_add-from-in-loop-from c = omega (arith, period (goal.at.overflow_add-from-in-loop-from c).Start)
-
-pub loop-from-smaller : goal.loop-from-smaller
-loop-from-smaller c = omega (arith, period (goal.at.loop-from-smaller c).Start)
 
 pub loop-from-preserved : goal.loop-from-preserved
 loop-from-preserved c = let p = c.requires in
@@ -39,6 +22,14 @@ loop-from-preserved c = let p = c.requires in
     (next_run _ _ _ p.1 p.4 run.0, one_run _ _ _ p.1 p.4 _ run.0 _ _ c.with_run-found.ensures run.1)
 
 pub returns : goal.returns
-returns c = let k = c in
-    let p = k.requires in
-    all_runs _ _ _ p.1 p.4 _ _ p.0 (omega arith) _ _ _ k.loop-from.invariant.1 c.below.ensures c.meet.ensures
+returns c =
+    let p = c.requires in
+    let run = c.loop-from.invariant in
+    elim c.loop-from-test.branch [
+      | else-loop-from-test w ↦
+          all_runs _ _ _ p.1 p.4 _ _ p.0 w.loop-from-test.false c.loop-from-test.found _ _ (rw w.found-is run.1) c.below.ensures c.meet.ensures
+      | then-loop-from-test+else-from-step-n w ↦
+          let past : c.args.n ≤ c.loop-from.from + c.args.weight * c.args.size = omega arith in
+          all_runs _ _ _ p.1 p.4 _ _ p.0 past c.loop-from-test.found _ _
+          (rw w.found-is (one_run _ _ _ p.1 p.4 _ run.0 _ _ w.with_run-found.ensures run.1)) c.below.ensures c.meet.ensures
+    ]

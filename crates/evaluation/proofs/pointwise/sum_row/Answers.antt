@@ -1,18 +1,17 @@
 -- The cells below s hold the sums or the differences there, whose magnitudes are at most the sum of the operands' plus 1.
-use Prim.Native.Nat.{ℕ, ◌+◌, ◌-◌, ◌≤◌}
+use Prim.Native.Nat.{ℕ, ◌+◌, ◌≤◌}
 use native.Mathlib.Omega.{arith}
 use mathlib.Core.Option.{none, some}
 use mathlib.Core.Path.{◌≡◌, ap₂, ◌∙◌}
-use borrow.Author.Rules.{rules, sfits_of}
+use borrow.Author.Rules.{rules}
 use lib.IntN.{ℤ, pos}
 use lib.ListN.{get_or}
 use lib.Signed.{mag}
 use mir.Syntax.{w64}
+use mir.Val.{SFits}
 use mir.Facts.{to_z-of_z}
 use Rattle.semantics.specs.Language.{int, of_integers}
-use Rattle.states.proofs.Cells.{Cells, cells_none, cells_more}
-use Rattle.evaluation.specs.declared.Values.{Values}
-use Rattle.evaluation.specs.Refinement.{integer_in}
+use Rattle.states.proofs.Cells.{cells_none, cells_more}
 use Rattle.evaluation.proofs.pointwise.sum_row.Invariants.{Sum}
 use Rattle.evaluation.proofs.pointwise.sum_row.Goals as goal
 
@@ -22,26 +21,15 @@ carried : (o : ℕ) (a b r x y z : ℤ) → x ≡ a → y ≡ b → z ≡ r → 
 carried o a b r x y z p q e h = rw e (h.0 ∙ ap₂ (λ i j. get_or (of_integers i j) o none) p q, rw (p, q) at h.1)
 
 pub loop-s-init : goal.loop-s-init
-loop-s-init c = (omega arith, cells_none (pos 0) _)
-
-pub sum-requires : goal.sum-requires
-sum-requires c = let k = c in
-    let a = integer_in k.args.left k.loop-s.s in
-    let b = integer_in k.args.right k.loop-s.s in
-    rw (to_z-of_z {w = w64} {z = a} (sfits_of (omega arith)), to_z-of_z {w = w64} {z = b} (sfits_of (omega arith)))
-    (k.requires.1, k.requires.2 k.loop-s.s (omega arith))
+loop-s-init c = cells_none (pos 0) _
 
 pub loop-s-preserved : goal.loop-s-preserved
-loop-s-preserved c = let k = c in
-    let args = k.args in
-    let a = integer_in args.left k.loop-s.s in
-    let b = integer_in args.right k.loop-s.s in (
-      omega arith,
-      cells_more (pos 0) (Sum args.o args.left args.right) _ _ _ (omega arith)
-          (carried args.o a b c.sum.result _ _ _ (to_z-of_z {w = w64} {z = a} (sfits_of (omega arith)))
-          (to_z-of_z {w = w64} {z = b} (sfits_of (omega arith))) (to_z-of_z {w = w64} {z = c.sum.result} (sfits_of c.sum.type_inv)) (c.sum.ensures.exact, c.sum.ensures.bounded))
-          k.loop-s.invariant.1,
-    )
-
-pub returns : goal.returns
-returns c s l = c.loop-s.invariant.1.hold s (omega arith)
+loop-s-preserved c =
+    let left = get_or c.args.left.now c.loop-s.s (pos 0) in
+    let right = get_or c.args.right.now c.loop-s.s (pos 0) in
+    let a : SFits w64 left = search rules in
+    let b : SFits w64 right = search rules in
+    let r : SFits w64 c.sum.result = search rules in
+    cells_more (pos 0) (Sum c.args.o c.args.left.now c.args.right.now) _ _ _ (omega arith)
+    (carried c.args.o left right c.sum.result _ _ _ (to_z-of_z a) (to_z-of_z b) (to_z-of_z r) (c.sum.ensures.exact, c.sum.ensures.bounded))
+    c.loop-s.invariant

@@ -1,16 +1,15 @@
 -- The cells below s hold the variable's values there; `place` and `value` are those of s.
-use Prim.Native.Nat.{ℕ, ◌+◌, ◌-◌, ◌/◌, ◌%◌, ◌≤◌}
-use native.Mathlib.Nat.{mod-le, mod-lt, mod-add-mod, div-le_self, zero-mod, zero-div}
+use Prim.Native.Nat.{◌+◌, ◌/◌, ◌%◌}
+use native.Mathlib.Nat.{mod-le, mod-add-mod, div-le_self, zero-mod, zero-div}
 use native.Mathlib.Omega.{arith}
 use mathlib.Core.Bool.{cond}
-use mathlib.Core.Path.{◌≡◌, sym, ap, ap₂, ◌∙◌}
-use borrow.Author.Rules.{rules}
+use mathlib.Core.Path.{sym, ap, ap₂, ◌∙◌}
 use lib.Dec.{eqb}
-use lib.IntN.{ℤ, pos}
+use lib.IntN.{pos}
 use mir.Syntax.{w64}
 use mir.Val.{SFits}
 use mir.Facts.{to_z-of_z}
-use Rattle.states.proofs.Cells.{Cells, cells_none, cells_more}
+use Rattle.states.proofs.Cells.{cells_none, cells_more}
 use Rattle.evaluation.proofs.Runs.{value_on}
 use Rattle.evaluation.proofs.pointwise.variable_row.Invariants.{Value}
 use Rattle.evaluation.proofs.pointwise.variable_row.Goals.{In-loop-s}
@@ -24,30 +23,19 @@ value_fits c =
     record { sfits = omega (arith, mod-le (s / a.weight) a.size, div-le_self s a.weight) }
 
 pub loop-s-init : goal.loop-s-init
-loop-s-init c = (omega arith, sym (zero-mod _), rw (zero-div c.args.weight) (sym (zero-mod _)), cells_none (pos 0) _)
-
-pub overflow_cast-row : goal.overflow_cast-row
-overflow_cast-row c = value_fits c
-
-pub next_below-place-requires : goal.next_below-place-requires
-next_below-place-requires c = omega (arith, mod-lt c.loop-s.s c.requires.1)
-
-pub next_value-value-requires : goal.next_value-value-requires
-next_value-value-requires c = let k = c in
-    omega (arith, mod-lt (k.loop-s.s / k.args.weight) k.requires.2)
+loop-s-init c = (sym (zero-mod _), rw (zero-div c.args.weight) (sym (zero-mod _)), cells_none (pos 0) _)
 
 pub loop-s-preserved : goal.loop-s-preserved
-loop-s-preserved c = let k = c in
-    let a = k.args in
-    let now = k.loop-s.invariant in
-    let place = c.next_below-place.ensures ∙ ap (λ p. (p + 1) % a.weight) now.1 ∙ mod-add-mod k.loop-s.s a.weight 1 in (
-      omega arith,
+loop-s-preserved c =
+    let a = c.args in
+    let now = c.loop-s.invariant in
+    let place = c.next_below-place.ensures ∙ ap (λ p. (p + 1) % a.weight) now.0 ∙ mod-add-mod c.loop-s.s a.weight 1 in (
       place,
-      c.next_value-value.ensures ∙ ap₂ (λ p v. cond (eqb p 0) ((v + 1) % a.size) v) place now.2
-          ∙ value_on k.loop-s.s a.weight a.size k.requires.1,
-      cells_more (pos 0) (Value a.weight a.size) _ _ _ (omega arith) (to_z-of_z (value_fits (goal.at.loop-s-preserved c).In-loop-s) ∙ ap pos now.2)
-          now.3,
+      c.next_value-value.ensures ∙ ap₂ (λ p v. cond (eqb p 0) ((v + 1) % a.size) v) place now.1
+          ∙ value_on c.loop-s.s a.weight a.size c.requires.1,
+      cells_more (pos 0) (Value a.weight a.size) _ _ _ (omega arith) (to_z-of_z (value_fits (goal.at.loop-s-preserved c).In-loop-s) ∙ ap pos now.1)
+          now.2,
     )
 
 pub returns : goal.returns
-returns c s l = c.loop-s.invariant.3.hold s (omega arith)
+returns c s l = c.loop-s.invariant.2.hold s (omega arith)

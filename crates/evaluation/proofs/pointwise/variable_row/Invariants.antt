@@ -1,17 +1,8 @@
 -- The cells below s hold the variable's values there; `place` and `value` are those of s.
-use Prim.Native.Nat.{ℕ, ◌+◌, ◌-◌, ◌/◌, ◌%◌, ◌≤◌}
-use native.Mathlib.Nat.{mod-le, mod-lt, mod-add-mod, div-le_self, zero-mod, zero-div}
-use native.Mathlib.Omega.{arith}
-use mathlib.Core.Bool.{cond}
-use mathlib.Core.Path.{◌≡◌, sym, ap, ap₂, ◌∙◌}
-use borrow.Author.Rules.{rules}
-use lib.Dec.{eqb}
+use Prim.Native.Nat.{ℕ, ◌-◌, ◌/◌, ◌%◌}
+use mathlib.Core.Path.{◌≡◌}
 use lib.IntN.{ℤ, pos}
-use mir.Syntax.{w64}
-use mir.Val.{SFits}
-use mir.Facts.{to_z-of_z}
-use Rattle.states.proofs.Cells.{Cells, cells_none, cells_more}
-use Rattle.evaluation.proofs.Runs.{value_on}
+use Rattle.states.proofs.Cells.{Cells}
 use Rattle.evaluation.proofs.pointwise.variable_row.Given as goal
 
 abbrev pub Value : ℕ → ℕ → ℕ → ℤ → Type 0
@@ -19,7 +10,7 @@ Value weight size s z = z ≡ pos (s / weight % size)
 
 abbrev pub invariant-loop-s : goal.invariant-loop-s
 invariant-loop-s l =
-    (l.s ≤ l.n) × (l.place ≡ l.s % l.weight) × (l.value ≡ l.s / l.weight % l.size) × Cells (pos 0) (Value l.weight l.size) l.s l.row
+    (l.place ≡ l.s % l.weight) × (l.value ≡ l.s / l.weight % l.size) × Cells (pos 0) (Value l.weight l.size) l.s l.row
 
 abbrev pub decreases-loop-s : goal.decreases-loop-s
 decreases-loop-s l = l.n - l.s

@@ -1,9 +1,0 @@
--- Every integer of the row is 0, also past its end.
-use mathlib.Core.Path.{refl}
-use borrow.Author.Rules.{rules}
-use lib.IntN.{pos}
-use Rattle.states.proofs.Cells.{cell_none}
-use Rattle.evaluation.proofs.nothing.Goals as goal
-
-pub returns : goal.returns
-returns c = (refl, cell_none (pos 0))
