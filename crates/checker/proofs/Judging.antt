@@ -1,4 +1,5 @@
 -- The check of a pair that was read, stage by stage, and the cases of the whole check.
+use Rattle.std.specs.Prelude.{Ok, Err}
 use Prim.Native.Nat.{ℕ, ◌-◌, ◌^◌, ◌≤◌, ◌<◌, min}
 use mathlib.Core.Path.{◌≡◌, refl, sym, ◌∙◌, ap, subst}
 use mathlib.Core.Bool.{Bool, true, false}
@@ -24,7 +25,6 @@ use Rattle.pair.specs.Modes.{tables_in, table_words}
 use Rattle.pair.proofs.Cases.{Holds, read_holds, exprs_read}
 use Rattle.checker.specs.declared.Place.TheVariants.{Bit}
 use Rattle.checker.specs.declared.Fault.{Fault}
-use Rattle.checker.specs.declared.Verdict.TheVariants.{Accepted, Refused}
 use Rattle.checker.specs.Verdicts.{refused_at, untouched, on_steps, on_fault, on_pair, answer}
 use Rattle.checker.specs.Nodes.{faults_from, fault_found}
 use Rattle.checker.specs.Refinement.{Loaded, decided}
@@ -100,10 +100,10 @@ module _ {exprs : List ℕ} {head : Head} {statements nodes : List ℕ} {w : Pai
       ∙ decided_answer fault (steps_of x) (table_words pb l.mode x)
 
   -- The words that the answer leaves: the tables if it accepts, else 0.
-  pub kept_words : (bound : ℕ) → (on_pair pb l.mode (pair x)).verdict ≡ Accepted bound → (on_pair pb l.mode (pair x)).words ≡ table_words pb l.mode x
+  pub kept_words : (bound : ℕ) → (on_pair pb l.mode (pair x)).verdict ≡ Ok bound → (on_pair pb l.mode (pair x)).words ≡ table_words pb l.mode x
   kept_words bound v = words_kept fault (steps_of x) bound (table_words pb l.mode x) v
 
-  pub no_words : (f : Fault) → (on_pair pb l.mode (pair x)).verdict ≡ Refused f → (on_pair pb l.mode (pair x)).words ≡ (λ j. 0)
+  pub no_words : (f : Fault) → (on_pair pb l.mode (pair x)).verdict ≡ Err f → (on_pair pb l.mode (pair x)).words ≡ (λ j. 0)
   no_words f v = words_cleared fault (steps_of x) f (table_words pb l.mode x) v
 
 -- The cases of the whole check.

@@ -47,18 +47,14 @@ pub struct Fault {
     pub states: Named,
 }
 
-// The result of the check of two files: the step number, or the first fault.
-#[derive(Clone, Copy)]
-pub enum Verdict {
-    Accepted(u32),
-    Refused(Fault),
-}
+// The result of the check of two files: the step number of an accepted pair, or the first fault.
+pub type Verdict = Result<u32, Fault>;
 
 // A refusal at a bit of a file.
 fn at_bit(number: u32, place: usize) -> Verdict
     ensures { result ≡ refused_at number (Bit place) }
 {
-    Verdict::Refused(Fault {
+    Err(Fault {
         number,
         place: Place::Bit(place),
         states: Named::Nothing,
@@ -69,7 +65,7 @@ fn at_bit(number: u32, place: usize) -> Verdict
 fn at_node(number: u32, node: u32, states: Named) -> Verdict
     ensures { result ≡ refused_naming number (Node node) states }
 {
-    Verdict::Refused(Fault {
+    Err(Fault {
         number,
         place: Place::Node(node),
         states,
@@ -86,7 +82,7 @@ fn decide(found: FirstFault, steps: u64) -> Verdict
             if steps > MOST_STEPS {
                 return at_node(MANY_STEPS, 0, Named::Nothing);
             }
-            Verdict::Accepted(steps as u32)
+            Ok(steps as u32)
         }
     }
 }
@@ -110,10 +106,10 @@ fn check_read(
     let tables = read.proof;
     let fault = first_fault(exprs, head, &work[..], nodes, statements, tables.nodes);
     match decide(fault, summary.steps) {
-        Verdict::Accepted(k) => Verdict::Accepted(k),
-        Verdict::Refused(fault) => {
+        Ok(k) => Ok(k),
+        Err(fault) => {
             clear(work);
-            Verdict::Refused(fault)
+            Err(fault)
         }
     }
 }

@@ -17,17 +17,17 @@ decision : (d : After-decide) (l : Lent d) → d.decide.result ≡ (on_pair l.pr
 decision d l =
     d.decide.ensures ∙ ap (λ o. decided o d.args.read.handler.steps) d.first_fault-fault.ensures ∙ judged l
 
-pub returns-in-Accepted : goal.returns-in-Accepted
-returns-in-Accepted c =
-    let verdict : (l : Lent (goal.at.returns-in-Accepted c).After-decide) → _ = λ l. sym c.in-Accepted.is ∙ decision (goal.at.returns-in-Accepted c).After-decide l in
+pub returns-in-Ok : goal.returns-in-Ok
+returns-in-Ok c =
+    let verdict : (l : Lent (goal.at.returns-in-Ok c).After-decide) → _ = λ l. sym c.in-Ok.is ∙ decision (goal.at.returns-in-Ok c).After-decide l in
     record {
       verdict = verdict;
       words = λ l. l.words ∙ ap (λ f. written f l.before) (sym (kept_words l _ (sym (verdict l))));
     }
 
-pub returns-in-Refused : goal.returns-in-Refused
-returns-in-Refused c =
-    let verdict : (l : Lent (goal.at.returns-in-Refused c).After-decide) → _ = λ l. sym c.in-Refused.is ∙ decision (goal.at.returns-in-Refused c).After-decide l in record {
+pub returns-in-Err : goal.returns-in-Err
+returns-in-Err c =
+    let verdict : (l : Lent (goal.at.returns-in-Err c).After-decide) → _ = λ l. sym c.in-Err.is ∙ decision (goal.at.returns-in-Err c).After-decide l in record {
       verdict = verdict;
       words = λ l. c.clear.ensures ∙ ap (written (λ j. 0)) l.words ∙ written_again (λ j. 0) _ l.before
           ∙ ap (λ f. written f l.before) (sym (no_words l _ (sym (verdict l))));
