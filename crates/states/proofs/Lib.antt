@@ -9,5 +9,6 @@ pub mod Cells
 pub mod Reach
 pub mod Spread
 pub mod EntryLaws
+pub mod Ranges
 pub mod Rows
 pub mod Members

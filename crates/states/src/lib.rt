@@ -25,11 +25,7 @@ pub const RELATION_WORDS: usize = SET_WORDS * CAPACITY as usize;
 pub fn bits_in_word(n: usize, part: usize) -> usize
     ensures { result ≡ min 64 (n - 64 * part) }
 {
-    if part > n / 64 {
-        return 0;
-    }
-    let left = n - 64 * part;
-    if left < 64 { left } else { 64 }
+    n.saturating_sub(part.saturating_mul(64)).min(64)
 }
 
 // A set of states: state s is at bit s, the lowest bit first.

@@ -24,19 +24,14 @@ pub fn row(n: u32, rows: &[u64], s: u32) -> StateSet
 fn rows_held(n: u32) -> u32
     ensures { (result ≤ capacity) × ((s : ℕ) → s < capacity → s < n → s < result) × (result ≤ n) }
 {
-    if n < CAPACITY { n } else { CAPACITY }
+    n.min(CAPACITY)
 }
 
 // How many of these rows the slice has, so that a loop over them need not test at each row whether the slice or a set ends.
 fn rows_there(n: u32, rows: &[u64]) -> u32
     ensures { (result ≤ n) × (result ≤ length rows.now) × ((s : ℕ) → s < capacity → s < n → set_words * s < length rows.now → s < result) }
 {
-    let held = rows_held(n);
-    if (held as usize) < rows.len() {
-        held
-    } else {
-        rows.len() as u32
-    }
+    rows.len().min(rows_held(n) as usize) as u32
 }
 
 // The ends of the pairs that start in the set. Its states that have a row are taken out one by one, the least first. The rows are joined
@@ -105,11 +100,7 @@ fn row_included(n: u32, set: StateSet, a: &[u64], b: &[u64], s: u32) -> bool
 pub fn included_from(n: u32, set: StateSet, a: &[u64], b: &[u64]) -> bool
     ensures { result ≡ all n (λ s. implies (has set s) (all n (λ t. implies (rel n a.now s t) (rel n b.now s t)))) }
 {
-    let mut held = true;
-    for s in 0..n {
-        held = held & row_included(n, set, a, b, s);
-    }
-    held
+    (0..n).all(|s| row_included(n, set, a, b, s))
 }
 
 fn same_row(n: u32, a: &[u64], b: &[u64], s: u32) -> bool
@@ -122,11 +113,7 @@ fn same_row(n: u32, a: &[u64], b: &[u64], s: u32) -> bool
 pub fn same_members(n: u32, a: &[u64], b: &[u64]) -> bool
     ensures { result ≡ all n (λ s. all n (λ t. beq (rel n a.now s t) (rel n b.now s t))) }
 {
-    let mut held = true;
-    for s in 0..n {
-        held = held & same_row(n, a, b, s);
-    }
-    held
+    (0..n).all(|s| same_row(n, a, b, s))
 }
 
 // The states reached from the set by zero or more pairs. A round adds the ends of the pairs that start in a state which the round before
