@@ -1,5 +1,6 @@
 -- Worked examples over N = 2, the handler file 22 20 02 of docs/FORMAT.md: the examples of "One form", the room that the form needs, what
 -- becomes of the buffer, and which fault comes first; then nodes by themselves.
+use Rattle.std.specs.Prelude.{Ok}
 use Prim.Native.Nat.{ℕ, ◌*◌, ◌^◌, min}
 use mathlib.Core.List.{List, [], ◌∷◌, ◌++◌, flat_map}
 use mathlib.Core.Path.{◌≡◌, refl}
@@ -22,9 +23,8 @@ use Rattle.form.specs.Members.{node_by, rename, set_members, relation_members, b
 use Rattle.form.specs.Mentions.{sets_of, relations_of, in_order, is_in, place_in, mentioned, all_mentioned, distinct}
 use Rattle.form.specs.Form.{sets_in, relations_in, numbered, parts_of, file_parts, form_of}
 use Rattle.report.specs.Code.{place_kind, index_of, code_of}
-use Rattle.canonical.specs.declared.Outcome.TheVariants.{Written}
 use Rattle.canonical.specs.Nodes.{name_in, held_in}
-use Rattle.canonical.specs.Canonical.{Form, form, fault, canonical, turned_away, outcome, out_after, as_verdict}
+use Rattle.canonical.specs.Canonical.{Form, form, fault, canonical, turned_away, outcome, out_after}
 
 -- Opens every definition, for the cases to compute.
 pub written : List ℕ → List ℕ → Form
@@ -63,7 +63,7 @@ damaged = refl
 abbrev bytes : ℕ → List ℕ
 bytes k = replicate k 0xFF
 
-pub fits : (outcome (form its_form) 8 ≡ Written 8) × (out_after (form its_form) (bytes 9) ≡ its_form ++ 0xFF ∷ [])
+pub fits : (outcome (form its_form) 8 ≡ Ok 8) × (out_after (form its_form) (bytes 9) ≡ its_form ++ 0xFF ∷ [])
 unfolding outcome out_after
 fits = (refl, refl)
 
@@ -72,7 +72,7 @@ unfolding outcome out_after
 too_short = (refl, refl)
 
 -- The numbers of these two outcomes.
-pub numbers : (code_of (as_verdict (outcome (form its_form) 8)) ≡ 8) × (code_of (as_verdict (outcome (form its_form) 7)) ≡ 3 * 2 ^ 33)
+pub numbers : (code_of (outcome (form its_form) 8) ≡ 8) × (code_of (outcome (form its_form) 7) ≡ 3 * 2 ^ 33)
 unfolding outcome code_of place_kind index_of
 numbers = (refl, refl)
 

@@ -1,10 +1,10 @@
 -- The outcome case by case: a pair that is not read, and a proof file that was read, with and without room for its form.
+use Rattle.std.specs.Prelude.{Ok}
 use Prim.Native.Nat.{ℕ, ◌≤◌, ◌<◌}
 use mathlib.Core.List.{List, ◌++◌}
 use mathlib.Core.Path.{◌≡◌, ap}
 use borrow.Author.Tests.{lt-ltb, le-ltb}
 use lib.ListN.{length, drop}
-use Rattle.canonical.specs.declared.Outcome.TheVariants.{Written}
 use Rattle.canonical.specs.Canonical.{Form, form, fault, turned_away, outcome, out_after}
 
 -- A fault leaves the buffer untouched.
@@ -17,8 +17,8 @@ module _ (file out : List ℕ) (k : ℕ) (is-length : k ≡ length file) where
   unfolding outcome out_after
   no_room short = let test = lt-ltb (length out) (length file) (rw is-length at short) in (rw test, rw test)
 
-  pub with_room_lem : k ≤ length out → (Written k ≡ outcome (form file) (length out)) × (file ++ drop k out ≡ out_after (form file) out)
+  pub with_room_lem : k ≤ length out → (Ok k ≡ outcome (form file) (length out)) × (file ++ drop k out ≡ out_after (form file) out)
   unfolding outcome out_after
   with_room_lem enough =
       let test = le-ltb (length out) (length file) (rw is-length at enough) in
-      (rw test (ap Written is-length), rw test (ap (λ j. file ++ drop j out) is-length))
+      (rw test (ap Ok is-length), rw test (ap (λ j. file ++ drop j out) is-length))

@@ -31,7 +31,7 @@ use Rattle.report.proofs.Decoding.{decoded_back}
 use Rattle.form.specs.Members.{by_members}
 use Rattle.form.specs.Form.{sets_in, relations_in, numbered, form_of}
 use Rattle.form.proofs.Forms.{form_read_lem, form_members, form_length, form_fault, one_form}
-use Rattle.canonical.specs.Canonical.{Form, form, fault, form_in, canonical, outcome, as_verdict}
+use Rattle.canonical.specs.Canonical.{Form, form, fault, form_in, canonical, outcome}
 
 -- The derivation of a pair, each table by its members. Two such are equal exactly if their nodes agree in rules and table
 -- members (`set_same`, `set_alike`, `relation_same` and `relation_alike` of `form`).
@@ -213,21 +213,21 @@ all_small : (hb pb : List ℕ) → Small (canonical hb pb)
 unfolding canonical
 all_small hb pb = in_small hb pb (read_pair hb pb) refl (case hb pb)
 
-small_lossless : (r : Form) (room : ℕ) → Small r → Lossless (as_verdict (outcome r room))
+small_lossless : (r : Form) (room : ℕ) → Small r → Lossless (outcome r room)
 unfolding outcome index_of
 small_lossless (fault k place) room s = (s.0, omega arith, omega arith)
 small_lossless (form out) room s =
-    either (λ o. Lossless (as_verdict o)) (ltb room (length out)) _ _ (omega arith) (omega arith)
+    either (λ o. Lossless o) (ltb room (length out)) _ _ (omega arith) (omega arith)
 
-pub outcome_lossless : (hb pb : List ℕ) (room : ℕ) → Lossless (as_verdict (outcome (canonical hb pb) room))
+pub outcome_lossless : (hb pb : List ℕ) (room : ℕ) → Lossless (outcome (canonical hb pb) room)
 outcome_lossless hb pb room = small_lossless (canonical hb pb) room (all_small hb pb)
 
 -- An outcome names no states.
-no_states : (r : Form) (room : ℕ) → without_states (as_verdict (outcome r room)) ≡ as_verdict (outcome r room)
+no_states : (r : Form) (room : ℕ) → without_states (outcome r room) ≡ outcome r room
 unfolding outcome without_states
 no_states (fault k place) room = refl
-no_states (form out) room = either (λ o. without_states (as_verdict o) ≡ as_verdict o) (ltb room (length out)) _ _ refl refl
+no_states (form out) room = either (λ o. without_states o ≡ o) (ltb room (length out)) _ _ refl refl
 
 pub form_decoded : (hb pb : List ℕ) (room : ℕ)
-    → decoded (code_of (as_verdict (outcome (canonical hb pb) room))) ≡ as_verdict (outcome (canonical hb pb) room)
+    → decoded (code_of (outcome (canonical hb pb) room)) ≡ outcome (canonical hb pb) room
 form_decoded hb pb room = decoded_back _ (outcome_lossless hb pb room) ∙ no_states (canonical hb pb) room

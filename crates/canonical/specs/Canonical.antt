@@ -1,12 +1,10 @@
 -- docs/FORMAT.md, "One form": what is written, and what is turned away: 2, 10 to 18 of the handler file, 20 to 25 of the proof file, then
 -- 3, the output buffer is too short.
-use Rattle.std.specs.Prelude.{ℕ, cond, List, ◌++◌, ltb, length, drop}
+use Rattle.std.specs.Prelude.{ℕ, cond, List, ◌++◌, ltb, length, drop, Result, Ok, Err}
 use Rattle.pair.specs.Reading.{states_of, PairRead, pair, faulty, long, read_pair}
 use Rattle.search.specs.declared.Named.TheVariants.{Nothing}
 use Rattle.checker.specs.declared.Place.TheVariants.{Bit}
-use Rattle.checker.specs.declared.Verdict.{Verdict}
-use Rattle.checker.specs.declared.Verdict.TheVariants.{Accepted, Refused}
-use Rattle.canonical.specs.declared.Outcome.{Outcome}
+use Rattle.checker.specs.declared.Fault.{Fault}
 use Rattle.form.specs.Members.{by_members}
 use Rattle.form.specs.Form.{form_of}
 
@@ -25,20 +23,16 @@ form_in pb (pair x) = form (form_of (states_of x) (by_members pb (states_of x) x
 unfoldable pub canonical : List ℕ → List ℕ → Form
 canonical hb pb = form_in pb (read_pair hb pb)
 
--- The answer to a form where there is so much room: the length that was written, or the fault; 3 if the room is too short.
-abbrev pub turned_away : ℕ → ℕ → Outcome
-turned_away k place = Outcome.Refused (record { number = k; place = Bit place; states = Nothing })
+-- The answer to a form where there is so much room: the length that was written, or the fault; 3 if the room is too short. It is a
+-- verdict whose number is the length, so it has a verdict's line and code.
+abbrev pub turned_away : ℕ → ℕ → Result ℕ Fault
+turned_away k place = Err (record { number = k; place = Bit place; states = Nothing })
 
-unfoldable pub outcome : Form → ℕ → Outcome
+unfoldable pub outcome : Form → ℕ → Result ℕ Fault
 outcome (fault k place) room = turned_away k place
-outcome (form bytes) room = cond (ltb room (length bytes)) (turned_away 3 0) (Outcome.Written (length bytes))
+outcome (form bytes) room = cond (ltb room (length bytes)) (turned_away 3 0) (Ok (length bytes))
 
 -- The output buffer at exit: a refusal leaves it untouched, and success leaves its bytes past the file.
 unfoldable pub out_after : Form → List ℕ → List ℕ
 out_after (fault k place) out = out
 out_after (form bytes) out = cond (ltb (length out) (length bytes)) out (bytes ++ drop (length bytes) out)
-
--- The outcome as a verdict, for its line and its number: the length takes the place of the step number.
-abbrev pub as_verdict : Outcome → Verdict
-as_verdict (Outcome.Written length) = Accepted length
-as_verdict (Outcome.Refused f) = Refused f

@@ -5,10 +5,10 @@ ghost use Rattle.std.specs.Prelude.{◌≡◌, length};
 ghost use Rattle.report.specs.Code.{code_of, decoded};
 ghost use Rattle.form.specs.Members.{by_members};
 ghost use Rattle.form.specs.Form.{form_of};
-ghost use Rattle.canonical.specs.Canonical.{form, canonical, turned_away, outcome, out_after, as_verdict};
+ghost use Rattle.canonical.specs.Canonical.{form, canonical, turned_away, outcome, out_after};
 ghost use Rattle.canonical.specs.Refinement.{Read};
 
-use checker::{Fault, Place, Verdict};
+use checker::{Fault, Place};
 use derivation::{MOST_TABLES, ProofHead};
 use mentions::number;
 use pair::{MOST_PROOF_BYTES, PairFound, read_pair};
@@ -28,13 +28,6 @@ pub const MOST_FORM_BYTES: usize = MOST_PROOF_BYTES;
 const LONG_FILE: u32 = 2;
 
 const SHORT_BUFFER: u32 = 3;
-
-// The result: the length of the file that was written, or the fault for which nothing was written.
-#[derive(Clone, Copy)]
-pub enum Outcome {
-    Written(u32),
-    Refused(Fault),
-}
 
 // Tables of one width, one after the other: where the first begins, and how many bits each has.
 #[derive(Clone, Copy)]
@@ -73,10 +66,10 @@ struct Numbering {
 }
 
 // A refusal at a bit. No states are named.
-fn refused(number: u32, place: usize) -> Outcome
+fn refused(number: u32, place: usize) -> Result<u32, Fault>
     ensures { result ≡ turned_away number place }
 {
-    Outcome::Refused(Fault {
+    Err(Fault {
         number,
         place: Place::Bit(place),
         states: Named::Nothing,
@@ -84,7 +77,13 @@ fn refused(number: u32, place: usize) -> Outcome
 }
 
 // Writes the form of a proof file that was read, if there is room for it. Its length is known before the first byte is written.
-fn write_read(proof: &[u8], n: usize, head: ProofHead, nodes: &[u64], out: &mut [u8]) -> Outcome
+fn write_read(
+    proof: &[u8],
+    n: usize,
+    head: ProofHead,
+    nodes: &[u64],
+    out: &mut [u8],
+) -> Result<u32, Fault>
     requires { Read proof.now n head nodes.now }
     ensures answer { (x : Read proof.now n head nodes.now)
         → result ≡ outcome (form (form_of n (by_members proof.now n head.sets x.d))) (length out.old) }
@@ -99,11 +98,11 @@ fn write_read(proof: &[u8], n: usize, head: ProofHead, nodes: &[u64], out: &mut 
     }
     clear(out, length);
     write_fields(proof, n, head.sets as usize, nodes, count, m, out);
-    Outcome::Written(length as u32)
+    Ok(length as u32)
 }
 
 // Writes the one form of a proof file over the N of a handler file, and returns its length, or the fault for which nothing is written.
-pub fn write_form(handler: &[u8], proof: &[u8], out: &mut [u8]) -> Outcome
+pub fn write_form(handler: &[u8], proof: &[u8], out: &mut [u8]) -> Result<u32, Fault>
     ensures answer { result ≡ outcome (canonical handler.now proof.now) (length out.old) }
     ensures bytes { out.new ≡ out_after (canonical handler.now proof.now) out.old }
 {
@@ -120,22 +119,12 @@ pub fn write_form(handler: &[u8], proof: &[u8], out: &mut [u8]) -> Outcome
     }
 }
 
-// The outcome as a verdict, for its number and its line.
-fn as_verdict(outcome: Outcome) -> Verdict
-    ensures { result ≡ as_verdict outcome }
-{
-    match outcome {
-        Outcome::Written(length) => Verdict::Accepted(length),
-        Outcome::Refused(fault) => Verdict::Refused(fault),
-    }
-}
-
 // The same with the outcome as one number, for a host that calls over the C interface: below 2 ^ 32 it is the length, else the fault as the
 // check codes it.
 pub fn form_number(handler: &[u8], proof: &[u8], out: &mut [u8]) -> u64
-    ensures number { result ≡ code_of (as_verdict (outcome (canonical handler.now proof.now) (length out.old))) }
-    ensures outcome { decoded result ≡ as_verdict (outcome (canonical handler.now proof.now) (length out.old)) }
+    ensures number { result ≡ code_of (outcome (canonical handler.now proof.now) (length out.old)) }
+    ensures outcome { decoded result ≡ outcome (canonical handler.now proof.now) (length out.old) }
     ensures bytes { out.new ≡ out_after (canonical handler.now proof.now) out.old }
 {
-    report::code_of(as_verdict(write_form(handler, proof, out)))
+    report::code_of(write_form(handler, proof, out))
 }

@@ -1,5 +1,6 @@
 -- Every verdict is small, whatever the files are: a refusal's number is 1 to 80, its bit is at most the number of bits of the longest
 -- file, and its node is below 127. So a verdict can be sent as one number of 64 bits.
+use Rattle.std.specs.Prelude.{Ok, Err}
 use Prim.Native.Nat.{ℕ, ◌+◌, ◌-◌, ◌^◌, ◌≤◌, ◌<◌}
 use mathlib.Core.Bool.{Bool, true, false, cond}
 use mathlib.Core.List.{List}
@@ -21,17 +22,15 @@ use Rattle.pair.proofs.Cases.{Case, is_long, holds, case}
 use Rattle.pair.proofs.Bounds.{most_bits, fault_small}
 use Rattle.checker.specs.declared.Place.{Place}
 use Rattle.checker.specs.declared.Place.TheVariants.{Bit, Node}
-use Rattle.checker.specs.declared.Verdict.{Verdict}
-use Rattle.checker.specs.declared.Verdict.TheVariants.{Accepted, Refused}
-use Rattle.checker.specs.Verdicts.{refused_at, CheckResult, cleared, on_steps, on_fault, on_pair, answer}
+use Rattle.checker.specs.Verdicts.{Verdict, refused_at, CheckResult, cleared, on_steps, on_fault, on_pair, answer}
 
 abbrev pub PlaceBounded : Place → Type 0
 PlaceBounded (Bit i) = i ≤ most_bits
 PlaceBounded (Node k) = k < 127
 
 abbrev pub Bounded : Verdict → Type 0
-Bounded (Accepted k) = k < 2 ^ 32
-Bounded (Refused f) = (1 ≤ f.number) × (f.number ≤ 80) × PlaceBounded f.place
+Bounded (Ok k) = k < 2 ^ 32
+Bounded (Err f) = (1 ≤ f.number) × (f.number ≤ 80) × PlaceBounded f.place
 
 abbrev Small : CheckResult → Type 0
 Small r = Bounded r.verdict
@@ -39,7 +38,7 @@ Small r = Bounded r.verdict
 steps_small : (k : ℕ) (words : ℕ → ℕ) → Small (on_steps k words)
 steps_small k words = by (ltb (2 ^ 32 - 1) k) refl
   where
-    by : (b : Bool) → ltb (2 ^ 32 - 1) k ≡ b → Small (cond b (cleared (refused_at 80 (Node 0))) (record { verdict = Accepted k; writes = true; words = words }))
+    by : (b : Bool) → ltb (2 ^ 32 - 1) k ≡ b → Small (cond b (cleared (refused_at 80 (Node 0))) (record { verdict = Ok k; writes = true; words = words }))
     by true t = omega arith
     by false t = omega (arith, ltb-false (2 ^ 32 - 1) k t)
 

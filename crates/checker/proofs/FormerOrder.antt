@@ -1,4 +1,5 @@
 -- The order before request A6, for the bytes themselves: the same pairs of files are accepted, with the same step number.
+use Rattle.std.specs.Prelude.{Ok, Err}
 use Prim.Native.Nat.{ℕ}
 use mathlib.Core.Path.{◌≡◌, refl}
 use mathlib.Core.Bool.{Bool, true, false, cond}
@@ -12,9 +13,7 @@ use Rattle.pair.specs.declared.Mode.{Mode}
 use Rattle.pair.specs.Reading.{steps_of, PairRead, pair, faulty, long, read_pair}
 use Rattle.pair.specs.Modes.{tables_in, table_words}
 use Rattle.checker.specs.declared.Place.TheVariants.{Bit}
-use Rattle.checker.specs.declared.Verdict.{Verdict}
-use Rattle.checker.specs.declared.Verdict.TheVariants.{Accepted, Refused}
-use Rattle.checker.specs.Verdicts.{CheckResult, refused_at, untouched, cleared, on_fault, on_pair, answer}
+use Rattle.checker.specs.Verdicts.{Verdict, CheckResult, refused_at, untouched, cleared, on_fault, on_pair, answer}
 
 -- The answer as it was: as `on_pair` and `answer`, with the former order.
 abbrev former_on_pair : List ℕ → Mode → PairRead → CheckResult
@@ -27,8 +26,8 @@ former_answer hb pb mode words = cond (ltb words work_words) (untouched (refused
 
 -- The step number that an acceptance states.
 abbrev pub steps_stated : Verdict → Option ℕ
-steps_stated (Accepted k) = some k
-steps_stated (Refused fault) = none
+steps_stated (Ok k) = some k
+steps_stated (Err fault) = none
 
 abbrev Alike : CheckResult → CheckResult → Type 0
 Alike former now = steps_stated former.verdict ≡ steps_stated now.verdict

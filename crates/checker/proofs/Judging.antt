@@ -1,7 +1,8 @@
 -- The check of a pair that was read, stage by stage, and the cases of the whole check.
+use Rattle.std.specs.Prelude.{Ok, Err, IsErr}
 use Prim.Native.Nat.{ℕ, ◌-◌, ◌^◌, ◌≤◌, ◌<◌, min}
 use mathlib.Core.Path.{◌≡◌, refl, sym, ◌∙◌, ap, subst}
-use mathlib.Core.Bool.{Bool, true, false}
+use mathlib.Core.Bool.{Bool, true, false, true≢false}
 use mathlib.Core.List.{List}
 use mathlib.Core.Option.{Option, none, some}
 use native.Mathlib.Omega.{arith}
@@ -23,14 +24,12 @@ use Rattle.pair.specs.Reading.{Pair, states_of, steps_of, PairRead, pair, read_p
 use Rattle.pair.specs.Modes.{tables_in, table_words}
 use Rattle.pair.proofs.Cases.{Holds, read_holds, exprs_read}
 use Rattle.checker.specs.declared.Place.TheVariants.{Bit}
-use Rattle.checker.specs.declared.Fault.{Fault}
-use Rattle.checker.specs.declared.Verdict.TheVariants.{Accepted, Refused}
-use Rattle.checker.specs.Verdicts.{refused_at, untouched, on_steps, on_fault, on_pair, answer}
+use Rattle.checker.specs.Verdicts.{Verdict, refused_at, untouched, on_steps, on_fault, on_pair, answer}
 use Rattle.checker.specs.Nodes.{faults_from, fault_found}
 use Rattle.checker.specs.Refinement.{Loaded, decided}
 use Rattle.checker.proofs.Loaded.{set_loaded, relation_loaded}
 use Rattle.checker.proofs.AtHand.{Decoded, NodeAt, StatementAt}
-use Rattle.checker.proofs.Stages.{decided_answer, words_kept, words_cleared}
+use Rattle.checker.proofs.Stages.{decided_answer, words_cleared}
 use Rattle.checker.proofs.Meaning.{found_in_tables}
 
 module _ {exprs : List ℕ} {head : Head} {statements nodes : List ℕ} {w : PairSummary} {work : List ℕ} (l : Loaded exprs head statements nodes w work) where
@@ -99,12 +98,10 @@ module _ {exprs : List ℕ} {head : Head} {statements nodes : List ℕ} {w : Pai
       (found_in_tables env x.root_bit x.statement_bit 0 x.derivation x.statement node_at statement_at_lem)
       ∙ decided_answer fault (steps_of x) (table_words pb l.mode x)
 
-  -- The words that the answer leaves: the tables if it accepts, else 0.
-  pub kept_words : (bound : ℕ) → (on_pair pb l.mode (pair x)).verdict ≡ Accepted bound → (on_pair pb l.mode (pair x)).words ≡ table_words pb l.mode x
-  kept_words bound v = words_kept fault (steps_of x) bound (table_words pb l.mode x) v
-
-  pub no_words : (f : Fault) → (on_pair pb l.mode (pair x)).verdict ≡ Refused f → (on_pair pb l.mode (pair x)).words ≡ (λ j. 0)
-  no_words f v = words_cleared fault (steps_of x) f (table_words pb l.mode x) v
+  -- A refusal leaves the words 0.
+  pub no_words : (v : Verdict) → IsErr v → v ≡ (on_pair pb l.mode (pair x)).verdict → (on_pair pb l.mode (pair x)).words ≡ (λ j. 0)
+  no_words (Ok k) err v = absurd (true≢false (sym err))
+  no_words (Err f) err v = words_cleared fault (steps_of x) f (table_words pb l.mode x) (sym v)
 
 -- The cases of the whole check.
 module _ (hb pb : List ℕ) (mode : Mode) (words : ℕ) where

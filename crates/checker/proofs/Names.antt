@@ -1,5 +1,6 @@
 -- The states of every verdict, whatever the files are: a refusal names as many as its number says, each below 64. So three numbers of 8
 -- bits hold them.
+use Rattle.std.specs.Prelude.{Ok, Err}
 use Prim.Native.Nat.{ℕ, ◌-◌, ◌^◌, ◌≤◌}
 use mathlib.Core.Bool.{Bool, true, false, cond}
 use mathlib.Core.List.{List}
@@ -26,13 +27,11 @@ use Rattle.search.specs.Named.{listed, naming}
 use Rattle.search.proofs.Breaches.{listed_naming}
 use Rattle.checker.specs.declared.Place.{Place}
 use Rattle.checker.specs.declared.Place.TheVariants.{Bit, Node}
-use Rattle.checker.specs.declared.Verdict.{Verdict}
-use Rattle.checker.specs.declared.Verdict.TheVariants.{Accepted, Refused}
-use Rattle.checker.specs.Verdicts.{refused_at, CheckResult, cleared, on_steps, on_fault, on_pair, answer}
+use Rattle.checker.specs.Verdicts.{Verdict, refused_at, CheckResult, cleared, on_steps, on_fault, on_pair, answer}
 
 abbrev pub NamesStates : Verdict → Type 0
-NamesStates (Accepted k) = Unit {0}
-NamesStates (Refused f) = Named capacity (states_named f.number) (listed f.states)
+NamesStates (Ok k) = Unit {0}
+NamesStates (Err f) = Named capacity (states_named f.number) (listed f.states)
 
 -- A fault that names no state, because its number has none.
 no_states : (k : ℕ) (place : Place) → states_named k ≡ 0 → NamesStates (refused_at k place)
@@ -42,7 +41,7 @@ no_states k place e = rw e nothing
 steps_names : (k : ℕ) (words : ℕ → ℕ) → NamesStates (on_steps k words).verdict
 steps_names k words = by (ltb (2 ^ 32 - 1) k)
   where
-    by : (b : Bool) → NamesStates (cond b (cleared (refused_at 80 (Node 0))) (record { verdict = Accepted k; writes = true; words = words })).verdict
+    by : (b : Bool) → NamesStates (cond b (cleared (refused_at 80 (Node 0))) (record { verdict = Ok k; writes = true; words = words })).verdict
     by true = no_states 80 (Node 0) refl
     by false = tt
 

@@ -9,11 +9,10 @@ use Rattle.semantics.specs.States.{machine_of}
 use Rattle.semantics.specs.Promise.{Promise}
 use Rattle.semantics.proofs.Soundness.{soundness}
 use Rattle.derivation.specs.Tables.{written}
-use Rattle.checker.specs.declared.Verdict.{Verdict}
 use Rattle.pair.specs.declared.Mode.{Mode}
 use Rattle.pair.specs.Modes.{tables_in, root_spec}
 use Rattle.pair.proofs.Cases.{read_holds}
-use Rattle.checker.specs.Verdicts.{CheckResult, answer, work_after, AcceptedIsSound}
+use Rattle.checker.specs.Verdicts.{Verdict, CheckResult, answer, work_after, AcceptedIsSound}
 use Rattle.handler.proofs.Fitting.{stmt_fits}
 use Rattle.handler.proofs.Handlers.{known_handler}
 use Rattle.checker.proofs.Acceptance.{accepted_exactly}

@@ -1,4 +1,5 @@
 -- The last stages of the check: the verdict and the work words after the loop.
+use Rattle.std.specs.Prelude.{Err}
 use Prim.Native.Nat.{ℕ, ◌-◌, ◌^◌, min}
 use mathlib.Core.Path.{◌≡◌, refl}
 use mathlib.Core.Bool.{Bool, true, false}
@@ -8,7 +9,6 @@ use lib.Dec.{ltb}
 use borrow.Author.Tests.{ltb-true, ltb-false}
 use Rattle.semantics.specs.Checking.{Broken}
 use Rattle.checker.specs.declared.Fault as Fault
-use Rattle.checker.specs.declared.Verdict.TheVariants.{Accepted, Refused}
 use Rattle.checker.specs.Verdicts.{on_steps, on_fault}
 use Rattle.checker.specs.Nodes.{fault_found}
 use Rattle.checker.specs.Refinement.{decided}
@@ -28,19 +28,11 @@ decided_answer none k words = by (ltb (2 ^ 32 - 1) k) refl
         let whole-number : min k (2 ^ 32) ≡ k = omega arith in
         rw (whole-number, e)
 
--- What the words hold after the loop: the tables if the pair is accepted, else 0.
-pub words_kept : (o : Option Broken) (k bound : ℕ) (words : ℕ → ℕ) → (on_fault o k words).verdict ≡ Accepted bound → (on_fault o k words).words ≡ words
-words_kept (some b) k bound words e = absurd (let z : ◌≡◌ {A = ℕ} 0 1 = cc in omega arith)
-words_kept none k bound words e = by (ltb (2 ^ 32 - 1) k) refl e
-  where
-    by : (b : Bool) → ltb (2 ^ 32 - 1) k ≡ b → (on_steps k words).verdict ≡ Accepted bound → (on_steps k words).words ≡ words
-    by true t e = absurd (let f = rw t at e in let z : ◌≡◌ {A = ℕ} 0 1 = cc in omega arith)
-    by false t e = rw t
-
-pub words_cleared : (o : Option Broken) (k : ℕ) (f : Fault.Fault) (words : ℕ → ℕ) → (on_fault o k words).verdict ≡ Refused f → (on_fault o k words).words ≡ (λ j. 0)
+-- After a refusal the words hold 0.
+pub words_cleared : (o : Option Broken) (k : ℕ) (f : Fault.Fault) (words : ℕ → ℕ) → (on_fault o k words).verdict ≡ Err f → (on_fault o k words).words ≡ (λ j. 0)
 words_cleared (some b) k f words e = refl
 words_cleared none k f words e = by (ltb (2 ^ 32 - 1) k) refl e
   where
-    by : (b : Bool) → ltb (2 ^ 32 - 1) k ≡ b → (on_steps k words).verdict ≡ Refused f → (on_steps k words).words ≡ (λ j. 0)
+    by : (b : Bool) → ltb (2 ^ 32 - 1) k ≡ b → (on_steps k words).verdict ≡ Err f → (on_steps k words).words ≡ (λ j. 0)
     by true t e = rw t
     by false t e = absurd (let f = rw t at e in let z : ◌≡◌ {A = ℕ} 0 1 = cc in omega arith)

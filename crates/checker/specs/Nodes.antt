@@ -1,5 +1,5 @@
 -- The loop over the nodes of the table: nodes by number, a node's conditions in their order.
-use Rattle.std.specs.Prelude.{ℕ, zero, suc, cond, List, eqb}
+use Rattle.std.specs.Prelude.{ℕ, zero, suc, cond, List, Result, Ok, Err, eqb}
 use Rattle.std.proofs.Math.Option.{Option, none, some}
 use Rattle.semantics.specs.Checking.{Condition, Broken, first_broken, or_broken, at_node}
 use Rattle.handler.specs.declared.head.Head.{Head}
@@ -7,8 +7,8 @@ use Rattle.handler.specs.StatementTable.{statement_in}
 use Rattle.derivation.specs.NodeTable.{node_in}
 use Rattle.search.specs.Named.{naming}
 use Rattle.rules.specs.Obligations.{obligations_in}
-use Rattle.checker.specs.declared.nodes.FirstFault.{FirstFault}
-use Rattle.checker.specs.declared.nodes.FirstFault.TheVariants as first
+use Rattle.checker.specs.declared.Fault.{Fault}
+use Rattle.checker.specs.declared.Place.TheVariants.{Node}
 
 -- The statement at hand after a node: the same after a weaken, whose child has the same statement; the next after any other node.
 unfoldable pub statement_after : ℕ → ℕ → ℕ
@@ -31,7 +31,7 @@ module _ (exprs : List ℕ) (head : Head) (work nodes statements : List ℕ) whe
   faults_from (suc count) i s =
       or_broken (at_node i (first_broken (obligations_at i s))) (faults_from count (suc i) (statement_after (node_in nodes i).rule s))
 
--- The code's answer.
-abbrev pub fault_found : Option Broken → FirstFault
-fault_found none = first.Nothing
-fault_found (some b) = first.Broken b.number b.node (naming b.states)
+-- The code's answer: a fault has its node as its place.
+abbrev pub fault_found : Option Broken → Result Unit Fault
+fault_found none = Ok tt
+fault_found (some b) = Err (record { number = b.number; place = Node b.node; states = naming b.states })

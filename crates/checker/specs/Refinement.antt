@@ -1,5 +1,5 @@
 -- What the private functions of the check require and ensure. No public contract uses this.
-use Rattle.std.specs.Prelude.{ℕ, ◌≤◌, ◌≡◌, cond, List, ltb, length}
+use Rattle.std.specs.Prelude.{ℕ, ◌≤◌, ◌≡◌, cond, List, ltb, length, Result, Ok, Err}
 use Rattle.semantics.specs.StepNumber.{most_steps}
 use Rattle.handler.specs.declared.head.Head.{Head}
 use Rattle.handler.specs.Header.{head_of}
@@ -11,12 +11,9 @@ use Rattle.pair.specs.declared.Mode.{Mode}
 use Rattle.pair.specs.declared.PairSummary.{PairSummary}
 use Rattle.pair.specs.Reading.{Pair, handler_summary, proof_head, pair, read_pair, terms_read}
 use Rattle.pair.specs.Modes.{table_words}
+use Rattle.checker.specs.declared.Fault.{Fault}
 use Rattle.checker.specs.declared.Place.TheVariants.{Node}
-use Rattle.checker.specs.declared.Verdict.{Verdict}
-use Rattle.checker.specs.declared.Verdict.TheVariants.{Accepted}
-use Rattle.checker.specs.declared.nodes.FirstFault.{FirstFault}
-use Rattle.checker.specs.declared.nodes.FirstFault.TheVariants as first
-use Rattle.checker.specs.Verdicts.{refused_naming, refused_at}
+use Rattle.checker.specs.Verdicts.{Verdict, refused_at}
 
 -- A pair that was read: the nodes of its expressions, its head, the tables of its statements and nodes, its summary, and its tables in the
 -- work words.
@@ -38,6 +35,6 @@ pub record Loaded (exprs : List ℕ) (head : Head) (statements nodes : List ℕ)
   pub words : work ≡ written (table_words proof mode held) before
 
 -- The verdict from what the loop found and the step number; 80 last, at node 0.
-abbrev pub decided : FirstFault → ℕ → Verdict
-decided (first.Broken k node states) steps = refused_naming k (Node node) states
-decided first.Nothing steps = cond (ltb most_steps steps) (refused_at 80 (Node 0)) (Accepted steps)
+abbrev pub decided : Result Unit Fault → ℕ → Verdict
+decided (Err fault) steps = Err fault
+decided (Ok tt) steps = cond (ltb most_steps steps) (refused_at 80 (Node 0)) (Ok steps)

@@ -1,6 +1,6 @@
 -- docs/FORMAT.md, "Order of faults": 1, 2, the handler file front to back, 16, the proof file front to back, nodes by number,
 -- a node's conditions in their order, 80 last.
-use Rattle.std.specs.Prelude.{ℕ, ◌≡◌, Bool, true, false, cond, List, length, ltb}
+use Rattle.std.specs.Prelude.{ℕ, ◌≡◌, Bool, true, false, cond, List, length, ltb, Result, Ok, Err}
 use Rattle.std.proofs.Math.Option.{Option, none, some}
 use Rattle.semantics.specs.States.{machine_of}
 use Rattle.semantics.specs.StepNumber.{most_steps}
@@ -15,12 +15,15 @@ use Rattle.search.specs.declared.Named.TheVariants.{Nothing}
 use Rattle.search.specs.Named.{naming}
 use Rattle.checker.specs.declared.Place.{Place}
 use Rattle.checker.specs.declared.Place.TheVariants.{Bit, Node}
-use Rattle.checker.specs.declared.Verdict.{Verdict}
-use Rattle.checker.specs.declared.Verdict.TheVariants.{Accepted, Refused}
+use Rattle.checker.specs.declared.Fault.{Fault}
+
+-- The step number of an accepted pair, or the first fault.
+abbrev pub Verdict : Type 0
+Verdict = Result ℕ Fault
 
 -- A fault carries its number, a place that is a bit or a node, and the states that a condition names.
 abbrev pub refused_naming : ℕ → Place → Named → Verdict
-refused_naming k place states = Refused (record { number = k; place = place; states = states })
+refused_naming k place states = Err (record { number = k; place = place; states = states })
 
 -- Most faults name no states.
 abbrev pub refused_at : ℕ → Place → Verdict
@@ -44,7 +47,7 @@ loaded v words = record { verdict = v; writes = true; words = words }
 
 -- 80: the step number is over the limit, at node 0.
 abbrev pub on_steps : ℕ → (ℕ → ℕ) → CheckResult
-on_steps k words = cond (ltb most_steps k) (cleared (refused_at 80 (Node 0))) (loaded (Accepted k) words)
+on_steps k words = cond (ltb most_steps k) (cleared (refused_at 80 (Node 0))) (loaded (Ok k) words)
 
 abbrev pub on_fault : Option Broken → ℕ → (ℕ → ℕ) → CheckResult
 on_fault none k words = on_steps k words
@@ -68,5 +71,5 @@ module _ (hb pb : List ℕ) (mode : Mode) where
 -- What acceptance promises (docs/RULES.md), for the bytes themselves: if a pair of files is accepted, both are read, and the
 -- handler file's whole statement keeps its promise with the root's tables and the stated number.
 pub record AcceptedIsSound (hb pb : List ℕ) (mode : Mode) (v : Verdict) : Type 0 where
-  pub sound : (k : ℕ) → v ≡ Accepted k
+  pub sound : (k : ℕ) → v ≡ Ok k
       → (x : Pair) × ((read_pair hb pb ≡ pair x) × Promise (machine_of x.sizes) x.statement (root_spec pb mode x) k)

@@ -1,11 +1,11 @@
 // The check of two files: both are read once, and then the loop over the nodes checks the conditions of each.
 #![tactic(auto)]
 
-ghost use Rattle.std.specs.Prelude.{◌≡◌, length};
+ghost use Rattle.std.specs.Prelude.{◌≡◌, length, Ok};
 ghost use Rattle.derivation.specs.Tables.{written};
 ghost use Rattle.pair.specs.Reading.{pair};
-ghost use Rattle.checker.specs.declared.Place.TheVariants.{Bit, Node};
-ghost use Rattle.checker.specs.Verdicts.{refused_naming, refused_at, on_pair, answer, work_after, AcceptedIsSound};
+ghost use Rattle.checker.specs.declared.Place.TheVariants.{Bit};
+ghost use Rattle.checker.specs.Verdicts.{refused_at, on_pair, answer, work_after, AcceptedIsSound};
 ghost use Rattle.checker.specs.Refinement.{Loaded, decided};
 
 use derivation::MOST_NODES;
@@ -13,7 +13,7 @@ use derivation::words::clear;
 use handler::MOST_STATEMENTS;
 use handler::head::Head;
 use handler::terms::MOST_TERMS;
-use nodes::{FirstFault, first_fault};
+use nodes::first_fault;
 use pair::{Mode, PairFound, PairSummary, load_pair};
 use search::Named;
 
@@ -47,51 +47,52 @@ pub struct Fault {
     pub states: Named,
 }
 
-// The result of the check of two files: the step number, or the first fault.
-#[derive(Clone, Copy)]
-pub enum Verdict {
-    Accepted(u32),
-    Refused(Fault),
-}
+// The result of the check of two files: the step number of an accepted pair, or the first fault.
+pub type Verdict = Result<u32, Fault>;
 
 // A refusal at a bit of a file.
 fn at_bit(number: u32, place: usize) -> Verdict
     ensures { result ≡ refused_at number (Bit place) }
 {
-    Verdict::Refused(Fault {
+    Err(Fault {
         number,
         place: Place::Bit(place),
         states: Named::Nothing,
     })
 }
 
-// A refusal at a node of the derivation.
-fn at_node(number: u32, node: u32, states: Named) -> Verdict
-    ensures { result ≡ refused_naming number (Node node) states }
+// The verdict from the step number: 80, at the root, if it is past the limit.
+fn within_limit(steps: u64) -> Verdict
+    ensures { result ≡ decided (Ok tt) steps }
 {
-    Verdict::Refused(Fault {
-        number,
-        place: Place::Node(node),
-        states,
-    })
-}
-
-// The verdict from what the loop found and the step number.
-fn decide(found: FirstFault, steps: u64) -> Verdict
-    ensures { result ≡ decided found steps }
-{
-    match found {
-        FirstFault::Broken(number, node, states) => at_node(number, node, states),
-        FirstFault::Nothing => {
-            if steps > MOST_STEPS {
-                return at_node(MANY_STEPS, 0, Named::Nothing);
-            }
-            Verdict::Accepted(steps as u32)
-        }
+    if steps > MOST_STEPS {
+        return Err(Fault {
+            number: MANY_STEPS,
+            place: Place::Node(0),
+            states: Named::Nothing,
+        });
     }
+    Ok(steps as u32)
 }
 
-// The verdict on a pair that was read and whose tables are in the work words. They stay there only if the pair is accepted.
+// The verdict on a pair that was read and whose tables are in the work words.
+fn decide(
+    exprs: &[u32; MOST_TERMS],
+    head: Head,
+    statements: &[u64; MOST_STATEMENTS],
+    nodes: &[u64; MOST_NODES],
+    read: PairSummary,
+    work: &[u64],
+) -> Verdict
+    requires { Loaded exprs.now head statements.now nodes.now read work.now }
+    ensures { (l : Loaded exprs.now head statements.now nodes.now read work.now)
+        → result ≡ (on_pair l.proof l.mode (pair l.held)).verdict }
+{
+    first_fault(exprs, head, work, nodes, statements, read.proof.nodes)?;
+    within_limit(read.handler.steps)
+}
+
+// The same verdict. The tables stay in the work words only if the pair is accepted.
 fn check_read(
     exprs: &[u32; MOST_TERMS],
     head: Head,
@@ -106,16 +107,11 @@ fn check_read(
     ensures words { (l : Loaded exprs.now head statements.now nodes.now read work.old)
         → work.new ≡ written (on_pair l.proof l.mode (pair l.held)).words l.before }
 {
-    let summary = read.handler;
-    let tables = read.proof;
-    let fault = first_fault(exprs, head, &work[..], nodes, statements, tables.nodes);
-    match decide(fault, summary.steps) {
-        Verdict::Accepted(k) => Verdict::Accepted(k),
-        Verdict::Refused(fault) => {
-            clear(work);
-            Verdict::Refused(fault)
-        }
+    let verdict = decide(exprs, head, statements, nodes, read, work);
+    if verdict.is_err() {
+        clear(work);
     }
+    verdict
 }
 
 // The check of two files, for every pair of files and every work buffer. On acceptance the tables are in the first 1,040 work words, and
@@ -130,15 +126,16 @@ pub fn check(handler: &[u8], proof: &[u8], mode: Mode, work: &mut [u64]) -> Verd
     }
     let mut exprs = [0u32; MOST_TERMS];
     let file = load_pair(handler, proof, mode, &mut exprs, work);
-    let found = file.found;
-    match found {
+    match file.found {
         PairFound::TooLong => at_bit(LONG_FILE, 0),
         PairFound::Fault(number, place) => at_bit(number, place),
-        PairFound::Pair(read) => {
-            let head = file.head;
-            let statements = file.statements;
-            let nodes = file.nodes;
-            check_read(&exprs, head, &statements, &nodes, read, work)
-        }
+        PairFound::Pair(read) => check_read(
+            &exprs,
+            file.head,
+            &file.statements,
+            &file.nodes,
+            read,
+            work,
+        ),
     }
 }

@@ -2,25 +2,17 @@
 // next statement, so one counter says which statement is at hand.
 ghost use Rattle.std.specs.Prelude.{◌≡◌, ◌+◌, ◌^◌, ◌<◌};
 ghost use Rattle.derivation.specs.NodeTable.{node_in};
-ghost use Rattle.semantics.specs.Checking.{first_broken};
-ghost use Rattle.rules.specs.Asking.{fault_of};
+ghost use Rattle.semantics.specs.Checking.{first_broken, at_node};
 ghost use Rattle.checker.specs.Nodes.{statement_after, statement_at, obligations_at, faults_from, fault_found};
 
+use crate::{Fault, Place};
 use derivation::WEAKEN;
 use derivation::table::node_at;
 use handler::head::Head;
 use handler::table::statement_at;
-use rules::{NodeFault, node_fault};
-use search::Named;
+use rules::node_fault;
 
-// No fault, or the first condition that is broken: its number, its node, and the states that it names.
-#[derive(Clone, Copy)]
-pub enum FirstFault {
-    Nothing,
-    Broken(u32, u32, Named),
-}
-
-// The first of the conditions of node i over statement s that is broken.
+// The first of the conditions of node i over statement s that is broken, with the node as its place.
 fn fault_at(
     exprs: &[u32],
     head: Head,
@@ -29,23 +21,19 @@ fn fault_at(
     statements: &[u64],
     i: u32,
     s: u32,
-) -> NodeFault
-    ensures { result ≡ fault_of (first_broken (obligations_at exprs.now head work.now nodes.now statements.now i s)) }
+) -> Result<(), Fault>
+    ensures { result ≡ fault_found (at_node i (first_broken (obligations_at exprs.now head work.now nodes.now statements.now i s))) }
 {
     let at = i as usize;
     let node = node_at(nodes, at);
     let first = node_at(nodes, at + 1);
-    let after = node.after as usize;
-    let second = node_at(nodes, after);
-    node_fault(
-        exprs,
-        head,
-        work,
-        node,
-        statement_at(statements, s as usize),
-        first,
-        second,
-    )
+    let second = node_at(nodes, node.after as usize);
+    let statement = statement_at(statements, s as usize);
+    node_fault(exprs, head, work, node, statement, first, second).map_err(|broken| Fault {
+        number: broken.number,
+        place: Place::Node(i),
+        states: broken.states,
+    })
 }
 
 // The statement at hand after node i.
@@ -61,6 +49,7 @@ fn statement_after(nodes: &[u64], i: u32, s: u32) -> u32
 pub fn statement_of(nodes: &[u64], node: u32) -> u32
     ensures { result ≡ statement_at nodes.now node }
 {
+    // Not a fold: the invariant of this loop bounds s, as `statement_after` requires.
     let mut s = 0;
     for i in 0..node {
         s = statement_after(nodes, i, s);
@@ -76,17 +65,13 @@ pub fn first_fault(
     nodes: &[u64],
     statements: &[u64],
     count: u32,
-) -> FirstFault
+) -> Result<(), Fault>
     ensures { result ≡ fault_found (faults_from exprs.now head work.now nodes.now statements.now count 0 0) }
 {
     let mut s = 0;
     for i in 0..count {
-        if let NodeFault::Broken(number, states) = fault_at(
-            exprs, head, work, nodes, statements, i, s,
-        ) {
-            return FirstFault::Broken(number, i, states);
-        }
+        fault_at(exprs, head, work, nodes, statements, i, s)?;
         s = statement_after(nodes, i, s);
     }
-    FirstFault::Nothing
+    Ok(())
 }

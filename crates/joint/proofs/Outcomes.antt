@@ -1,5 +1,6 @@
 -- Which answers the composition of two pairs of files gives: files are made if every test holds; otherwise the answer is that of the first
 -- test that fails.
+use Rattle.std.specs.Prelude.{Ok, Err}
 use Prim.Native.Nat.{ℕ, ◌+◌}
 use mathlib.Core.Bool.{Bool, true, false, cond}
 use mathlib.Core.List.{List}
@@ -9,9 +10,7 @@ use Rattle.derivation.specs.Tables.{work_words}
 use Rattle.pair.specs.Limits.{too_long}
 use Rattle.pair.specs.Modes.{rows}
 use Rattle.checker.specs.declared.Fault.{Fault}
-use Rattle.checker.specs.declared.Verdict.{Verdict}
-use Rattle.checker.specs.declared.Verdict.TheVariants.{Accepted, Refused}
-use Rattle.checker.specs.Verdicts.{answer}
+use Rattle.checker.specs.Verdicts.{Verdict, answer}
 use Rattle.joint.specs.Composing.{Side, side_of, Composition, made, refused, plain, same_sizes, handler_file, proof_file, in_limits, second_allowed, first_allowed, met_p_kept, composition, of_pair, compose}
 
 -- What holds of both answers, each where the test gives it, holds of the one that is chosen.
@@ -59,9 +58,9 @@ module _ (h p h' p' : List ℕ) where
     pub record BothAccepted : Type 0 where
       pub readable : Readable
       pub first_steps : ℕ
-      pub first : (answer h p rows words).verdict ≡ Accepted first_steps
+      pub first : (answer h p rows words).verdict ≡ Ok first_steps
       pub second_steps : ℕ
-      pub second : (answer h' p' rows words).verdict ≡ Accepted second_steps
+      pub second : (answer h' p' rows words).verdict ≡ Ok second_steps
 
     -- Both step numbers plus 1.
     abbrev pub steps_out : BothAccepted → ℕ
@@ -87,9 +86,9 @@ module _ (h p h' p' : List ℕ) where
       few_words : ltb words work_words ≡ true → Refusal 0 (plain 1)
       first_long : ltb words work_words ≡ false → too_long h p ≡ true → Refusal 1 (plain 2)
       second_long : ltb words work_words ≡ false → too_long h p ≡ false → too_long h' p' ≡ true → Refusal 2 (plain 2)
-      first_refused : Readable → (f : Fault) → (answer h p rows words).verdict ≡ Refused f → Refusal 1 f
-      second_refused : Readable → (k : ℕ) → (answer h p rows words).verdict ≡ Accepted k
-          → (f : Fault) → (answer h' p' rows words).verdict ≡ Refused f → Refusal 2 f
+      first_refused : Readable → (f : Fault) → (answer h p rows words).verdict ≡ Err f → Refusal 1 f
+      second_refused : Readable → (k : ℕ) → (answer h p rows words).verdict ≡ Ok k
+          → (f : Fault) → (answer h' p' rows words).verdict ≡ Err f → Refusal 2 f
       other_variables : BothAccepted → same_variables ≡ false → Refusal 0 (plain 90)
       second_outside : BothAccepted → same_variables ≡ true → second_in_first ≡ false → Refusal 0 (plain 91)
       first_outside : BothAccepted → same_variables ≡ true → second_in_first ≡ true → first_in_second ≡ false → Refusal 0 (plain 92)
@@ -116,15 +115,15 @@ module _ (h p h' p' : List ℕ) where
         record { compatible = c; steps_are = refl; within_limits_lem = e94; handler_is = refl; proof_is = refl })
         (past_limits c)) (leads_out both e90 e91 e92)) (first_outside both e90 e91)) (second_outside both e90)) (other_variables both)
 
-    by_second : Readable → (k : ℕ) → (answer h p rows words).verdict ≡ Accepted k
+    by_second : Readable → (k : ℕ) → (answer h p rows words).verdict ≡ Ok k
         → (v : Verdict) → (answer h' p' rows words).verdict ≡ v → Explained (of_pair 2 v (together k))
-    by_second r k e (Accepted j) e' = by_both (record { readable = r; first_steps = k; first = e; second_steps = j; second = e' })
-    by_second r k e (Refused f) e' = second_refused r k e f e'
+    by_second r k e (Ok j) e' = by_both (record { readable = r; first_steps = k; first = e; second_steps = j; second = e' })
+    by_second r k e (Err f) e' = second_refused r k e f e'
 
     by_first : Readable → (v : Verdict) → (answer h p rows words).verdict ≡ v
         → Explained (of_pair 1 v (λ k. of_pair 2 (answer h' p' rows words).verdict (together k)))
-    by_first r (Accepted k) e = by_second r k e (answer h' p' rows words).verdict refl
-    by_first r (Refused f) e = first_refused r f e
+    by_first r (Ok k) e = by_second r k e (answer h' p' rows words).verdict refl
+    by_first r (Err f) e = first_refused r f e
 
     explained : Explained (compose h p h' p' words)
     unfolding compose

@@ -1,5 +1,6 @@
 -- What is taken from an accepted pair of files. By its members the derivation of its proof file has no fault, because the first fault
 -- looks at members only; and a proof file has room for it, because one held it.
+use Rattle.std.specs.Prelude.{Ok}
 use Prim.Native.Nat.{ℕ, ◌≤◌}
 use mathlib.Core.List.{List}
 use mathlib.Core.Option.{none}
@@ -12,7 +13,6 @@ use Rattle.handler.specs.Reading.{handler, read_handler}
 use Rattle.pair.specs.Reading.{Pair, states_of, pair, read_pair}
 use Rattle.pair.specs.Modes.{rows}
 use Rattle.pair.proofs.Cases.{read_holds}
-use Rattle.checker.specs.declared.Verdict.TheVariants.{Accepted}
 use Rattle.checker.specs.Verdicts.{answer}
 use Rattle.checker.proofs.Acceptance.{accepted_exactly}
 use Rattle.form.specs.Members.{by_members}
@@ -35,7 +35,7 @@ pub record AcceptedSide (hb pb : List ℕ) (k : ℕ) (sizes : List ℕ) (side : 
   pub number : k ≡ steps (product sizes) side.statement
   pub limit : k ≤ 4294967295
 
-pub accepted_side : (hb pb : List ℕ) (words k : ℕ) → (answer hb pb rows words).verdict ≡ Accepted k
+pub accepted_side : (hb pb : List ℕ) (words k : ℕ) → (answer hb pb rows words).verdict ≡ Ok k
     → AcceptedSide hb pb k (side_of hb pb).sizes (side_of hb pb)
 unfolding side_of by_members
 accepted_side hb pb words k e =

@@ -1,6 +1,7 @@
 -- What is shown where files are made of two pairs. Both pairs are accepted, and the check accepts the two files with both step numbers plus
 -- 1: the handler file is read as the parallel of both handlers (`HandlerFile`), the proof file as the joined derivation (`Forms` of `form`),
 -- which has no fault (`Joined`). So what acceptance promises holds of them. What is known where nothing is made is in `Outcomes`.
+use Rattle.std.specs.Prelude.{Ok}
 use Prim.Native.Nat.{ℕ, ◌+◌, ◌*◌, ◌^◌, ◌≤◌, ◌<◌}
 use mathlib.Core.Bool.{true, and-eq-true_iff}
 use mathlib.Core.List.{List}
@@ -29,7 +30,6 @@ use Rattle.derivation.specs.Tables.{most_tables, work_words}
 use Rattle.pair.specs.Limits.{most_handler_bytes, most_proof_bytes}
 use Rattle.pair.specs.Modes.{rows}
 use Rattle.pair.proofs.Cases.{holds_read}
-use Rattle.checker.specs.declared.Verdict.TheVariants.{Accepted}
 use Rattle.checker.specs.Verdicts.{answer, AcceptedIsSound}
 use Rattle.checker.specs.Acceptance.{Acceptable}
 use Rattle.checker.proofs.Acceptance.{accepted_exactly}
@@ -183,7 +183,7 @@ module _ (h p h' p' : List ℕ) (words k : ℕ) (hout pout : List ℕ) (s : Succ
     limit = within.steps_most;
   }
 
-  accepted : (words' : ℕ) → work_words ≤ words' → (answer hout pout rows words').verdict ≡ Accepted k
+  accepted : (words' : ℕ) → work_words ≤ words' → (answer hout pout rows words').verdict ≡ Ok k
   accepted words' enough = rw (s.handler_is, s.proof_is) ((accepted_exactly _ _ rows words' _).1 (acceptable words' enough))
 
   sound : Promise m S (root_spec n a.tables b.tables) k
@@ -201,14 +201,14 @@ module _ (h p h' p' : List ℕ) (words k : ℕ) (hout pout : List ℕ) (e : comp
   success = succeeded h p h' p' words k hout pout e
 
   -- The check accepts the two files, with any number of work words that suffices; so what acceptance promises holds of the two files.
-  pub made_accepted : (words' : ℕ) → work_words ≤ words' → (answer hout pout rows words').verdict ≡ Accepted k
+  pub made_accepted : (words' : ℕ) → work_words ≤ words' → (answer hout pout rows words').verdict ≡ Ok k
   made_accepted = accepted h p h' p' words k hout pout success
 
-  pub made_sound : AcceptedIsSound hout pout rows (Accepted k)
+  pub made_sound : AcceptedIsSound hout pout rows (Ok k)
   made_sound = subst (AcceptedIsSound hout pout rows) (made_accepted work_words (omega arith)) (accepted_is_sound hout pout rows work_words)
 
   -- Both pairs are accepted, and the number is both step numbers plus 1.
-  pub made_steps : (k₁ : ℕ) × (k₂ : ℕ) × ((answer h p rows words).verdict ≡ Accepted k₁) × ((answer h' p' rows words).verdict ≡ Accepted k₂)
+  pub made_steps : (k₁ : ℕ) × (k₂ : ℕ) × ((answer h p rows words).verdict ≡ Ok k₁) × ((answer h' p' rows words).verdict ≡ Ok k₂)
       × (k ≡ k₁ + k₂ + 1)
   made_steps =
       let both = success.compatible.both_accepted in

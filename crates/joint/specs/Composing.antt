@@ -1,6 +1,6 @@
 -- docs/COMPOSITION.md, "What is turned away": 1, 2 of the first pair, 2 of the second, the first pair's own number, the second's, then 90
 -- to 95; and what is left in the buffers.
-use Rattle.std.specs.Prelude.{ℕ, ◌+◌, Bool, false, cond, ◌&&◌, ◌||◌, List, [], ◌++◌, leb, ltb, eqb, length, drop, get_or}
+use Rattle.std.specs.Prelude.{ℕ, ◌+◌, Bool, false, cond, ◌&&◌, ◌||◌, List, [], ◌++◌, leb, ltb, eqb, length, drop, get_or, Ok, Err}
 use Rattle.writer.specs.Packing.{packed}
 use Rattle.states.specs.Search.{all, must, holds}
 use Rattle.semantics.specs.Language.{Stmt, nil, par}
@@ -20,9 +20,7 @@ use Rattle.pair.specs.Modes.{rows}
 use Rattle.search.specs.declared.Named.TheVariants.{Nothing}
 use Rattle.checker.specs.declared.Place.TheVariants.{Bit}
 use Rattle.checker.specs.declared.Fault.{Fault}
-use Rattle.checker.specs.declared.Verdict.{Verdict}
-use Rattle.checker.specs.declared.Verdict.TheVariants.{Accepted, Refused}
-use Rattle.checker.specs.Verdicts.{answer}
+use Rattle.checker.specs.Verdicts.{Verdict, answer}
 use Rattle.form.specs.Members.{by_members}
 use Rattle.form.specs.Form.{sets_in, relations_in, form_of}
 use Rattle.joint.specs.Joining.{root_spec, joined, handler_parts}
@@ -134,8 +132,8 @@ module _ (h h' : List ℕ) (a b : Side) where
 
 -- A pair's own refusal, or what follows the step number with which it is accepted.
 abbrev pub of_pair : ℕ → Verdict → (ℕ → Composition) → Composition
-of_pair which (Refused f) next = refused which f
-of_pair which (Accepted k) next = next k
+of_pair which (Err f) next = refused which f
+of_pair which (Ok k) next = next k
 
 -- Two pairs of files, h with p and h' with p'.
 module _ (h p h' p' : List ℕ) where

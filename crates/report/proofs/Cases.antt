@@ -1,5 +1,6 @@
 -- Worked examples: the lines of the least and the greatest step number, of a file that was written, of two pairs that were composed or not
 -- and of the guests of a core, and the roots of some pairs.
+use Rattle.std.specs.Prelude.{Ok}
 use Prim.Native.Nat.{ℕ, ◌+◌, ◌*◌, ◌^◌}
 use mathlib.Core.List.{List, [], ◌∷◌}
 use mathlib.Core.Path.{◌≡◌, refl}
@@ -14,14 +15,13 @@ use Rattle.derivation.specs.Reading.{read_proof}
 use Rattle.pair.specs.Limits.{too_long}
 use Rattle.pair.specs.Reading.{read_pair}
 use Rattle.checker.specs.declared.Place.TheVariants.{Bit, Node}
-use Rattle.checker.specs.declared.Verdict.TheVariants.{Accepted}
 use Rattle.checker.specs.Verdicts.{refused_at}
 use Rattle.report.specs.Line.{ascii, digits, decimal, place_text, verdict_text, line_of, pair_text, pair_line, written_line, composed_line, guest_text, slot_line, turned_line, left_line}
 use Rattle.report.specs.Root.{root_of}
 use Rattle.report.proofs.Marked.{sample_handler, sample_proof}
 
 pub step_numbers :
-    (line_of (Accepted 0) ≡ ascii "accepted 0\n") × (line_of (Accepted 4294967295) ≡ ascii "accepted 4294967295\n")
+    (line_of (Ok 0) ≡ ascii "accepted 0\n") × (line_of (Ok 4294967295) ≡ ascii "accepted 4294967295\n")
 unfolding line_of verdict_text place_text decimal digits
 step_numbers = (refl, refl)
 

@@ -1,5 +1,6 @@
 -- A verdict can be recovered from its code, and its states from theirs: quotients and remainders by powers of two give the parts, and
 -- every verdict of the check is small enough (`bounded` and `names_states` of `checker`).
+use Rattle.std.specs.Prelude.{Ok, Err}
 use Prim.Native.Nat.{ℕ, ◌+◌, ◌*◌, ◌/◌, ◌%◌, ◌^◌, ◌≤◌, ◌<◌}
 use mathlib.Core.Path.{◌≡◌, refl}
 use mathlib.Core.Bool.{false}
@@ -12,11 +13,9 @@ use Rattle.semantics.specs.Facts.{states_named}
 use Rattle.semantics.proofs.Facts.{few_named}
 use Rattle.semantics.proofs.Naming.{Named, nothing, state}
 use Rattle.pair.specs.declared.Mode.{Mode}
-use Rattle.checker.specs.Verdicts.{refused_at, answer, AcceptedIsSound}
+use Rattle.checker.specs.Verdicts.{Verdict, refused_at, answer, AcceptedIsSound}
 use Rattle.checker.specs.declared.Place.{Place}
 use Rattle.checker.specs.declared.Place.TheVariants.{Bit, Node}
-use Rattle.checker.specs.declared.Verdict.{Verdict}
-use Rattle.checker.specs.declared.Verdict.TheVariants.{Accepted, Refused}
 use Rattle.checker.proofs.Bounds.{PlaceBounded, Bounded, bounded}
 use Rattle.checker.proofs.Names.{NamesStates, names_states}
 use Rattle.report.specs.Code.{place_kind, index_of, code_of, without_states, Lossless, decoded}
@@ -41,8 +40,8 @@ refused_back number (Node k) positive below h =
 -- A code that cuts nothing off determines its verdict but for the states.
 pub decoded_back : (v : Verdict) → Lossless v → decoded (code_of v) ≡ without_states v
 unfolding decoded code_of without_states
-decoded_back (Accepted n) h = rw (lt-ltb n (2 ^ 32) h)
-decoded_back (Refused f) h = refused_back f.number f.place h.0 h.1 h.2
+decoded_back (Ok n) h = rw (lt-ltb n (2 ^ 32) h)
+decoded_back (Err f) h = refused_back f.number f.place h.0 h.1 h.2
 
 pub place_small : (place : Place) → PlaceBounded place → index_of place < 2 ^ 32
 unfolding index_of
@@ -50,8 +49,8 @@ place_small (Bit i) h = omega arith
 place_small (Node k) h = omega arith
 
 pub lossless : (v : Verdict) → Bounded v → Lossless v
-lossless (Accepted n) h = h
-lossless (Refused f) h = (h.0, omega arith, place_small f.place h.2)
+lossless (Ok n) h = h
+lossless (Err f) h = (h.0, omega arith, place_small f.place h.2)
 
 -- The code of every verdict of the check determines it but for the states, whatever the files and the mode are.
 pub answer_decoded : (hb pb : List ℕ) (mode : Mode) (words : ℕ)
@@ -61,8 +60,8 @@ answer_decoded hb pb mode words = let v = (answer hb pb mode words).verdict in d
 -- A verdict without its states accepts what the verdict accepts.
 pub accepted_alike : (hb pb : List ℕ) (mode : Mode) (v : Verdict) → AcceptedIsSound hb pb mode v → AcceptedIsSound hb pb mode (without_states v)
 unfolding without_states
-accepted_alike hb pb mode (Accepted n) sound = sound
-accepted_alike hb pb mode (Refused f) sound = record { sound = λ k e. absurd (let z : ◌≡◌ {A = ℕ} 0 1 = cc in omega arith) }
+accepted_alike hb pb mode (Ok n) sound = sound
+accepted_alike hb pb mode (Err f) sound = record { sound = λ k e. absurd (let z : ◌≡◌ {A = ℕ} 0 1 = cc in omega arith) }
 
 -- The parts of the number of up to three states that a set can hold.
 fields : (count s t u : ℕ) → s < capacity → t < capacity → u < capacity → (code : ℕ) → code ≡ count * 2 ^ 24 + s + 2 ^ 8 * t + 2 ^ 16 * u
@@ -87,5 +86,5 @@ unfolding states_of
 states_decoded_lem hb pb mode words = by (answer hb pb mode words).verdict (names_states hb pb mode words)
   where
     by : (v : Verdict) → NamesStates v → states_decoded (states_number (states_of v)) ≡ states_of v
-    by (Accepted n) p = states_back 0 (states_of (Accepted n)) (omega arith) nothing
-    by (Refused f) p = states_back (states_named f.number) (states_of (Refused f)) (few_named f.number) p
+    by (Ok n) p = states_back 0 (states_of (Ok n)) (omega arith) nothing
+    by (Err f) p = states_back (states_named f.number) (states_of (Err f)) (few_named f.number) p

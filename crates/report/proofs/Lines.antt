@@ -1,4 +1,5 @@
 -- Every line fits in 80 bytes, and what is written fits in its buffer.
+use Rattle.std.specs.Prelude.{Ok, Err}
 use Prim.Native.Nat.{ℕ, ◌^◌, ◌≤◌, ◌<◌}
 use mathlib.Core.Path.{◌≡◌, refl}
 use mathlib.Core.Bool.{Bool, true, false, cond}
@@ -8,9 +9,8 @@ use lib.ListN.{length, length-append}
 use lib.Dec.{leb, eqb}
 use borrow.Author.Tests.{leb-true}
 use Rattle.checker.specs.declared.Place.{Place}
+use Rattle.checker.specs.Verdicts.{Verdict}
 use Rattle.checker.specs.declared.Place.TheVariants.{Bit, Node}
-use Rattle.checker.specs.declared.Verdict.{Verdict}
-use Rattle.checker.specs.declared.Verdict.TheVariants.{Accepted, Refused}
 use Rattle.report.specs.Code.{index_of}
 use Rattle.report.specs.Line.{ascii, decimal, place_text, verdict_text, line_of, pair_text, pair_line, guest_text, slot_line, turned_line, line_length, WithinTypes}
 use Rattle.report.proofs.Decimal.{decimal_short, decimal_short_32}
@@ -22,8 +22,8 @@ place_short (Node k) h = omega (arith, decimal_short k h)
 
 words_short : (v : Verdict) → WithinTypes v → length (verdict_text v) ≤ 54
 unfolding verdict_text
-words_short (Accepted n) h = omega (arith, decimal_short n h)
-words_short (Refused f) h =
+words_short (Ok n) h = omega (arith, decimal_short n h)
+words_short (Err f) h =
     omega (
       arith,
       length-append (ascii "refused " ++ decimal f.number) (place_text f.place),

@@ -1,5 +1,6 @@
 -- The root as a host gets it: the first node of the table has the names of the derivation's root, the numbers can be taken apart again, and
 -- they are those of the tables that an accepted pair's promise speaks of.
+use Rattle.std.specs.Prelude.{Ok}
 use Prim.Native.Nat.{ℕ, ◌-◌, ◌/◌, ◌%◌, ◌^◌, ◌<◌}
 use mathlib.Core.List.{List}
 use mathlib.Core.Path.{◌≡◌, refl, ap}
@@ -16,7 +17,6 @@ use Rattle.derivation.proofs.Files.{read_known}
 use Rattle.pair.specs.declared.Mode.{Mode}
 use Rattle.pair.specs.Reading.{Pair, states_of}
 use Rattle.pair.specs.Modes.{root_spec}
-use Rattle.checker.specs.declared.Verdict.TheVariants.{Accepted}
 use Rattle.checker.specs.Verdicts.{answer}
 use Rattle.checker.proofs.Promised.{accepted_is_sound}
 use Rattle.report.specs.Root.{root_number, root_of}
@@ -46,7 +46,7 @@ pub root_parts : (n : ℕ) (h : Names) → n < 2 ^ 8 → Small h → (code : ℕ
 root_parts n h few small code e = (omega arith, omega arith, omega arith, omega arith, omega arith)
 
 -- An accepted pair keeps its promise with the tables that its root names.
-pub root_of_accepted : (hb pb : List ℕ) (mode : Mode) (words k : ℕ) → (answer hb pb mode words).verdict ≡ Accepted k
+pub root_of_accepted : (hb pb : List ℕ) (mode : Mode) (words k : ℕ) → (answer hb pb mode words).verdict ≡ Ok k
     → (x : Pair) × Promise (machine_of x.sizes) x.statement (root_spec pb mode x) k × (root_of hb pb ≡ root_number (states_of x) (names_of x.derivation))
 unfolding root_of
 root_of_accepted hb pb mode words k e =

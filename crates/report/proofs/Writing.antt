@@ -1,20 +1,22 @@
 -- Two texts put one after the other are put as one; a text put at the front leaves the rest of the buffer as it was.
-use Prim.Native.Nat.{ℕ, ◌+◌, ◌≤◌}
+use Prim.Native.Nat.{ℕ, ◌+◌, ◌-◌, ◌≤◌}
 use mathlib.Core.Path.{◌≡◌, refl, sym, ◌∙◌}
 use mathlib.Core.List.{List, ◌++◌, append_assoc}
 use native.Mathlib.Omega.{arith}
 use lib.ListN.{length, take, drop, length-append, take-append-drop}
-use lib.Seq.{paste, take-paste, drop-paste, take-length, drop-drop}
+use lib.Seq.{drop-drop}
+use borrow.Rule.Slice.PartMut.{put_mid}
+use Rattle.std.proofs.lemmas.Slice.{take-put_mid, drop-put_mid}
 use Rattle.report.specs.Put.{Put}
 
--- What `paste` does once the whole text is in place.
-pub pasted : (before : List ℕ) (at : ℕ) (text : List ℕ) → at + length text ≤ length before
-    → Put before at text (paste before at text (length text)) (at + length text)
-pasted before at text room =
+-- What a copy to a part of the buffer does.
+pub copied : (before : List ℕ) (at : ℕ) (text : List ℕ) → at + length text ≤ length before
+    → Put before at text (put_mid at (at + length text - at) before text) (at + length text)
+copied before at text room =
     record {
       ends = refl;
-      front = take-paste before at text (length text) (omega arith) (omega arith) ∙ rw take-length;
-      rest = drop-paste before at text (length text) (omega arith) (omega arith);
+      front = take-put_mid at (at + length text - at) before text (at + length text) refl (omega arith);
+      rest = drop-put_mid at (at + length text - at) before text (at + length text) (omega arith) (omega arith) (omega arith);
     }
 
 -- One text after another.

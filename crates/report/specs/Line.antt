@@ -2,13 +2,12 @@
 -- file that it wrote, the word and the length; of two pairs that it composed, the word and the step number, or the refusal and its pair.
 -- Of the guests of a core it prints a line each, the place and the slot or the refusal, and last the ticks that are left over. A text is the
 -- list of its bytes.
-use Rattle.std.specs.Prelude.{ℕ, zero, suc, ◌+◌, ◌/◌, ◌%◌, ◌^◌, ◌<◌, cond, List, [], ◌∷◌, ◌++◌, length, drop, leb, ltb, eqb}
+use Rattle.std.specs.Prelude.{ℕ, zero, suc, ◌+◌, ◌/◌, ◌%◌, ◌^◌, ◌<◌, cond, List, [], ◌∷◌, ◌++◌, length, drop, leb, ltb, eqb, Ok, Err}
 use Prim.Native.Char.{code}
 use Prim.Native.String.{String, [] as []ˢ, ◌∷◌ as ◌∷ˢ◌}
 use Rattle.checker.specs.declared.Place.{Place}
+use Rattle.checker.specs.Verdicts.{Verdict}
 use Rattle.checker.specs.declared.Place.TheVariants.{Bit, Node}
-use Rattle.checker.specs.declared.Verdict.{Verdict}
-use Rattle.checker.specs.declared.Verdict.TheVariants.{Accepted, Refused}
 use Rattle.report.specs.Code.{index_of}
 
 -- The bytes of a text of ASCII characters.
@@ -34,8 +33,8 @@ place_text (Node k) = ascii " node " ++ decimal k
 
 -- The line without its end.
 unfoldable pub verdict_text : Verdict → List ℕ
-verdict_text (Accepted n) = ascii "accepted " ++ decimal n
-verdict_text (Refused f) = (ascii "refused " ++ decimal f.number) ++ place_text f.place
+verdict_text (Ok n) = ascii "accepted " ++ decimal n
+verdict_text (Err f) = (ascii "refused " ++ decimal f.number) ++ place_text f.place
 
 -- The line, in full, ends in one newline.
 unfoldable pub line_of : Verdict → List ℕ
@@ -76,8 +75,8 @@ left_line ticks = (ascii "left over " ++ decimal ticks) ++ ascii "\n"
 
 -- The range of the code's types: every number is below 2 ^ 64.
 abbrev pub WithinTypes : Verdict → Type 0
-WithinTypes (Accepted n) = n < 2 ^ 64
-WithinTypes (Refused f) = (f.number < 2 ^ 64) × (index_of f.place < 2 ^ 64)
+WithinTypes (Ok n) = n < 2 ^ 64
+WithinTypes (Err f) = (f.number < 2 ^ 64) × (index_of f.place < 2 ^ 64)
 
 -- A buffer after a line is written at its front, and the number of bytes written. If there is no room, nothing is written.
 unfoldable pub line_into : List ℕ → List ℕ → List ℕ

@@ -1,13 +1,12 @@
 -- The states that a refusal names as one number, for hosts that call over the C interface.
-use Rattle.std.specs.Prelude.{ℕ, ◌+◌, ◌*◌, ◌/◌, ◌%◌, ◌^◌, List, [], ◌∷◌, length, get_or, take}
+use Rattle.std.specs.Prelude.{ℕ, ◌+◌, ◌*◌, ◌/◌, ◌%◌, ◌^◌, List, [], ◌∷◌, length, get_or, take, Ok, Err}
 use Rattle.search.specs.Named.{listed}
-use Rattle.checker.specs.declared.Verdict.{Verdict}
-use Rattle.checker.specs.declared.Verdict.TheVariants.{Accepted, Refused}
+use Rattle.checker.specs.Verdicts.{Verdict}
 
 -- The states of a verdict, in the order in which the condition names them; an accepted pair has none.
 unfoldable pub states_of : Verdict → List ℕ
-states_of (Accepted n) = []
-states_of (Refused f) = listed f.states
+states_of (Ok n) = []
+states_of (Err f) = listed f.states
 
 -- How many there are, and then up to three states of 8 bits each, the first in the lowest.
 unfoldable pub states_number : List ℕ → ℕ

@@ -33,11 +33,10 @@ pub fn code_of(v: Verdict) -> u64
     ensures { result ≡ code_of v }
 {
     match v {
-        Verdict::Accepted(steps) => steps as u64,
-        Verdict::Refused(fault) => {
+        Ok(steps) => steps as u64,
+        Err(fault) => {
             let number = fault.number as u64 % NUMBERS * 2;
-            let place = fault.place;
-            match place {
+            match fault.place {
                 Place::Bit(i) => number * PLACES + i as u64 % PLACES,
                 Place::Node(k) => (number + 1) * PLACES + k as u64 % PLACES,
             }
@@ -62,11 +61,8 @@ pub fn states_code(v: Verdict) -> u64
     ensures { result ≡ states_number (states_of v) }
 {
     match v {
-        Verdict::Accepted(_steps) => 0,
-        Verdict::Refused(fault) => {
-            let states = fault.states;
-            named_code(states)
-        }
+        Ok(_steps) => 0,
+        Err(fault) => named_code(fault.states),
     }
 }
 
@@ -75,10 +71,9 @@ fn put(out: &mut [u8], at: usize, text: &[u8]) -> usize
     requires { at + length text.now ≤ length out.old }
     ensures { Put out.old at text.now out.new result }
 {
-    for k in 0..text.len() {
-        out[at + k] = text[k];
-    }
-    at + text.len()
+    let end = at + text.len();
+    out[at..end].copy_from_slice(text);
+    end
 }
 
 // Puts a number in decimal: all digits but the last, then the last.
@@ -123,28 +118,26 @@ fn put_words(out: &mut [u8], at: usize, v: Verdict) -> usize
     ensures upper_bound { result ≤ at + 54 }
 {
     match v {
-        Verdict::Accepted(steps) => put_named(out, at, b"accepted ", steps as u64),
-        Verdict::Refused(fault) => {
-            let place = fault.place;
+        Ok(steps) => put_named(out, at, b"accepted ", steps as u64),
+        Err(fault) => {
             let next = put_named(out, at, b"refused ", fault.number as u64);
-            put_place(out, next, place)
+            put_place(out, next, fault.place)
         }
     }
 }
 
 // Puts which pair is meant, where one is.
+#[tactic(auto, unfolding(crate::specs::Line::pair_text))]
 fn put_pair(out: &mut [u8], at: usize, pair: u32) -> usize
     requires { at + 12 ≤ length out.old }
     ensures put { Put out.old at (pair_text pair) out.new result }
     ensures upper_bound { result ≤ at + 12 }
 {
-    if pair == 1 {
-        return put(out, at, b" first pair");
+    match pair {
+        1 => put(out, at, b" first pair"),
+        2 => put(out, at, b" second pair"),
+        _ => put(out, at, b""),
     }
-    if pair == 2 {
-        return put(out, at, b" second pair");
-    }
-    put(out, at, b"")
 }
 
 // Puts the guest place that the line is about at the front, with at most 10 digits.

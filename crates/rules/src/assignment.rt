@@ -1,10 +1,9 @@
 // The assignment rule.
-ghost use Rattle.std.specs.Prelude.{◌≡◌, Bool, ◌||◌, eqb};
+ghost use Rattle.std.specs.Prelude.{◌≡◌, Bool, ◌||◌, eqb, Ok};
 ghost use Rattle.states.specs.Search.{must, holds};
 ghost use Rattle.states.specs.Relations.{rel};
 ghost use Rattle.semantics.specs.Conditions.{in_set};
 ghost use Rattle.rules.specs.Words.{word_set, word_relation, word_spec};
-ghost use Rattle.rules.specs.declared.NodeVerdict.TheVariants.{Holds};
 ghost use Rattle.rules.specs.Asking.{asked_all, states_for};
 ghost use Rattle.search.specs.Named.{naming};
 ghost use Rattle.handler.specs.Header.{machine_in};
@@ -12,7 +11,7 @@ ghost use Rattle.handler.specs.Terms.{expr_in};
 ghost use Rattle.semantics.specs.Checking.{assignment_obligations};
 
 use crate::tables::{row_at, rows_of, set_at};
-use crate::{NodeVerdict, ask, common_reading, common_states};
+use crate::{ask, common_reading, common_states};
 use evaluation::successors;
 use handler::head::{Head, states_in};
 use search::pairs::with_same;
@@ -60,8 +59,8 @@ pub fn assignment_fault(
     fits: bool,
     v: u32,
     expr: u32,
-) -> NodeVerdict
-    ensures { result ≡ asked_all Holds (assignment_obligations (machine_in head) fits (word_spec (machine_in head).states work.now own) v
+) -> Result<(), u32>
+    ensures { result ≡ asked_all (Ok tt) (assignment_obligations (machine_in head) fits (word_spec (machine_in head).states work.now own) v
         (expr_in exprs.now expr)) }
 {
     let n = states_in(head);

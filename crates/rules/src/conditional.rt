@@ -1,11 +1,10 @@
 // The if rule.
-ghost use Rattle.std.specs.Prelude.{◌≡◌, Bool};
+ghost use Rattle.std.specs.Prelude.{◌≡◌, Bool, Ok};
 ghost use Rattle.states.specs.Search.{holds};
 ghost use Rattle.states.specs.Sets.{has};
 ghost use Rattle.semantics.specs.Derivations.{Spec};
 ghost use Rattle.semantics.specs.Conditions.{under_test, c46};
 ghost use Rattle.rules.specs.Words.{word_spec};
-ghost use Rattle.rules.specs.declared.NodeVerdict.TheVariants.{Holds};
 ghost use Rattle.rules.specs.Asking.{asked_all, states_for};
 ghost use Rattle.search.specs.Named.{naming};
 ghost use Rattle.handler.specs.Header.{machine_in};
@@ -13,7 +12,7 @@ ghost use Rattle.handler.specs.Terms.{expr_in};
 ghost use Rattle.semantics.specs.Checking.{body_tables, if_obligations};
 
 use crate::tables::{rows_of, same_relation, same_set, set_at, stays};
-use crate::{NodeVerdict, ask, common_reading, common_states};
+use crate::{ask, common_reading, common_states};
 use evaluation::truths_at;
 use handler::head::{Head, states_in};
 use search::pairs::diagonal;
@@ -23,13 +22,13 @@ use states::StateSet;
 
 // 34 and 36 to 38: P and the test true; same R, G, Q. The states where the test is true are given.
 fn if_tables(
-    found: NodeVerdict,
+    found: Result<(), u32>,
     n: u32,
     work: &[u64],
     own: Names,
     truth: StateSet,
     child: Names,
-) -> NodeVerdict
+) -> Result<(), u32>
     ensures { result ≡ asked_all found (body_tables n (under_test (word_spec n work.now own) (has truth)) (word_spec n work.now child)) }
 {
     let asked = set_at(n, work, own.p).meet(truth);
@@ -54,8 +53,8 @@ pub fn if_fault(
     child: Names,
     fits: bool,
     expr: u32,
-) -> NodeVerdict
-    ensures { result ≡ asked_all Holds (if_obligations (machine_in head) fits (word_spec (machine_in head).states work.now own)
+) -> Result<(), u32>
+    ensures { result ≡ asked_all (Ok tt) (if_obligations (machine_in head) fits (word_spec (machine_in head).states work.now own)
         (expr_in exprs.now expr) (word_spec (machine_in head).states work.now child)) }
 {
     let n = states_in(head);

@@ -1,12 +1,11 @@
 // The while rule.
-ghost use Rattle.std.specs.Prelude.{◌≡◌, Bool, ◌&&◌, ◌||◌, ℕ, ◌<◌, eqb};
+ghost use Rattle.std.specs.Prelude.{◌≡◌, Bool, ◌&&◌, ◌||◌, ℕ, ◌<◌, eqb, Ok};
 ghost use Rattle.states.specs.Search.{must, given, holds, implies, all};
 ghost use Rattle.states.specs.Sets.{capacity, has};
 ghost use Rattle.states.specs.Relations.{rel};
 ghost use Rattle.semantics.specs.Derivations.{Spec};
 ghost use Rattle.semantics.specs.Conditions.{in_set, in_round, c51, c57, c53, c55, c52, c54, c56};
 ghost use Rattle.rules.specs.Words.{word_set, word_relation, word_spec};
-ghost use Rattle.rules.specs.declared.NodeVerdict.TheVariants.{Holds};
 ghost use Rattle.rules.specs.Asking.{asked_all, states_for};
 ghost use Rattle.search.specs.Named.{naming};
 ghost use Rattle.handler.specs.Header.{machine_in};
@@ -15,7 +14,7 @@ ghost use Rattle.semantics.specs.Checking.{body_tables, while_obligations};
 
 use crate::moving::{moved, read_once};
 use crate::tables::{is_ending_in, leads_into, row_at, rows_of, same_relation, same_set, set_at};
-use crate::{NodeVerdict, ask, common, common_states};
+use crate::{ask, common, common_states};
 use evaluation::truths_at;
 use handler::head::{Head, states_in};
 use search::pairs::{all_into, diagonal, ending_in, with_same};
@@ -25,14 +24,14 @@ use states::{RELATION_WORDS, StateSet};
 
 // 34 and 36 to 38: P met with K; same R, G; Q the pairs of W that end in P.
 fn while_tables(
-    found: NodeVerdict,
+    found: Result<(), u32>,
     n: u32,
     work: &[u64],
     own: Names,
     k: u32,
     w: u32,
     child: Names,
-) -> NodeVerdict
+) -> Result<(), u32>
     ensures { result ≡ asked_all found (body_tables n (in_round (word_spec n work.now own) (word_set n work.now k)
         (word_relation n work.now w)) (word_spec n work.now child)) }
 {
@@ -170,8 +169,8 @@ pub fn while_fault(
     child: Names,
     fits: bool,
     expr: u32,
-) -> NodeVerdict
-    ensures { result ≡ asked_all Holds (while_obligations (machine_in head) fits (word_spec (machine_in head).states work.now own)
+) -> Result<(), u32>
+    ensures { result ≡ asked_all (Ok tt) (while_obligations (machine_in head) fits (word_spec (machine_in head).states work.now own)
         (expr_in exprs.now expr) (word_set (machine_in head).states work.now k)
         (word_relation (machine_in head).states work.now w) (word_spec (machine_in head).states work.now child)) }
 {

@@ -3,14 +3,13 @@
 // condition names are looked for afterwards, by its number, so an accepted pair does not pay for them.
 #![tactic(auto)]
 
-ghost use Rattle.std.specs.Prelude.{◌≡◌, Bool, [], ◌∷◌};
+ghost use Rattle.std.specs.Prelude.{◌≡◌, Bool, [], ◌∷◌, Ok};
 ghost use Rattle.rules.specs.Words.{word_spec};
 ghost use Rattle.states.specs.Search.{must};
 ghost use Rattle.semantics.specs.Conditions.{unmoved as movesNothing};
 ghost use Rattle.semantics.specs.Checking.{numbered, first_broken, stability as stabilityObligations, common as commonObligations, common_reading};
 ghost use Rattle.handler.specs.Header.{machine_in};
 ghost use Rattle.handler.specs.Terms.{expr_in};
-ghost use Rattle.rules.specs.declared.NodeVerdict.TheVariants.{Holds};
 ghost use Rattle.rules.specs.Asking.{asked, asked_all, states_for, fault_of};
 ghost use Rattle.search.specs.Named.{naming};
 ghost use Rattle.rules.specs.Obligations.{obligations_in};
@@ -43,38 +42,24 @@ pub mod stability;
 pub mod tables;
 pub mod weaken;
 
-// The result of the conditions checked so far: all hold, or the number of the first that failed.
+// The first of a node's conditions that failed: its number, and the states that it names.
 #[derive(Clone, Copy)]
-pub enum NodeVerdict {
-    Holds,
-    Breaks(u32),
+pub struct Broken {
+    pub number: u32,
+    pub states: Named,
 }
 
-// All conditions of a node hold, or the number of the first that failed and the states that it names.
-#[derive(Clone, Copy)]
-pub enum NodeFault {
-    Nothing,
-    Broken(u32, Named),
-}
-
-// One more condition, by its number and whether it holds.
-pub fn ask(found: NodeVerdict, number: u32, held: bool) -> NodeVerdict
+// One more condition, by its number and whether it holds, after those before it.
+#[tactic(auto, unfolding(crate::specs::Asking::asked))]
+pub fn ask(found: Result<(), u32>, number: u32, held: bool) -> Result<(), u32>
     ensures { result ≡ asked found number held }
 {
-    match found {
-        NodeVerdict::Breaks(first) => NodeVerdict::Breaks(first),
-        NodeVerdict::Holds => {
-            if held {
-                NodeVerdict::Holds
-            } else {
-                NodeVerdict::Breaks(number)
-            }
-        }
-    }
+    found?;
+    if held { Ok(()) } else { Err(number) }
 }
 
 // 31 to 33, which are checked at every node.
-pub fn ask_stability(found: NodeVerdict, n: u32, work: &[u64], own: Names) -> NodeVerdict
+pub fn ask_stability(found: Result<(), u32>, n: u32, work: &[u64], own: Names) -> Result<(), u32>
     ensures { result ≡ asked_all found (stabilityObligations n (word_spec n work.now own)) }
 {
     let held = stable_under_rely(n, work, own);
@@ -92,22 +77,22 @@ pub fn common_reading(
     fits: bool,
     number: u32,
     expr: u32,
-) -> NodeVerdict
-    ensures { result ≡ asked_all Holds (common_reading (machine_in head).states fits
+) -> Result<(), u32>
+    ensures { result ≡ asked_all (Ok tt) (common_reading (machine_in head).states fits
         (numbered number (must (movesNothing (machine_in head) (word_spec (machine_in head).states work.now own)
         (expr_in exprs.now expr))) ∷ [])
         (word_spec (machine_in head).states work.now own)) }
 {
-    let found = ask(NodeVerdict::Holds, 30, fits);
+    let found = ask(Ok(()), 30, fits);
     let still = unmoved(exprs, moved(head, work, own), expr);
     ask_stability(ask(found, number, still), states_in(head), work, own)
 }
 
 // How every other rule begins: 30 to 33.
-pub fn common(n: u32, work: &[u64], own: Names, fits: bool) -> NodeVerdict
-    ensures { result ≡ asked_all Holds (commonObligations n fits (word_spec n work.now own)) }
+pub fn common(n: u32, work: &[u64], own: Names, fits: bool) -> Result<(), u32>
+    ensures { result ≡ asked_all (Ok tt) (commonObligations n fits (word_spec n work.now own)) }
 {
-    ask_stability(ask(NodeVerdict::Holds, 30, fits), n, work, own)
+    ask_stability(ask(Ok(()), 30, fits), n, work, own)
 }
 
 // The states that 31, 32 or 33 names, by its number. No other number has states here.
@@ -135,8 +120,8 @@ fn node_verdict(
     statement: Statement,
     first: Node,
     second: Node,
-) -> NodeVerdict
-    ensures { result ≡ asked_all Holds (obligations_in exprs.now head work.now node statement first second) }
+) -> Result<(), u32>
+    ensures { result ≡ asked_all (Ok tt) (obligations_in exprs.now head work.now node statement first second) }
 {
     let n = states_in(head);
     let own = node.names;
@@ -216,14 +201,11 @@ pub fn node_fault(
     statement: Statement,
     first: Node,
     second: Node,
-) -> NodeFault
+) -> Result<(), Broken>
     ensures { result ≡ fault_of (first_broken (obligations_in exprs.now head work.now node statement first second)) }
 {
-    match node_verdict(exprs, head, work, node, statement, first, second) {
-        NodeVerdict::Holds => NodeFault::Nothing,
-        NodeVerdict::Breaks(number) => {
-            let states = node_states(exprs, head, work, node, statement, first, second, number);
-            NodeFault::Broken(number, states)
-        }
-    }
+    node_verdict(exprs, head, work, node, statement, first, second).map_err(|number| Broken {
+        number,
+        states: node_states(exprs, head, work, node, statement, first, second, number),
+    })
 }

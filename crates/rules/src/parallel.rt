@@ -1,17 +1,16 @@
 // The parallel rule.
-ghost use Rattle.std.specs.Prelude.{◌≡◌, Bool, ◌&&◌, ◌||◌, ℕ, ◌<◌, ltb};
+ghost use Rattle.std.specs.Prelude.{◌≡◌, Bool, ◌&&◌, ◌||◌, ℕ, ◌<◌, ltb, Ok};
 ghost use Rattle.states.specs.Search.{must, given, holds};
 ghost use Rattle.states.specs.Sets.{capacity, has};
 ghost use Rattle.states.specs.Relations.{rel, reach as reachOf};
 ghost use Rattle.semantics.specs.Conditions.{in_set, c65, c66, moves};
 ghost use Rattle.rules.specs.Words.{word_set, word_relation, word_spec};
 ghost use Rattle.semantics.specs.Checking.{parallel_tables, parallel_obligations};
-ghost use Rattle.rules.specs.declared.NodeVerdict.TheVariants.{Holds};
 ghost use Rattle.rules.specs.Asking.{asked_all, states_for};
 ghost use Rattle.search.specs.Named.{naming};
 
 use crate::tables::{is_join, lies_in, row_at, rows_of, same_pre, set_at};
-use crate::{NodeVerdict, ask, common, common_states};
+use crate::{ask, common, common_states};
 use search::{Named, least_pair};
 use semantics::Names;
 use states::entries::put_entry;
@@ -20,13 +19,13 @@ use states::{CAPACITY, RELATION_WORDS, StateSet};
 
 // 34 and 36: both P; left's R is R joined with right's G, right's R is R joined with left's G.
 fn parallel_tables(
-    found: NodeVerdict,
+    found: Result<(), u32>,
     n: u32,
     work: &[u64],
     own: Names,
     left: Names,
     right: Names,
-) -> NodeVerdict
+) -> Result<(), u32>
     ensures { result ≡ asked_all found (parallel_tables n (word_spec n work.now own) (word_spec n work.now left)
         (word_spec n work.now right)) }
 {
@@ -102,8 +101,8 @@ pub fn parallel_fault(
     left: Names,
     right: Names,
     fits: bool,
-) -> NodeVerdict
-    ensures { result ≡ asked_all Holds (parallel_obligations n fits (word_spec n work.now own) (word_spec n work.now left)
+) -> Result<(), u32>
+    ensures { result ≡ asked_all (Ok tt) (parallel_obligations n fits (word_spec n work.now own) (word_spec n work.now left)
         (word_spec n work.now right)) }
 {
     let found = common(n, work, own, fits);

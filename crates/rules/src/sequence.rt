@@ -1,15 +1,14 @@
 // The sequence rule.
-ghost use Rattle.std.specs.Prelude.{◌≡◌, Bool};
+ghost use Rattle.std.specs.Prelude.{◌≡◌, Bool, Ok};
 ghost use Rattle.states.specs.Search.{holds};
 ghost use Rattle.semantics.specs.Conditions.{c60, c61};
 ghost use Rattle.rules.specs.Words.{word_spec};
 ghost use Rattle.semantics.specs.Checking.{sequence_tables, sequence_obligations};
-ghost use Rattle.rules.specs.declared.NodeVerdict.TheVariants.{Holds};
 ghost use Rattle.rules.specs.Asking.{asked_all, states_for};
 ghost use Rattle.search.specs.Named.{naming};
 
 use crate::tables::{chains_into, leads_into, rows_of, same_pre, same_relation, set_at};
-use crate::{NodeVerdict, ask, common, common_states};
+use crate::{ask, common, common_states};
 use search::pairs::all_into;
 use search::{Named, least_chain, least_pair};
 use semantics::Names;
@@ -17,13 +16,13 @@ use states::StateSet;
 
 // 34, 36 and 37: left has the same P, R, G, right the same R, G.
 fn sequence_tables(
-    found: NodeVerdict,
+    found: Result<(), u32>,
     n: u32,
     work: &[u64],
     own: Names,
     left: Names,
     right: Names,
-) -> NodeVerdict
+) -> Result<(), u32>
     ensures { result ≡ asked_all found (sequence_tables n (word_spec n work.now own) (word_spec n work.now left)
         (word_spec n work.now right)) }
 {
@@ -64,8 +63,8 @@ pub fn sequence_fault(
     left: Names,
     right: Names,
     fits: bool,
-) -> NodeVerdict
-    ensures { result ≡ asked_all Holds (sequence_obligations n fits (word_spec n work.now own) (word_spec n work.now left)
+) -> Result<(), u32>
+    ensures { result ≡ asked_all (Ok tt) (sequence_obligations n fits (word_spec n work.now own) (word_spec n work.now left)
         (word_spec n work.now right)) }
 {
     let found = common(n, work, own, fits);

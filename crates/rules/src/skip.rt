@@ -1,15 +1,14 @@
 // The skip rule.
-ghost use Rattle.std.specs.Prelude.{◌≡◌, Bool};
+ghost use Rattle.std.specs.Prelude.{◌≡◌, Bool, Ok};
 ghost use Rattle.states.specs.Search.{holds};
 ghost use Rattle.semantics.specs.Conditions.{c35};
 ghost use Rattle.rules.specs.Words.{word_spec};
 ghost use Rattle.semantics.specs.Checking.{skip_obligations};
-ghost use Rattle.rules.specs.declared.NodeVerdict.TheVariants.{Holds};
 ghost use Rattle.rules.specs.Asking.{asked_all, states_for};
 ghost use Rattle.search.specs.Named.{naming};
 
 use crate::tables::{rows_of, set_at, stays};
-use crate::{NodeVerdict, ask, common, common_states};
+use crate::{ask, common, common_states};
 use search::pairs::diagonal;
 use search::{Named, least_state};
 use semantics::Names;
@@ -21,8 +20,8 @@ pub fn reflexive(n: u32, work: &[u64], own: Names) -> bool
     stays(n, work, set_at(n, work, own.p), own.q)
 }
 
-pub fn skip_fault(n: u32, work: &[u64], own: Names, fits: bool) -> NodeVerdict
-    ensures { result ≡ asked_all Holds (skip_obligations n fits (word_spec n work.now own)) }
+pub fn skip_fault(n: u32, work: &[u64], own: Names, fits: bool) -> Result<(), u32>
+    ensures { result ≡ asked_all (Ok tt) (skip_obligations n fits (word_spec n work.now own)) }
 {
     let found = common(n, work, own, fits);
     ask(found, 35, reflexive(n, work, own))

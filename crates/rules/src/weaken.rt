@@ -1,14 +1,13 @@
 // The weaken rule.
-ghost use Rattle.std.specs.Prelude.{◌≡◌};
+ghost use Rattle.std.specs.Prelude.{◌≡◌, Ok};
 ghost use Rattle.states.specs.Search.{holds};
 ghost use Rattle.semantics.specs.Conditions.{c70, c71, c72, c73};
 ghost use Rattle.rules.specs.Words.{word_spec};
 ghost use Rattle.semantics.specs.Checking.{weaken_obligations};
-ghost use Rattle.rules.specs.declared.NodeVerdict.TheVariants.{Holds};
 ghost use Rattle.rules.specs.Asking.{asked_all};
 
 use crate::tables::{lies_in, set_at};
-use crate::{NodeVerdict, ask, common};
+use crate::{ask, common};
 use semantics::Names;
 
 // 70: P lies in the child's P.
@@ -40,8 +39,8 @@ pub fn post_within(n: u32, work: &[u64], own: Names, child: Names) -> bool
 }
 
 // A weaken fits every statement.
-pub fn weaken_fault(n: u32, work: &[u64], own: Names, child: Names) -> NodeVerdict
-    ensures { result ≡ asked_all Holds (weaken_obligations n (word_spec n work.now own) (word_spec n work.now child)) }
+pub fn weaken_fault(n: u32, work: &[u64], own: Names, child: Names) -> Result<(), u32>
+    ensures { result ≡ asked_all (Ok tt) (weaken_obligations n (word_spec n work.now own) (word_spec n work.now child)) }
 {
     let found = common(n, work, own, true);
     let found = ask(found, 70, pre_within(n, work, own, child));

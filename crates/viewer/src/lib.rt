@@ -25,7 +25,7 @@ pub struct Location {
     pub index: usize,
 }
 
-// The numbers that `view_number` takes for the kind of a place.
+// The numbers that `view_number` takes for the kind of a place. They are numbers because its caller is the C function `handover_view`.
 const BIT: u32 = 0;
 
 const NODE: u32 = 1;
@@ -51,33 +51,29 @@ fn nothing_of(handler: &[u8]) -> Location
 pub(crate) fn byte_of(file: &[u8], bit: usize) -> usize
     ensures { result ≡ byte_of file.now bit }
 {
-    if bit / 8 < file.len() {
-        return bit / 8;
-    }
-    file.len()
+    (bit / 8).min(file.len())
 }
 
 // Where a number with a bit is shown.
+#[tactic(auto, unfolding(crate::specs::View::location_of))]
 fn locate_bit(handler: &[u8], proof: &[u8], number: u32, bit: usize) -> Location
     ensures { result ≡ location_of handler.now proof.now number (Bit bit) }
 {
     match place_of(number) {
         Where::HandlerBit => from(File::Handler, byte_of(handler, bit)),
         Where::ProofBit => from(File::Proof, byte_of(proof, bit)),
-        Where::Node => nothing_of(handler),
-        Where::Nowhere => nothing_of(handler),
+        _ => nothing_of(handler),
     }
 }
 
 // Where a number with a node is shown.
+#[tactic(auto, unfolding(crate::specs::View::location_of))]
 fn locate_node(handler: &[u8], proof: &[u8], number: u32, node: usize) -> Location
     ensures { result ≡ location_of handler.now proof.now number (Node node) }
 {
     match place_of(number) {
         Where::Node => from(File::Proof, node_byte(handler, proof, node)),
-        Where::HandlerBit => nothing_of(handler),
-        Where::ProofBit => nothing_of(handler),
-        Where::Nowhere => nothing_of(handler),
+        _ => nothing_of(handler),
     }
 }
 
@@ -91,34 +87,25 @@ pub fn locate(handler: &[u8], proof: &[u8], number: u32, place: Place) -> Locati
     }
 }
 
-// The bytes of a file from an index on.
-fn tail(file: &[u8], from: usize) -> &[u8]
-    requires { from ≤ length file.now }
-    ensures { result.now ≡ drop from file.now }
-{
-    &file[from..]
-}
-
 // The bytes that show a refusal: a part of one of the two files, from the place on up to the file's end.
+#[tactic(auto, using(crate::proofs::Viewing::location_inside), unfolding(crate::specs::View::viewed))]
 pub fn view<'a>(handler: &'a [u8], proof: &'a [u8], number: u32, place: Place) -> &'a [u8]
     ensures { result.now ≡ viewed handler.now proof.now number place }
 {
     let at = locate(handler, proof, number, place);
-    let file = at.file;
-    let index = at.index;
-    match file {
-        File::Handler => tail(handler, index),
-        File::Proof => tail(proof, index),
+    match at.file {
+        File::Handler => &handler[at.index..],
+        File::Proof => &proof[at.index..],
     }
 }
 
 // A location as one number: the file's number × 2 ^ 32, and the index.
+#[tactic(auto, unfolding(crate::specs::View::location_number))]
 fn number_of(at: Location) -> u64
     requires { at.index < 2 ^ 63 }
     ensures { result ≡ location_number at }
 {
-    let file = at.file;
-    match file {
+    match at.file {
         File::Handler => at.index as u64,
         File::Proof => PROOF_FILE + at.index as u64,
     }

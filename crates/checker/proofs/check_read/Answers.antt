@@ -1,34 +1,12 @@
--- What the loop finds decides the verdict; then by cases of the verdict.
-use mathlib.Core.Path.{◌≡◌, sym, ◌∙◌, ap}
+-- The verdict decides what the work words hold: the tables, or 0.
+use mathlib.Core.Path.{sym, ◌∙◌, ap}
+use Rattle.std.proofs.Common.{rules}
 use Rattle.derivation.specs.Tables.{written}
 use Rattle.derivation.proofs.Buffers.{written_again}
-use Rattle.pair.specs.Reading.{pair}
-use Rattle.checker.specs.Verdicts.{on_pair}
-use Rattle.checker.specs.Refinement.{Loaded, decided}
-use Rattle.checker.proofs.Judging.{judged, kept_words, no_words}
-use Rattle.checker.proofs.check_read.Goals.{After-decide}
+use Rattle.checker.proofs.Judging.{no_words}
 use Rattle.checker.proofs.check_read.Goals as goal
 
--- The pair as it was lent.
-abbrev Lent : After-decide → Type 0
-Lent d = let a = d.args in Loaded a.exprs.now a.head a.statements.now a.nodes.now a.read a.work.now
-
-decision : (d : After-decide) (l : Lent d) → d.decide.result ≡ (on_pair l.proof l.mode (pair l.held)).verdict
-decision d l =
-    d.decide.ensures ∙ ap (λ o. decided o d.args.read.handler.steps) d.first_fault-fault.ensures ∙ judged l
-
-pub returns-in-Accepted : goal.returns-in-Accepted
-returns-in-Accepted c =
-    let verdict : (l : Lent (goal.at.returns-in-Accepted c).After-decide) → _ = λ l. sym c.in-Accepted.is ∙ decision (goal.at.returns-in-Accepted c).After-decide l in
-    record {
-      verdict = verdict;
-      words = λ l. l.words ∙ ap (λ f. written f l.before) (sym (kept_words l _ (sym (verdict l))));
-    }
-
-pub returns-in-Refused : goal.returns-in-Refused
-returns-in-Refused c =
-    let verdict : (l : Lent (goal.at.returns-in-Refused c).After-decide) → _ = λ l. sym c.in-Refused.is ∙ decision (goal.at.returns-in-Refused c).After-decide l in record {
-      verdict = verdict;
-      words = λ l. c.clear.ensures ∙ ap (written (λ j. 0)) l.words ∙ written_again (λ j. 0) _ l.before
-          ∙ ap (λ f. written f l.before) (sym (no_words l _ (sym (verdict l))));
-    }
+pub returns-then-is_err-clause-words : goal.returns-then-is_err-clause-words
+returns-then-is_err-clause-words c l =
+    c.clear.ensures ∙ ap (written (λ j. 0)) l.words ∙ written_again (λ j. 0) _ l.before
+    ∙ ap (λ f. written f l.before) (sym (no_words l _ (search rules) (c.decide-verdict.ensures l)))

@@ -1,12 +1,16 @@
--- Each result of the loop is a case of `decided`, and the limit says which of the last two holds.
-use borrow.Author.Tests.{lt-ltb, le-ltb}
+-- What the loop finds and the step number decide the verdict (`judged`).
+use mathlib.Core.Path.{◌≡◌, sym, ◌∙◌, ap}
+use Rattle.std.proofs.Common.{rules}
+use Rattle.std.specs.Prelude.{Err}
+use Rattle.checker.specs.Refinement.{decided}
+use Rattle.checker.proofs.Judging.{judged}
 use Rattle.checker.proofs.decide.Goals as goal
 
-pub returns-then-steps-gt-MOST_STEPS : goal.returns-then-steps-gt-MOST_STEPS
-returns-then-steps-gt-MOST_STEPS c = rw (c.at_node-then-steps-gt-MOST_STEPS.ensures, c.in-Nothing.is, lt-ltb _ _ c.if-steps-gt-MOST_STEPS.true)
+pub returns-in_err-first_fault : goal.returns-in_err-first_fault
+returns-in_err-first_fault c l =
+    let passed : c.from_residual.result ≡ Err c.in_err-first_fault.field-0.0 = search rules in
+    passed ∙ ap (λ o. decided o c.args.read.handler.steps) (sym c.in_err-first_fault.was ∙ c.first_fault.ensures) ∙ judged l
 
-pub returns-in-Broken : goal.returns-in-Broken
-returns-in-Broken c = rw (c.at_node.ensures, c.in-Broken.is)
-
-pub returns-else-steps-gt-MOST_STEPS : goal.returns-else-steps-gt-MOST_STEPS
-returns-else-steps-gt-MOST_STEPS c = rw (c.in-Nothing.is, le-ltb _ _ c.if-steps-gt-MOST_STEPS.false)
+pub returns : goal.returns
+returns c l =
+    c.within_limit.ensures ∙ ap (λ o. decided o c.args.read.handler.steps) (sym c.in_ok-first_fault.was ∙ c.first_fault.ensures) ∙ judged l

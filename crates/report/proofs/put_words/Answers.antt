@@ -4,17 +4,17 @@ use Rattle.report.specs.Line.{verdict_text}
 use Rattle.report.proofs.Writing.{put_then}
 use Rattle.report.proofs.put_words.Goals as goal
 
-pub returns-in-Accepted : goal.returns-in-Accepted
+pub returns-in-Ok : goal.returns-in-Ok
 unfolding verdict_text
-returns-in-Accepted c = record {
-  put = rw c.in-Accepted.is c.put_named.ensures.put;
+returns-in-Ok c = record {
+  put = rw c.in-Ok.is c.put_named.ensures.put;
   upper_bound = search rules;
 }
 
-pub returns-in-Refused : goal.returns-in-Refused
+pub returns-in-Err : goal.returns-in-Err
 unfolding verdict_text
-returns-in-Refused c = record {
-  put = rw c.in-Refused.is
+returns-in-Err c = record {
+  put = rw c.in-Err.is
       (put_then c.put_named-next.ensures.put c.put_place.ensures.put);
   upper_bound = search rules;
 }

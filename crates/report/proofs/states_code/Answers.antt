@@ -2,10 +2,10 @@
 use Rattle.report.specs.States.{states_of, states_number}
 use Rattle.report.proofs.states_code.Goals as goal
 
-pub returns-in-Accepted : goal.returns-in-Accepted
+pub returns-in-Ok : goal.returns-in-Ok
 unfolding states_of states_number
-returns-in-Accepted c = rw c.in-Accepted.is
+returns-in-Ok c = rw c.in-Ok.is
 
-pub returns-in-Refused : goal.returns-in-Refused
+pub returns-in-Err : goal.returns-in-Err
 unfolding states_of
-returns-in-Refused c = rw c.in-Refused.is c.named_code.ensures
+returns-in-Err c = rw c.in-Err.is c.named_code.ensures
