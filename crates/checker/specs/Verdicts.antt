@@ -8,6 +8,8 @@ use Rattle.semantics.specs.Checking.{Broken, first_fault}
 use Rattle.semantics.specs.Promise.{Promise}
 use Rattle.derivation.specs.Tables.{work_words, written}
 use Rattle.pair.specs.declared.Mode.{Mode}
+use Rattle.pair.specs.declared.PairFault.{PairFault}
+use Rattle.pair.specs.declared.PairFault.TheVariants.{TooLong, At}
 use Rattle.pair.specs.Reading.{Pair, steps_of, PairRead, pair, faulty, long, read_pair}
 use Rattle.pair.specs.Modes.{tables_in, root_spec, table_words}
 use Rattle.search.specs.declared.Named.{Named}
@@ -28,6 +30,14 @@ refused_naming k place states = Err (record { number = k; place = place; states 
 -- Most faults name no states.
 abbrev pub refused_at : ℕ → Place → Verdict
 refused_at k place = refused_naming k place Nothing
+
+-- A fault at a bit of a file. A pair that is not read has one: 2 where a file is too long, else the file's own.
+abbrev pub at_bit : ℕ → ℕ → Fault
+at_bit k bit = record { number = k; place = Bit bit; states = Nothing }
+
+abbrev pub unread : PairFault → Fault
+unread TooLong = at_bit 2 0
+unread (At fault) = at_bit fault.number fault.bit
 
 -- The result of the check: the verdict, whether it writes to the work words, and what the first 1,040 then hold.
 pub record CheckResult : Type 0 where

@@ -4,8 +4,7 @@
 ghost use Rattle.std.specs.Prelude.{◌≡◌, length, Ok};
 ghost use Rattle.derivation.specs.Tables.{written};
 ghost use Rattle.pair.specs.Reading.{pair};
-ghost use Rattle.checker.specs.declared.Place.TheVariants.{Bit};
-ghost use Rattle.checker.specs.Verdicts.{refused_at, on_pair, answer, work_after, AcceptedIsSound};
+ghost use Rattle.checker.specs.Verdicts.{at_bit, unread, on_pair, answer, work_after, AcceptedIsSound};
 ghost use Rattle.checker.specs.Refinement.{Loaded, decided};
 
 use derivation::MOST_NODES;
@@ -14,7 +13,7 @@ use handler::MOST_STATEMENTS;
 use handler::head::Head;
 use handler::terms::MOST_TERMS;
 use nodes::first_fault;
-use pair::{Mode, PairFound, PairSummary, load_pair};
+use pair::{Mode, PairFault, PairSummary, load_pair};
 use search::Named;
 
 pub mod nodes;
@@ -50,15 +49,27 @@ pub struct Fault {
 // The result of the check of two files: the step number of an accepted pair, or the first fault.
 pub type Verdict = Result<u32, Fault>;
 
-// A refusal at a bit of a file.
-fn at_bit(number: u32, place: usize) -> Verdict
-    ensures { result ≡ refused_at number (Bit place) }
+// A pair that is not read is refused: a file is too long, or a file has a fault at a bit.
+impl From<PairFault> for Fault {
+    ghost from_gives = { λ fault result. result ≡ unread fault };
+
+    fn from(fault: PairFault) -> Fault {
+        match fault {
+            PairFault::TooLong => at_bit(LONG_FILE, 0),
+            PairFault::At(fault) => at_bit(fault.number, fault.bit),
+        }
+    }
+}
+
+// A fault at a bit of a file, which names no states.
+fn at_bit(number: u32, bit: usize) -> Fault
+    ensures { result ≡ at_bit number bit }
 {
-    Err(Fault {
+    Fault {
         number,
-        place: Place::Bit(place),
+        place: Place::Bit(bit),
         states: Named::Nothing,
-    })
+    }
 }
 
 // The verdict from the step number: 80, at the root, if it is past the limit.
@@ -122,20 +133,16 @@ pub fn check(handler: &[u8], proof: &[u8], mode: Mode, work: &mut [u64]) -> Verd
     ensures promise { AcceptedIsSound handler.now proof.now mode result }
 {
     if work.len() < WORK_WORDS {
-        return at_bit(FEW_WORDS, 0);
+        return Err(at_bit(FEW_WORDS, 0));
     }
     let mut exprs = [0u32; MOST_TERMS];
-    let file = load_pair(handler, proof, mode, &mut exprs, work);
-    match file.found {
-        PairFound::TooLong => at_bit(LONG_FILE, 0),
-        PairFound::Fault(number, place) => at_bit(number, place),
-        PairFound::Pair(read) => check_read(
-            &exprs,
-            file.head,
-            &file.statements,
-            &file.nodes,
-            read,
-            work,
-        ),
-    }
+    let file = load_pair(handler, proof, mode, &mut exprs, work)?;
+    check_read(
+        &exprs,
+        file.head,
+        &file.statements,
+        &file.nodes,
+        file.read,
+        work,
+    )
 }
