@@ -11,7 +11,8 @@ pub mod reading;
 pub mod table;
 pub mod words;
 
-// The rules by their codes.
+// The rules by their codes. They are not an enum, because `table::node_at` gives the code that any word holds (`node_in`), and 7
+// is no rule.
 pub const SKIP: u32 = 0;
 
 pub const ASSIGNMENT: u32 = 1;
