@@ -1,4 +1,6 @@
 // The bytes of a file from an index on, in rows of 16. All of it is layout.
+ghost use Rattle.std.specs.Prelude.{◌≤◌, length};
+
 use crate::text::{put, put_digit, put_if, put_number};
 
 // A row has 16 bytes, and at most 16 rows are shown.
@@ -6,12 +8,8 @@ const ROW: usize = 16;
 
 const ROWS: usize = 16;
 
-// Puts byte i in hexadecimal, if there is one.
-fn put_byte(out: &mut [u8], at: usize, bytes: &[u8], i: usize) -> usize {
-    if i >= bytes.len() {
-        return at;
-    }
-    let byte = bytes[i];
+// Puts a byte in hexadecimal.
+fn put_byte(out: &mut [u8], at: usize, byte: u8) -> usize {
     let at = put(out, at, b" ");
     let at = put_digit(out, at, byte / 16);
     put_digit(out, at, byte % 16)
@@ -26,45 +24,42 @@ fn put_index(out: &mut [u8], at: usize, i: usize) -> usize {
     put_number(out, at, i as u64)
 }
 
-// Puts the 16 bytes from i on, or as many as there are.
-fn put_bytes(out: &mut [u8], at: usize, bytes: &[u8], i: usize) -> usize {
+// Puts the bytes of a row.
+fn put_bytes(out: &mut [u8], at: usize, row: &[u8]) -> usize {
     let mut end = at;
-    for k in 0..ROW {
-        end = put_byte(out, end, bytes, std::num::wrapping_add_usize(i, k));
+    for byte in row {
+        end = put_byte(out, end, *byte);
     }
     end
 }
 
-// Puts row r after an index of a file, if it has bytes.
-fn put_row(out: &mut [u8], at: usize, file: &[u8], from: usize, r: usize) -> usize {
-    let i = std::num::wrapping_add_usize(from, ROW * (r % ROWS));
-    if i >= file.len() {
-        return at;
-    }
+// Puts a row that begins at byte i of the file.
+fn put_row(out: &mut [u8], at: usize, i: usize, row: &[u8]) -> usize {
     let at = put_index(out, at, i);
     let at = put(out, at, b":");
-    let at = put_bytes(out, at, file, i);
+    let at = put_bytes(out, at, row);
     put(out, at, b"\n")
 }
 
-fn put_rows(out: &mut [u8], at: usize, file: &[u8], from: usize) -> usize {
+// Puts the rows from an index of a file on, which is not past its end.
+fn put_rows(out: &mut [u8], at: usize, file: &[u8], from: usize) -> usize
+    requires { from ≤ length file.now }
+{
     let mut end = at;
-    for r in 0..ROWS {
-        end = put_row(out, end, file, from, r);
+    for (r, row) in file[from..].chunks(ROW).take(ROWS).enumerate() {
+        end = put_row(out, end, from + ROW * r, row);
     }
     end
 }
 
 // Puts how many bytes follow those that are shown, if any do.
 fn put_rest(out: &mut [u8], at: usize, len: usize, from: usize) -> usize {
-    if from >= len {
-        return at;
-    }
-    if len - from <= ROW * ROWS {
+    let rest = len.saturating_sub(from).saturating_sub(ROW * ROWS);
+    if rest == 0 {
         return at;
     }
     let at = put(out, at, b"       and ");
-    let at = put_number(out, at, (len - from - ROW * ROWS) as u64);
+    let at = put_number(out, at, rest as u64);
     put(out, at, b" bytes more\n")
 }
 

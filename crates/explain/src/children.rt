@@ -1,5 +1,6 @@
 // The child, and the table of it, that a refusal with 34 or 36 to 38 is about.
-ghost use Rattle.std.specs.Prelude.{◌≡◌};
+ghost use Rattle.std.specs.Prelude.{◌≡◌, cond};
+ghost use Rattle.explain.specs.declared.children.Child.TheVariants.{Left, Right};
 ghost use Rattle.explain.specs.Children.{of_child, hold_all, left_of_sequence, left_of_parallel, child_at, child_of};
 
 use crate::text::{put, put_number};
@@ -8,20 +9,20 @@ use derivation::{IF, Node, PARALLEL, SEQUENCE, WHILE};
 use rules::tables::{is_join, same_pre, same_relation};
 use semantics::Names;
 
-// The child at fault: the body of an if or a while, a child of a sequence or a parallel, or none.
+// A child: the body of an if or a while, or a child of a sequence or a parallel.
 #[derive(Clone, Copy)]
 pub enum Child {
-    Nothing,
     Body,
     Left,
     Right,
 }
 
 // Whether a number is about a table of a child.
+#[tactic(auto, unfolding(crate::specs::Children::of_child))]
 fn of_child(number: u32) -> bool
     ensures { result ≡ of_child number }
 {
-    (number == 34) | (number == 36) | (number == 37) | (number == 38)
+    matches!(number, 34 | 36 | 37 | 38)
 }
 
 // Whether all that a sequence asks of its left child's tables holds: 34, 36 and 37.
@@ -39,47 +40,47 @@ fn parallel_left(n: u32, work: &[u64], own: Names, left: Names, right: Names) ->
     same_pre(n, work, own, left) & is_join(n, work, left.r, own.r, right.g)
 }
 
+// The child that is at fault, by whether all that is asked of the left one holds.
+fn side_by(left_holds: bool) -> Child
+    ensures { result ≡ cond left_holds Right Left }
+{
+    if left_holds {
+        Child::Right
+    } else {
+        Child::Left
+    }
+}
+
 // The child that is at fault at a node, by its rule.
-fn child_at(n: u32, work: &[u64], node: Node, first: Node, second: Node) -> Child
+#[tactic(auto, unfolding(crate::specs::Children::child_at, crate::specs::Children::side_by))]
+fn child_at(n: u32, work: &[u64], node: Node, first: Node, second: Node) -> Option<Child>
     ensures { result ≡ child_at n work.now node first second }
 {
     let own = node.names;
     let left = first.names;
     let right = second.names;
-    let rule = node.rule;
-    if rule == SEQUENCE {
-        if sequence_left(n, work, own, left, right) {
-            return Child::Right;
-        }
-        return Child::Left;
+    match node.rule {
+        SEQUENCE => Some(side_by(sequence_left(n, work, own, left, right))),
+        PARALLEL => Some(side_by(parallel_left(n, work, own, left, right))),
+        IF | WHILE => Some(Child::Body),
+        _ => None,
     }
-    if rule == PARALLEL {
-        if parallel_left(n, work, own, left, right) {
-            return Child::Right;
-        }
-        return Child::Left;
-    }
-    if (rule == IF) | (rule == WHILE) {
-        return Child::Body;
-    }
-    Child::Nothing
 }
 
-// The child that a refusal with this number at node i is about, over the tables of both files: a table of nodes, and the work words
-// with the sets and relations.
-pub fn child_of(n: u32, work: &[u64], nodes: &[u64], number: u32, i: u32) -> Child
+// The child that a refusal with this number at node i is about, if it is about one, over the tables of both files: a table of nodes, and
+// the work words with the sets and relations.
+#[tactic(auto, unfolding(crate::specs::Children::child_of))]
+pub fn child_of(n: u32, work: &[u64], nodes: &[u64], number: u32, i: u32) -> Option<Child>
     ensures { result ≡ child_of n work.now nodes.now number i }
 {
-    if of_child(number) {
-        let at = i as usize;
-        let node = node_at(nodes, at);
-        let first = node_at(nodes, at + 1);
-        let after = node.after as usize;
-        let second = node_at(nodes, after);
-        child_at(n, work, node, first, second)
-    } else {
-        Child::Nothing
+    if !of_child(number) {
+        return None;
     }
+    let at = i as usize;
+    let node = node_at(nodes, at);
+    let first = node_at(nodes, at + 1);
+    let second = node_at(nodes, node.after as usize);
+    child_at(n, work, node, first, second)
 }
 
 // From here on: layout.
@@ -116,12 +117,11 @@ fn put_line(
     j: usize,
 ) -> usize {
     let child = node_at(nodes, j);
-    let names = child.names;
     let at = put(out, at, which);
     let at = put(out, at, b", node ");
     let at = put_number(out, at, j as u64);
     let at = put(out, at, b": its ");
-    let at = put_table(out, at, number, names);
+    let at = put_table(out, at, number, child.names);
     put(out, at, b"\n")
 }
 
@@ -135,11 +135,12 @@ pub(crate) fn put_child(
     number: u32,
     i: u32,
 ) -> usize {
-    let child = child_of(n, work, nodes, number, i);
+    let Some(child) = child_of(n, work, nodes, number, i) else {
+        return at;
+    };
     let node = node_at(nodes, i as usize);
     let first = i as usize + 1;
     match child {
-        Child::Nothing => at,
         Child::Body => put_line(out, at, b"the body", nodes, number, first),
         Child::Left => put_line(out, at, b"the left child", nodes, number, first),
         Child::Right => put_line(

@@ -54,18 +54,16 @@ fn put_node(
 
 fn put_fault(out: &mut [u8], handler: &[u8], proof: &[u8], fault: Fault) -> usize {
     let number = fault.number;
-    let place = fault.place;
-    let states = fault.states;
     let at = sentence(number, out, 0);
     let at = put(out, at, b"\n");
-    match place {
+    match fault.place {
         Place::Bit(_) => put_if(
             out,
             at,
             number < FIRST_IN_A_FILE,
             b"no bytes: the number is about a whole file or the work words\n",
         ),
-        Place::Node(node) => put_node(out, at, handler, proof, number, node, states),
+        Place::Node(node) => put_node(out, at, handler, proof, number, node, fault.states),
     }
 }
 
@@ -128,9 +126,7 @@ pub fn write_accepted(handler: &[u8], proof: &[u8], work: &[u64], out: &mut [u8]
     let file = read_pair(handler, proof);
     let head = file.head;
     let nodes = file.nodes;
-    let root = node_at(&nodes, 0);
-    let names = root.names;
-    let p = names.p;
+    let p = node_at(&nodes, 0).names.p;
     let set = set_at(head.states, work, p);
     let end = put_root(out, head, p, set);
     within(end, out.len())

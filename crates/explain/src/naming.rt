@@ -17,20 +17,17 @@ pub fn value_at(head: Head, s: u32, v: u32) -> u32
 }
 
 // Puts the letter of the state that a refusal with this number names in place i, from 0.
+#[tactic(auto, unfolding(crate::specs::Naming::letter_of))]
 pub fn letter(number: u32, i: u32, out: &mut [u8], at: usize) -> usize
     ensures end { result ≡ text_end out.old at (letter_of number i) }
     ensures bytes { out.new ≡ text_in out.old at (letter_of number i) }
 {
-    if i == 0 {
-        return put(out, at, b"s");
+    match i {
+        0 => put(out, at, b"s"),
+        1 if number == 42 || number == 43 => put(out, at, b"s'"),
+        1 => put(out, at, b"t"),
+        _ => put(out, at, b"u"),
     }
-    if i != 1 {
-        return put(out, at, b"u");
-    }
-    if (number == 42) | (number == 43) {
-        return put(out, at, b"s'");
-    }
-    put(out, at, b"t")
 }
 
 // From here on: layout.

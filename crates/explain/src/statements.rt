@@ -58,14 +58,13 @@ fn put_expr(
         return at;
     }
     let term = term_at(exprs, i);
-    let tag = term.tag;
-    match tag {
+    match term.tag {
         INTEGER => put_integer(out, at, term.value),
         TRUTH => put_truth(out, at, term.value == 1),
         VARIABLE => put_variable(out, at, term.value),
         _ => {
             let from = put_if(out, at, brackets, b"(");
-            let left = std::num::wrapping_add_usize(i, 1);
+            let left = i.wrapping_add(1);
             let middle = put_expr(exprs, levels - 1, left, true, out, from);
             let middle = put_operation(out, middle, term.value);
             let end = put_expr(exprs, levels - 1, term.right as usize, true, out, middle);
@@ -101,9 +100,8 @@ fn put_parts(out: &mut [u8], at: usize, word: &[u8], first: u64, second: u32) ->
 // Puts the text of statement j; its parts are given by their numbers.
 fn put_text(out: &mut [u8], at: usize, exprs: &[u32], j: u32, s: Statement) -> usize {
     let body = j as u64 + 1;
-    let code = s.code;
     let expr = s.expr;
-    match code {
+    match s.code {
         NIL => put(out, at, b"nil"),
         ASSIGNMENT => {
             let at = put_variable(out, at, s.target);

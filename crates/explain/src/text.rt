@@ -2,26 +2,18 @@
 ghost use Rattle.std.specs.Prelude.{◌≡◌, ◌-◌, ◌≤◌, min};
 ghost use Rattle.explain.specs.Text.{text_end, text_in};
 
-// How many of `wanted` bytes fit into a buffer of this length from a place on.
-fn fitting(wanted: usize, len: usize, at: usize) -> usize
-    ensures { result ≡ min wanted (len - at) }
-{
-    if at >= len {
-        return 0;
-    }
-    if wanted < len - at { wanted } else { len - at }
-}
-
 // Puts a text into a buffer at a place, as far as there is room, and returns where it ends.
+#[tactic(auto, unfolding(crate::specs::Text::text_end, crate::specs::Text::text_in, crate::specs::Text::fitting))]
 pub fn put(out: &mut [u8], at: usize, text: &[u8]) -> usize
     ensures end { result ≡ text_end out.old at text.now }
     ensures bytes { out.new ≡ text_in out.old at text.now }
 {
-    let n = fitting(text.len(), out.len(), at);
-    for k in 0..n {
-        out[at + k] = text[k];
+    if at >= out.len() {
+        return at;
     }
-    at + n
+    let end = out.len().min(at + text.len());
+    out[at..end].copy_from_slice(&text[..end - at]);
+    end
 }
 
 // Puts a text if it is wanted.
@@ -54,5 +46,5 @@ pub(crate) fn put_digit(out: &mut [u8], at: usize, n: u8) -> usize {
 pub(crate) fn within(end: usize, len: usize) -> usize
     ensures { result ≤ len }
 {
-    if end < len { end } else { len }
+    end.min(len)
 }
