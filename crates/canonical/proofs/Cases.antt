@@ -5,7 +5,7 @@ use Prim.Native.Nat.{ℕ, ◌*◌, ◌^◌, min}
 use mathlib.Core.List.{List, [], ◌∷◌, ◌++◌, flat_map}
 use mathlib.Core.Path.{◌≡◌, refl}
 use lib.ListN.{replicate, take}
-use Rattle.bits.specs.Fields.{bit_length, bit_at, bits_at, is_there, field_at, first_set, fill_bits, further_byte, fill_from, fill_at}
+use Rattle.bits.specs.Fields.{bit_length, bit_at, bits_at, is_there, field_at, field_or, first_set, fill_bits, further_byte, fill_from, fill_at}
 use Rattle.writer.specs.Writing.{with_bit, put_bit, put_bits, has_room}
 use Rattle.writer.specs.Packing.{width_of, put_parts, put_all, bytes_for, packed}
 use Rattle.handler.specs.Header.{size_read, add_size, sizes_read, count_read, head_at}
@@ -31,7 +31,7 @@ pub written : List ℕ → List ℕ → Form
 unfolding canonical read_pair too_long read_handler head_at count_read sizes_read add_size size_read whole_stmt stmt_at stmt_head mark_head code_head target_head
     whole_expr expr_at expr_head tag_head payload_head integer_head signed
     read_proof tables_at sets_read relations_read is_count tables_there whole_node node_at node_head rule_head names_head loop_head named_table on_name
-    field_at is_there bit_length fill_at fill_from further_byte fill_bits first_set
+    field_at field_or is_there bit_length fill_at fill_from further_byte fill_bits first_set
     form_of file_parts parts_of numbered sets_in relations_in distinct all_mentioned mentioned place_in is_in in_order sets_of relations_of
     by_members set_members relation_members rename set_at row_at bits_at bit_at packed put_parts width_of bytes_for put_bits put_bit with_bit
 written hb pb = canonical hb pb

@@ -11,7 +11,7 @@ ghost use Rattle.canonical.specs.Refinement.{Read};
 use checker::{Fault, Place};
 use derivation::{MOST_TABLES, ProofHead};
 use mentions::number;
-use pair::{MOST_PROOF_BYTES, PairFound, read_pair};
+use pair::{MOST_PROOF_BYTES, read_pair};
 use search::Named;
 use writer::clear;
 use writing::{form_bits, write_fields};
@@ -25,8 +25,6 @@ mod writing;
 pub const MOST_FORM_BYTES: usize = MOST_PROOF_BYTES;
 
 // The numbers that the form itself gives: a file is over its length, and the output buffer is too short (docs/FORMAT.md, "One form").
-const LONG_FILE: u32 = 2;
-
 const SHORT_BUFFER: u32 = 3;
 
 // Tables of one width, one after the other: where the first begins, and how many bits each has.
@@ -106,17 +104,14 @@ pub fn write_form(handler: &[u8], proof: &[u8], out: &mut [u8]) -> Result<u32, F
     ensures answer { result ≡ outcome (canonical handler.now proof.now) (length out.old) }
     ensures bytes { out.new ≡ out_after (canonical handler.now proof.now) out.old }
 {
-    let file = read_pair(handler, proof);
-    let found = file.found;
-    match found {
-        PairFound::TooLong => refused(LONG_FILE, 0),
-        PairFound::Fault(number, place) => refused(number, place),
-        PairFound::Pair(read) => {
-            let head = file.head;
-            let nodes = file.nodes;
-            write_read(proof, head.states as usize, read.proof, &nodes, out)
-        }
-    }
+    let file = read_pair(handler, proof)?;
+    write_read(
+        proof,
+        file.head.states as usize,
+        file.read.proof,
+        &file.nodes,
+        out,
+    )
 }
 
 // The same with the outcome as one number, for a host that calls over the C interface: below 2 ^ 32 it is the length, else the fault as the

@@ -43,13 +43,12 @@ fn put_node(
 ) -> usize {
     let mut exprs = [0u32; MOST_TERMS];
     let mut work = [0u64; WORK_WORDS];
-    let file = load_pair(handler, proof, rows(), &mut exprs, &mut work);
-    let head = file.head;
-    let statements = file.statements;
-    let nodes = file.nodes;
-    let at = put_states(out, at, head, number, states);
-    let at = put_child(out, at, head.states, &work, &nodes, number, node);
-    put_statement(out, at, &exprs, &statements, &nodes, node)
+    let Ok(file) = load_pair(handler, proof, rows(), &mut exprs, &mut work) else {
+        return at;
+    };
+    let at = put_states(out, at, file.head, number, states);
+    let at = put_child(out, at, file.head.states, &work, &file.nodes, number, node);
+    put_statement(out, at, &exprs, &file.statements, &file.nodes, node)
 }
 
 fn put_fault(out: &mut [u8], handler: &[u8], proof: &[u8], fault: Fault) -> usize {
@@ -123,11 +122,11 @@ fn put_root(out: &mut [u8], head: Head, p: u32, set: StateSet) -> usize {
 pub fn write_accepted(handler: &[u8], proof: &[u8], work: &[u64], out: &mut [u8]) -> usize
     ensures { result ≤ length out.old }
 {
-    let file = read_pair(handler, proof);
-    let head = file.head;
-    let nodes = file.nodes;
-    let p = node_at(&nodes, 0).names.p;
-    let set = set_at(head.states, work, p);
-    let end = put_root(out, head, p, set);
+    let Ok(file) = read_pair(handler, proof) else {
+        return 0;
+    };
+    let p = node_at(&file.nodes, 0).names.p;
+    let set = set_at(file.head.states, work, p);
+    let end = put_root(out, file.head, p, set);
     within(end, out.len())
 }

@@ -3,7 +3,7 @@
 use Prim.Native.Nat.{ℕ}
 use mathlib.Core.List.{List, [], ◌∷◌}
 use mathlib.Core.Path.{◌≡◌, refl}
-use Rattle.bits.specs.Fields.{bit_length, bit_at, bits_at, is_there, field_at, first_set, fill_bits, further_byte, fill_from, fill_at}
+use Rattle.bits.specs.Fields.{bit_length, bit_at, bits_at, is_there, field_at, field_or, first_set, fill_bits, further_byte, fill_from, fill_at}
 use Rattle.writer.specs.Writing.{with_bit, put_bit, put_bits}
 use Rattle.writer.specs.Packing.{width_of, put_parts, bytes_for, packed}
 use Rattle.derivation.specs.Tables.{set_at, row_at, tables_there, is_count, relations_read, sets_read, tables_at}
@@ -21,7 +21,7 @@ on_read bytes (refused k place) = []
 -- Opens every definition, for the cases to compute.
 pub form_of_file : List ℕ → List ℕ
 unfolding read_proof tables_at sets_read relations_read is_count tables_there whole_node node_at node_head rule_head names_head loop_head named_table on_name
-    field_at is_there bit_length fill_at fill_from further_byte fill_bits first_set
+    field_at field_or is_there bit_length fill_at fill_from further_byte fill_bits first_set
     form_of file_parts parts_of numbered sets_in relations_in distinct all_mentioned mentioned place_in is_in in_order sets_of relations_of
     by_members set_members relation_members rename set_at row_at bits_at bit_at packed put_parts width_of bytes_for put_bits put_bit with_bit
 form_of_file bytes = on_read bytes (read_proof bytes 2)

@@ -7,15 +7,14 @@ use native.Mathlib.Nat.{mul-zero, mul-suc}
 use native.Mathlib.Omega.{arith}
 use borrow.Author.Tests.{le-leb, eq-eqb}
 use lib.ListN.{length, get_or}
-use Rattle.bits.specs.Fields.{bits_at, fill_at}
-use Rattle.bits.specs.declared.Fill.TheVariants.{Ends}
+use Rattle.bits.specs.Fields.{bits_at, field_or, fill_at}
+use Rattle.std.specs.Prelude.{Result, Ok, Err}
 use Rattle.bits.proofs.Laws.{found}
 use Rattle.writer.specs.Packing.{part, width_of, bytes_for, packed}
 use Rattle.writer.proofs.Holding.{Holds, Fitting}
 use Rattle.writer.proofs.Packed.{width_append, fitting_append, holds_append, length_packed, packed_holds, packed_ends}
 use Rattle.states.specs.Sets.{capacity}
 use Rattle.semantics.specs.Derivations.{Derivation, nodes, levels}
-use Rattle.derivation.specs.declared.TablesEnd.TheVariants.{Counts}
 use Rattle.derivation.specs.Tables.{most_tables, set_at, row_at, tables_there, is_count, tables_head, relations_read, sets_read, tables_at}
 use Rattle.derivation.specs.Nodes.{whole_node}
 use Rattle.derivation.specs.NodeTable.{node_bits}
@@ -138,8 +137,8 @@ module _ (bytes : List ℕ) (n : ℕ) (S R : List ℕ) (d : Derivation) (fields 
     end : width_of (file_parts n S R d) ≡ root + node_bits d
     end = width_root n S R d
 
-    tables_held : tables_at bytes n ≡ Counts (tables_head n (length S) (length R))
-    unfolding tables_at sets_read relations_read is_count tables_there file_parts Holds
+    tables_held : tables_at bytes n ≡ Ok (tables_head n (length S) (length R))
+    unfolding tables_at sets_read relations_read is_count tables_there field_or file_parts Holds
     tables_held =
         let least : 10 ≤ 8 * length bytes = omega (arith, width_file n S R d) in
         let sets-field = rw fields.0 at (found bytes 0 5 (omega arith) (omega arith) (omega arith) (omega arith)) in
@@ -157,7 +156,7 @@ module _ (bytes : List ℕ) (n : ℕ) (S R : List ℕ) (d : Derivation) (fields 
         )
 
     -- If they also end as a file must, they are the file of these tables and this derivation.
-    pub held_file : fill_at bytes (width_of (file_parts n S R d)) ≡ Ends → read_proof bytes n ≡ proof (length S) (length R) root d
+    pub held_file : fill_at bytes (width_of (file_parts n S R d)) ≡ Ok tt → read_proof bytes n ≡ proof (length S) (length R) root d
     unfolding read_proof whole_node
     held_file ends =
         let deep = x.levels_most in

@@ -3,24 +3,21 @@
 use Prim.Native.Nat.{ℕ, ◌+◌, ◌*◌, ◌^◌, ◌≤◌, ◌<◌}
 use mathlib.Core.Bool.{Bool, true, false, cond, ◌&&◌, and-eq-true_iff}
 use mathlib.Core.List.{List}
-use mathlib.Core.Option.{Option, none, some}
 use mathlib.Core.Path.{◌≡◌, refl}
 use native.Mathlib.Nat.{mul-le-mul}
 use native.Mathlib.Omega.{arith}
 use borrow.Author.Tests.{lt-ltb, ltb-false, leb-true}
 use lib.Dec.{ltb}
 use lib.ListN.{length}
-use Rattle.bits.specs.Fields.{bit_length, field_at, first_set, fill_bits, further_byte, fill_from, fill_at}
-use Rattle.bits.specs.declared.Field.{Field}
-use Rattle.bits.specs.declared.Field.TheVariants.{Value, Missing}
-use Rattle.bits.specs.declared.Fill.TheVariants.{Ends, Wrong}
+use Rattle.bits.specs.Fields.{bit_length, fault_at, field_or, first_set, fill_bits, further_byte, fill_from, fill_at}
+use Rattle.std.specs.Prelude.{Option, Some, None, Result, Ok, Err}
+use Rattle.bits.specs.declared.FileFault.{FileFault}
 use Rattle.bits.proofs.Places.{either}
 use Rattle.writer.specs.Packing.{bytes_for, packed}
 use Rattle.writer.proofs.Packed.{length_packed}
 use Rattle.states.specs.Sets.{capacity}
 use Rattle.semantics.specs.Derivations.{Derivation}
-use Rattle.derivation.specs.declared.TablesEnd.{TablesEnd}
-use Rattle.derivation.specs.declared.TablesEnd.TheVariants.{Counts, Fault}
+use Rattle.derivation.specs.declared.TablesHead.{TablesHead}
 use Rattle.derivation.specs.Tables.{row_at, tables_there, is_count, tables_head, relations_read, sets_read, tables_at}
 use Rattle.derivation.specs.Nodes.{whole_node}
 use Rattle.derivation.specs.NodeTable.{node_bits}
@@ -33,47 +30,47 @@ use Rattle.form.specs.Form.{file_parts}
 use Rattle.form.proofs.FileBack.{root_at, width_file}
 
 -- Where no further byte is found, the file ends at that bit or before.
-no_further : (bytes : List ℕ) (next : ℕ) → further_byte bytes next ≡ Ends → next < 2 ^ 64 → 8 * length bytes ≤ next
+no_further : (bytes : List ℕ) (next : ℕ) → further_byte bytes next ≡ Ok tt → next < 2 ^ 64 → 8 * length bytes ≤ next
 unfolding further_byte
 no_further bytes next e small = by (ltb next (8 * length bytes)) refl (rw (lt-ltb next (2 ^ 64) small) at e)
   where
-    by : (b : Bool) → ltb next (8 * length bytes) ≡ b → cond (b && true) (Wrong next) Ends ≡ Ends → 8 * length bytes ≤ next
+    by : (b : Bool) → ltb next (8 * length bytes) ≡ b → cond {A = Result (Unit {0}) ℕ} (b && true) (Err next) (Ok tt) ≡ Ok tt → 8 * length bytes ≤ next
     by true t e = absurd (let z : ◌≡◌ {A = ℕ} 0 1 = cc in omega arith)
     by false t e = ltb-false next (8 * length bytes) t
 
 -- A file whose last field ends at a bit within it, and which ends there as a file must, has no byte more than it needs.
-pub ends_length : (bytes : List ℕ) (at : ℕ) → fill_at bytes at ≡ Ends → at ≤ 8 * length bytes → at + 8 < 2 ^ 64 → length bytes ≡ bytes_for at
+pub ends_length : (bytes : List ℕ) (at : ℕ) → fill_at bytes at ≡ Ok tt → at ≤ 8 * length bytes → at + 8 < 2 ^ 64 → length bytes ≡ bytes_for at
 unfolding fill_at fill_from fill_bits bytes_for
 ends_length bytes at e inside small = by (first_set bytes at (fill_bits at)) e
   where
-    by : (o : Option ℕ) → fill_from bytes (at + fill_bits at) o ≡ Ends → length bytes ≡ bytes_for at
-    by none e = omega (arith, no_further bytes (at + fill_bits at) e (omega arith))
-    by (some i) e = absurd (let z : ◌≡◌ {A = ℕ} 0 1 = cc in omega arith)
+    by : (o : Option ℕ) → fill_from bytes (at + fill_bits at) o ≡ Ok tt → length bytes ≡ bytes_for at
+    by None e = omega (arith, no_further bytes (at + fill_bits at) e (omega arith))
+    by (Some i) e = absurd (let z : ◌≡◌ {A = ℕ} 0 1 = cc in omega arith)
 
 -- Tables are read only where there is a state.
 module _ (bytes : List ℕ) (n : ℕ) where
-  abbrev SomeState : TablesEnd → Type 0
-  SomeState (Counts x) = 1 ≤ n
-  SomeState (Fault k place) = Unit {0}
+  abbrev SomeState : Result TablesHead FileFault → Type 0
+  SomeState (Ok x) = 1 ≤ n
+  SomeState (Err fault) = Unit {0}
 
   state_there : (sets relations : ℕ) (b : Bool) → tables_there bytes n sets relations ≡ b
-      → SomeState (cond b (Counts (tables_head n sets relations)) (Fault 20 (bit_length bytes)))
+      → SomeState (cond b (Ok (tables_head n sets relations)) (Err (fault_at 20 (bit_length bytes))))
   unfolding tables_there
   state_there sets relations true t = let tests = simp and-eq-true_iff at t in omega (arith, leb-true)
   state_there sets relations false t = tt
 
   some_state : SomeState (tables_at bytes n)
   unfolding tables_at sets_read relations_read
-  some_state = first (field_at bytes 0 5)
+  some_state = first (field_or bytes 0 5 20)
     where
-      second : (sets : ℕ) (f : Field) → SomeState (relations_read bytes n sets f)
-      second sets Missing = tt
-      second sets (Value relations next) =
+      second : (sets : ℕ) (f : Result (ℕ × ℕ) FileFault) → SomeState (relations_read bytes n sets f)
+      second sets (Err fault) = tt
+      second sets (Ok (relations, next)) =
           either SomeState (is_count relations) _ _ (state_there sets relations (tables_there bytes n sets relations) refl) tt
 
-      first : (f : Field) → SomeState (sets_read bytes n f)
-      first Missing = tt
-      first (Value sets next) = either SomeState (is_count sets) _ _ (second sets (field_at bytes 5 5)) tt
+      first : (f : Result (ℕ × ℕ) FileFault) → SomeState (sets_read bytes n f)
+      first (Err fault) = tt
+      first (Ok (sets, next)) = either SomeState (is_count sets) _ _ (second sets (field_or bytes 5 5 20)) tt
 
   -- A proof file that is read without fault.
   module _ (sets relations root : ℕ) (d : Derivation) (e : read_proof bytes n ≡ proof sets relations root d) where

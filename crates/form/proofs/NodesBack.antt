@@ -8,7 +8,7 @@ use native.Mathlib.Omega.{arith}
 use borrow.Author.Tests.{lt-leb, ne_eqb}
 use lib.Dec.{eqb}
 use lib.ListN.{length}
-use Rattle.bits.specs.Fields.{bits_at}
+use Rattle.bits.specs.Fields.{field_or, bits_at}
 use Rattle.bits.proofs.Laws.{found}
 use Rattle.writer.specs.Packing.{part, width_of}
 use Rattle.writer.proofs.Holding.{Holds, Fitting}
@@ -55,7 +55,7 @@ module _ (bytes : List ℕ) (sets relations : ℕ) where
   head_back : (k before at : ℕ) (x : Node) → x.rule < 7 → Named sets relations x.names → 1 ≤ k → before < 127
       → at + 19 ≤ 8 * length bytes → at + 19 < 2 ^ 64 → Holds bytes at (parts_of x)
       → node_head bytes sets relations k before at ≡ loop_head bytes sets relations x.rule x.names (at + 19)
-  unfolding node_head rule_head names_head parts_of Holds
+  unfolding node_head rule_head names_head field_or parts_of Holds
   head_back k before at x under n some few inside fits s =
       let field = rw s.0 at (found bytes at 3 (omega arith) (omega arith) (omega arith) (omega arith)) in
       let third : at + 3 + 4 + 4 ≡ at + 3 + 8 = omega arith in

@@ -7,7 +7,7 @@ use native.Mathlib.Nat.{zero-add}
 use native.Mathlib.Omega.{arith}
 use lib.ListN.{length}
 use Rattle.bits.specs.Fields.{bits_at, fill_at}
-use Rattle.bits.specs.declared.Fill.TheVariants.{Ends}
+use Rattle.std.specs.Prelude.{Result, Ok, Err}
 use Rattle.bits.proofs.Laws.{bits_below}
 use Rattle.writer.specs.Packing.{Part, width_of, bytes_for, packed}
 use Rattle.writer.proofs.Holding.{Holds, Fitting}
@@ -42,7 +42,7 @@ module _ (h : List ℕ) (at : ℕ) (S : Stmt) (h' : List ℕ) (at' : ℕ) (T : S
   unfolding handler_parts Holds
   held = let (first, (second, (third, (fourth, _)))) = rw (zero-add at) at (packed_holds parts fields_fit) in (first, second, third, fourth)
 
-  file_ends : fill_at file (at + 3 + stmt_width S + stmt_width T) ≡ Ends
+  file_ends : fill_at file (at + 3 + stmt_width S + stmt_width T) ≡ Ok tt
   file_ends = rw width_is at (packed_ends parts)
 
   module _ (short : length (packed (handler_parts h at (stmt_width S) h' at' (stmt_width T))) ≤ most_handler_bytes) where

@@ -7,7 +7,7 @@ use mathlib.Core.List.{List, [], ◌∷◌}
 use mathlib.Core.Option.{Option, none, some}
 use lib.Dec.{eqb}
 use lib.IntN.{pos}
-use Rattle.bits.specs.Fields.{bit_length, bit_at, bits_at, is_there, field_at, first_set, fill_bits, further_byte, fill_from, fill_at}
+use Rattle.bits.specs.Fields.{bit_length, bit_at, bits_at, is_there, field_at, field_or, first_set, fill_bits, further_byte, fill_from, fill_at}
 use Rattle.states.specs.Search.{implies, all, any, must, given, named, or_else, each, holds}
 use Rattle.states.specs.Relations.{within, reach}
 use Rattle.semantics.specs.declared.Names.{Names}
@@ -99,5 +99,5 @@ marked =
 pub twelve : marked
     ≡ ascii "accepted 1\n" ∷ ascii "refused 43 node 0\n" ∷ ascii "refused 10 bit 0\n" ∷ ascii "refused 10 bit 8\n" ∷ ascii "refused 18 bit 23\n"
     ∷ (4 ∷ []) ∷ (4 ∷ 1 ∷ []) ∷ (28 ∷ []) ∷ (1 ∷ []) ∷ (64 ∷ []) ∷ (13 ∷ 8 ∷ []) ∷ (50 ∷ 0 ∷ []) ∷ []
-unfolding bit_length bit_at bits_at is_there field_at first_set fill_bits further_byte fill_from fill_at implies all any must given named or_else each holds within reach in_set same_set same_relation set_lies_in relation_lies_in is_true is_false after_store to_after moves c31 c32 c33 c34 c35 c36 c37 c38 unmoved c41 c42 c43 c50 c51 c52 c53 c54 c55 c56 c57 size_read add_size sizes_read count_read head_at signed integer_head truth_head variable_head operation_head payload_head tag_head expr_head expr_at whole_expr target_head code_head mark_head stmt_head stmt_at whole_stmt read_handler set_at row_at tables_there is_count relations_read sets_read tables_at in_set_of in_relation_of on_name named_table loop_head names_head rule_head node_head node_at whole_node read_proof too_long read_pair answer digits decimal place_text verdict_text line_of
+unfolding bit_length bit_at bits_at is_there field_at field_or first_set fill_bits further_byte fill_from fill_at implies all any must given named or_else each holds within reach in_set same_set same_relation set_lies_in relation_lies_in is_true is_false after_store to_after moves c31 c32 c33 c34 c35 c36 c37 c38 unmoved c41 c42 c43 c50 c51 c52 c53 c54 c55 c56 c57 size_read add_size sizes_read count_read head_at signed integer_head truth_head variable_head operation_head payload_head tag_head expr_head expr_at whole_expr target_head code_head mark_head stmt_head stmt_at whole_stmt read_handler set_at row_at tables_there is_count relations_read sets_read tables_at in_set_of in_relation_of on_name named_table loop_head names_head rule_head node_head node_at whole_node read_proof too_long read_pair answer digits decimal place_text verdict_text line_of
 twelve = refl

@@ -3,7 +3,7 @@ ghost use Rattle.std.specs.Prelude.{◌≡◌, ◌<◌};
 ghost use Rattle.report.specs.Root.{root_number, root_of};
 
 use derivation::table::node_at;
-use pair::{PairFound, read_pair};
+use pair::read_pair;
 use semantics::Names;
 
 // The room for each number: 8 bits.
@@ -22,17 +22,9 @@ fn pack(states: u32, names: Names) -> u64
 pub fn root_number(handler: &[u8], proof: &[u8]) -> u64
     ensures { result ≡ root_of handler.now proof.now }
 {
-    let file = read_pair(handler, proof);
-    let found = file.found;
-    match found {
-        PairFound::TooLong => 0,
-        PairFound::Fault(_, _) => 0,
-        PairFound::Pair(_) => {
-            let head = file.head;
-            let table = file.nodes;
-            let root = node_at(&table, 0);
-            let names = root.names;
-            pack(head.states, names)
-        }
-    }
+    let Ok(file) = read_pair(handler, proof) else {
+        return 0;
+    };
+    let root = node_at(&file.nodes, 0);
+    pack(file.head.states, root.names)
 }

@@ -2,7 +2,7 @@
 use Prim.Native.Nat.{ℕ, ◌+◌, ◌^◌, ◌-◌}
 use mathlib.Core.List.{List, [], ◌∷◌}
 use mathlib.Core.Path.{◌≡◌, refl}
-use Rattle.bits.specs.Fields.{bit_length, bit_at, bits_at, is_there, field_at, first_set, fill_bits, further_byte, fill_from, fill_at}
+use Rattle.bits.specs.Fields.{bit_length, bit_at, bits_at, is_there, field_at, field_or, first_set, fill_bits, further_byte, fill_from, fill_at}
 use Rattle.handler.specs.Header.{size_read, add_size, sizes_read, count_read, head_at}
 use Rattle.handler.specs.Expressions.{signed, integer_head, payload_head, tag_head, expr_head, expr_at, whole_expr}
 use Rattle.handler.specs.Statements.{target_head, code_head, mark_head, stmt_head, stmt_at, whole_stmt}
@@ -66,5 +66,5 @@ pub shown_nodes :
     × (viewed handler_file_lem proof_file_lem 43 (Node 0) ≡ 0x20 ∷ 0x02 ∷ 0x40 ∷ [])
     × (viewed (0x22 ∷ 0x20 ∷ 0x03 ∷ []) proof_file_lem 18 (Bit 23) ≡ 0x03 ∷ [])
     × (viewed handler_file_lem proof_file_lem 2 (Bit 0) ≡ [])
-unfolding bit_length bit_at bits_at is_there field_at first_set fill_bits further_byte fill_from fill_at size_read add_size sizes_read count_read head_at signed integer_head payload_head tag_head expr_head expr_at whole_expr target_head code_head mark_head stmt_head stmt_at whole_stmt read_handler row_at tables_there is_count relations_read sets_read tables_at on_name named_table loop_head names_head rule_head node_head node_at whole_node read_proof too_long read_pair first_bits_of node_byte location_of viewed location_by_kind location_number view_of
+unfolding bit_length bit_at bits_at is_there field_at field_or first_set fill_bits further_byte fill_from fill_at size_read add_size sizes_read count_read head_at signed integer_head payload_head tag_head expr_head expr_at whole_expr target_head code_head mark_head stmt_head stmt_at whole_stmt read_handler row_at tables_there is_count relations_read sets_read tables_at on_name named_table loop_head names_head rule_head node_head node_at whole_node read_proof too_long read_pair first_bits_of node_byte location_of viewed location_by_kind location_number view_of
 shown_nodes = (refl, refl, refl, refl)

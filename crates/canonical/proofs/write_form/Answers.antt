@@ -3,12 +3,15 @@ use Prim.Native.Nat.{ℕ}
 use mathlib.Core.List.{List}
 use mathlib.Core.Path.{◌≡◌, sym, ◌∙◌, ap}
 use lib.ListN.{length}
+use borrow.Author.Rules.{rules}
+use Rattle.std.specs.Prelude.{Ok, Err}
+use Rattle.checker.specs.Verdicts.{Verdict, unread}
 use Rattle.handler.specs.Header.{head_of}
 use Rattle.derivation.specs.NodeTable.{node_table}
 use Rattle.derivation.specs.Reading.{proof, read_proof}
 use Rattle.pair.specs.declared.PairFile.{PairFile}
-use Rattle.pair.specs.declared.PairSummary.{PairSummary}
-use Rattle.pair.specs.declared.PairFound.TheVariants as Found
+use Rattle.pair.specs.declared.PairFault.{PairFault}
+use Rattle.pair.specs.declared.PairFault.TheVariants.{TooLong, At}
 use Rattle.pair.specs.Reading.{states_of, read_pair, pair_file}
 use Rattle.pair.proofs.Cases.{read_holds}
 use Rattle.pair.proofs.Found.{FoundPair, found_long, found_fault, found_pair}
@@ -19,65 +22,61 @@ use Rattle.canonical.specs.Refinement.{Read}
 use Rattle.canonical.proofs.Outcomes.{turned_away_lem}
 use Rattle.canonical.proofs.write_form.Goals as goal
 
--- What was read, by the code's answer.
-module _ (hb pb : List ℕ) (file : PairFile) (is : file ≡ pair_file (read_pair hb pb)) where
-  found : (pair_file (read_pair hb pb)).found ≡ file.found
-  found = sym (ap (λ f. f.found) is)
+-- The pair that was found, and its proof file as it is lent.
+module _ (hb pb : List ℕ) (file : PairFile) (is : pair_file (read_pair hb pb) ≡ Ok file) where
+  read : FoundPair (read_pair hb pb) file
+  read = found_pair _ _ is
 
-  -- The pair that was found, and its proof file as it is lent.
-  module _ (w : PairSummary) (is_pair : file.found ≡ Found.Pair w) where
-    read : FoundPair (read_pair hb pb) w
-    read = found_pair _ _ (found ∙ is_pair)
+  states : file.head.states ≡ states_of read.held
+  unfolding head_of
+  states = ap (λ y. y.head.states) read.kept
 
-    states : file.head.states ≡ states_of read.held
-    unfolding pair_file head_of
-    states = ap (λ y. y.head.states) is ∙ ap (λ y. (pair_file y).head.states) read.read
+  unfoldable lent : Read pb file.head.states file.read.proof file.nodes
+  lent =
+      let f = read in
+      let d = f.held.derivation in
+      record {
+        d = d;
+        read = ap (read_proof pb) states ∙ (read_holds hb pb f.held f.read).proof_read
+            ∙ ap (λ y. proof y.read.proof.sets y.read.proof.relations y.read.proof.root d) (sym f.kept);
+        counted = ap (λ y. y.read.proof.nodes) f.kept;
+        table = ap (λ y. y.nodes) f.kept ∙ ap (λ y. node_table y.read.proof.root d) (sym f.kept);
+      }
 
-    unfoldable lent : Read pb file.head.states w.proof file.nodes
-    unfolding pair_file
-    lent =
-        let f = read in
-        let d = f.held.derivation in
-        record {
-          d = d;
-          read = ap (read_proof pb) states ∙ (read_holds hb pb f.held f.read).proof_read
-              ∙ ap (λ w. proof w.proof.sets w.proof.relations w.proof.root d) (sym f.summary);
-          counted = ap (λ w. w.proof.nodes) f.summary;
-          table = ap (λ y. y.nodes) is ∙ ap (λ y. (pair_file y).nodes) f.read ∙ ap (λ w. node_table w.proof.root d) (sym f.summary);
-        }
+  -- Its form.
+  formed : form (form_of file.head.states (by_members pb file.head.states file.read.proof.sets lent.d)) ≡ canonical hb pb
+  unfolding canonical lent
+  formed =
+      (λ j. form (form_of (states j) (by_members pb (states j) (read.kept j).read.proof.sets read.held.derivation)))
+      ∙ sym (ap (form_in pb) read.read)
 
-    -- Its form.
-    formed : form (form_of file.head.states (by_members pb file.head.states w.proof.sets lent.d)) ≡ canonical hb pb
-    unfolding canonical lent
-    formed =
-        (λ j. form (form_of (states j) (by_members pb (states j) (read.summary j).proof.sets read.held.derivation)))
-        ∙ sym (ap (form_in pb) read.read)
+-- Where the pair is not read, its fault is given and nothing is written.
+not_read : (hb pb out : List ℕ) (fault : PairFault) → pair_file (read_pair hb pb) ≡ Err fault → (v : Verdict) → v ≡ Err (unread fault)
+    → record { answer : v ≡ outcome (canonical hb pb) (length out); bytes : out ≡ out_after (canonical hb pb) out }
+unfolding canonical
+not_read hb pb out TooLong is v said =
+    let answer = turned_away_lem _ _ _ out (ap (form_in pb) (found_long _ is)) in
+    record { answer = said ∙ answer.0; bytes = answer.1 }
+not_read hb pb out (At fault) is v said =
+    let answer = turned_away_lem _ _ _ out (ap (form_in pb) (found_fault _ _ is)) in
+    record { answer = said ∙ answer.0; bytes = answer.1 }
 
 pub write_read-requires : goal.write_read-requires
-write_read-requires c = lent c.args.handler.now c.args.proof.now _ c.read_pair-file.ensures _ c.in-Pair.is
+write_read-requires c = lent c.args.handler.now c.args.proof.now _ (sym c.read_pair.ensures ∙ c.in_ok-file.was)
 
-pub returns-in-Pair : goal.returns-in-Pair
-returns-in-Pair c =
+pub returns : goal.returns
+returns c =
     let a = c.args in
-    let x = lent a.handler.now a.proof.now _ c.read_pair-file.ensures _ c.in-Pair.is in
-    let is = formed a.handler.now a.proof.now _ c.read_pair-file.ensures _ c.in-Pair.is in
+    let is = sym c.read_pair.ensures ∙ c.in_ok-file.was in
+    let x = lent a.handler.now a.proof.now _ is in
+    let made = formed a.handler.now a.proof.now _ is in
     record {
-      answer = c.write_read.ensures.answer x ∙ ap (λ o. outcome o (length a.out.now)) is;
-      bytes = c.write_read.ensures.bytes x ∙ ap (λ o. out_after o a.out.now) is;
+      answer = c.write_read.ensures.answer x ∙ ap (λ o. outcome o (length a.out.now)) made;
+      bytes = c.write_read.ensures.bytes x ∙ ap (λ o. out_after o a.out.now) made;
     }
 
-pub returns-in-TooLong : goal.returns-in-TooLong
-unfolding canonical
-returns-in-TooLong c =
+pub returns-in_err-file : goal.returns-in_err-file
+returns-in_err-file c =
     let a = c.args in
-    let long = found_long _ (found a.handler.now a.proof.now _ c.read_pair-file.ensures ∙ c.in-TooLong.is) in
-    let answer = turned_away_lem _ _ _ a.out.now (ap (form_in a.proof.now) long) in
-    record { answer = c.refused.ensures ∙ answer.0; bytes = answer.1 }
-
-pub returns-in-Fault : goal.returns-in-Fault
-unfolding canonical
-returns-in-Fault c =
-    let a = c.args in
-    let fault = found_fault _ _ _ (found a.handler.now a.proof.now _ c.read_pair-file.ensures ∙ c.in-Fault.is) in
-    let answer = turned_away_lem _ _ _ a.out.now (ap (form_in a.proof.now) fault) in
-    record { answer = c.refused-in-Fault.ensures ∙ answer.0; bytes = answer.1 }
+    let said : c.from_residual.result ≡ Err (unread c.in_err-file.field-0.0) = search rules in
+    not_read a.handler.now a.proof.now a.out.now _ (sym c.read_pair.ensures ∙ c.in_err-file.was) _ said
