@@ -39,7 +39,7 @@ pack-requires c =
     rw (names p) (names_small _ _ _ _ _ _ (read_holds _ _ _ (held p).read).proof_read)
 
 pub returns-in_default : goal.returns-in_default
-returns-in_default c = ?
+returns-in_default c = not_read _ _ _ (sym c.read_pair.ensures ∙ c.in_default.is)
 
 pub returns : goal.returns
 unfolding root_of head_of

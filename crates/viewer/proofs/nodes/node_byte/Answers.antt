@@ -46,4 +46,4 @@ returns-then-node-file c =
     rw (bits_of _ _ f.held f.read) (sym (no_node a.proof.now _ a.node (omega (arith, c.if-node-file.true, ap (λ y. y.read.proof.nodes) f.kept))))
 
 pub returns-in_default : goal.returns-in_default
-returns-in_default c = ?
+returns-in_default c = not_read _ _ _ _ (sym c.read_pair.ensures ∙ c.in_default.is)
