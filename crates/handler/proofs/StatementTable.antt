@@ -1,11 +1,12 @@
 -- Laws of the statement table: a word gives its statement back, and a table that holds the words of a statement from number j on
 -- also holds those of its parts.
-use Prim.Native.Nat.{ℕ, zero, suc, ◌+◌, ◌-◌, ◌*◌, ◌/◌, ◌%◌, ◌≤◌, ◌<◌}
+use Prim.Native.Nat.{ℕ, suc, ◌+◌, ◌-◌, ◌*◌, ◌/◌, ◌%◌, ◌≤◌, ◌<◌}
 use mathlib.Core.List.{List, ◌∷◌, ◌++◌}
 use mathlib.Core.Path.{◌≡◌, refl, ◌∙◌}
 use native.Mathlib.Omega.{arith}
 use lib.ListN.{length, get_or, drop, replicate, length-append}
 use lib.Seq.{sets, sets-eq}
+use Rattle.std.proofs.lemmas.List.{drop-replicate}
 use Rattle.semantics.specs.Language.{Expr, Stmt, nil, assign, seq, par, if, while}
 use Rattle.semantics.specs.Conditions.{statement_code, target_of}
 use Rattle.handler.specs.declared.table.Statement.{Statement}
@@ -92,18 +93,13 @@ module _ (table : List ℕ) (j bit i : ℕ) where
       let own = own_word S h.rest in
       rw (first_held table j _ h.is ∙ own.0) (word_back (statement_record j bit i S) own.1.0 target (omega arith) (omega arith))
 
-drop_replicate : (n m : ℕ) → drop {A = ℕ} n (replicate m 0) ≡ replicate (m - n) 0
-drop_replicate zero m = let same : m - 0 ≡ m = omega arith in rw same
-drop_replicate (suc n) zero = let none : 0 - suc n ≡ 0 = omega arith in rw none
-drop_replicate (suc n) (suc m) = let same : suc m - suc n ≡ m - n = omega arith in rw same (drop_replicate n m)
-
 -- Stores into a table of zeros make the table of a handler.
 pub table_made : (bit : ℕ) (S : Stmt) → statements S ≤ 63 → sets (replicate 63 0) 0 (statement_words 0 bit 0 S) ≡ statement_table bit S
 unfolding statement_table
 table_made bit S few =
     let words = statement_words 0 bit 0 S in
     let long : 0 + length words ≡ statements S = omega (arith, length_statement_words 0 bit 0 S) in
-    sets-eq words (replicate 63 0) 0 (omega arith) ∙ rw (long, drop_replicate (statements S) 63)
+    sets-eq words (replicate 63 0) 0 (omega arith) ∙ rw (long, drop-replicate {X = ℕ} (statements S) 63 0)
 
 -- The table of a handler holds its statement.
 pub table_held : (bit : ℕ) (S : Stmt) → StatementIn (statement_table bit S) 0 bit 0 S
