@@ -1,5 +1,6 @@
 -- The answer as one number: nothing is cut off, so that it determines the answer but for the states, it is 0 exactly if the call was done,
 -- and then the record can be read from the numbers.
+use Rattle.std.specs.Prelude.{Err}
 use Prim.Native.Nat.{ℕ, ◌+◌, ◌≤◌}
 use mathlib.Core.List.{List}
 use mathlib.Core.Path.{◌≡◌, refl, sym, subst, ◌∙◌}
@@ -11,7 +12,6 @@ use Rattle.pair.specs.Modes.{rows}
 use Rattle.search.specs.declared.Named.TheVariants.{Nothing}
 use Rattle.checker.specs.declared.Place.TheVariants.{Bit}
 use Rattle.checker.specs.declared.Fault.{Fault}
-use Rattle.checker.specs.declared.Verdict.TheVariants as Verdict
 use Rattle.checker.specs.Verdicts as Verdicts
 use Rattle.checker.proofs.Bounds.{bounded}
 use Rattle.report.specs.Code.{index_of, code_of, Lossless}
@@ -31,9 +31,9 @@ use Rattle.frame.proofs.Lent.{read_back}
 abbrev pub Coded : Answer → Type 0
 Coded a = Lossless (as_verdict a) × (eqb (code_of (as_verdict a)) 0 ≡ is_done a)
 
-refused : (f : Fault) → Lossless (Verdict.Refused f) → Coded (Answer.Refused f)
+refused : (f : Fault) → Lossless (Err f) → Coded (Answer.Refused f)
 unfolding code_of
-refused f small = (small, ne_eqb (code_of (Verdict.Refused f)) 0 (λ e. omega arith))
+refused f small = (small, ne_eqb (code_of (Err f)) 0 (λ e. omega arith))
 
 -- The refusals that are not the check's.
 plain : (k : ℕ) → k ≤ 4 → Coded (Answer.Refused (record { number = 100 + k; place = Bit 0; states = Nothing }))

@@ -125,7 +125,7 @@ fn is_done(answer: Answer) -> bool
 fn at_bit_0(number: u32) -> Verdict
     ensures { result ≡ at_bit0 number }
 {
-    Verdict::Refused(Fault {
+    Err(Fault {
         number,
         place: Place::Bit(0),
         states: Named::Nothing,
@@ -137,13 +137,13 @@ pub fn verdict_of(answer: Answer) -> Verdict
     ensures { result ≡ as_verdict answer }
 {
     match answer {
-        Answer::Done => Verdict::Accepted(0),
+        Answer::Done => Ok(0),
         Answer::NoSuchPlace => at_bit_0(100),
         Answer::Taken => at_bit_0(101),
         Answer::NotTaken => at_bit_0(101),
         Answer::Malformed => at_bit_0(102),
         Answer::WrongTicks => at_bit_0(104),
-        Answer::Refused(fault) => Verdict::Refused(fault),
+        Answer::Refused(fault) => Err(fault),
         Answer::NoRoom => at_bit_0(103),
     }
 }

@@ -7,7 +7,7 @@ ghost use Rattle.frame.specs.Slots as Slots;
 ghost use Rattle.frame.specs.Calls.{is_done, turned_away, on_need, admit, released, work_after};
 ghost use Rattle.frame.specs.Served.{ServedIf};
 
-use checker::{Verdict, check};
+use checker::check;
 use frame::{Answer, Frame, Outcome, PLACES, Slot};
 use pair::rows;
 use slots::{Extent, NO_SLOT, added, holds_from, laid, laid_without, no_slots};
@@ -109,8 +109,8 @@ pub fn admit(
         return turned_away(frame, Answer::WrongTicks);
     }
     match check(handler, proof, rows(), work) {
-        Verdict::Refused(fault) => turned_away(frame, Answer::Refused(fault)),
-        Verdict::Accepted(steps) => grant(frame, place, end, steps as u64 * ticks as u64),
+        Err(fault) => turned_away(frame, Answer::Refused(fault)),
+        Ok(steps) => grant(frame, place, end, steps as u64 * ticks as u64),
     }
 }
 

@@ -1,4 +1,5 @@
 -- The answer from both verdicts, and the work words after a check.
+use Rattle.std.specs.Prelude.{Ok, Err}
 use Prim.Native.Nat.{ℕ, ◌+◌, ◌≤◌}
 use mathlib.Core.Bool.{Bool, true, false, cond}
 use mathlib.Core.List.{List}
@@ -11,7 +12,6 @@ use Rattle.pair.specs.declared.Mode.{Mode}
 use Rattle.pair.specs.Limits.{too_long}
 use Rattle.pair.specs.Modes.{rows}
 use Rattle.checker.specs.declared.Fault.{Fault}
-use Rattle.checker.specs.declared.Verdict.TheVariants.{Accepted, Refused}
 use Rattle.checker.specs.Verdicts as Check
 use Rattle.checker.specs.Verdicts.{answer}
 use Rattle.joint.specs.Composing.{side_of, refused, composition, of_pair, compose}
@@ -23,14 +23,14 @@ module _ (h p h' p' : List ℕ) (words : ℕ) (enough : work_words ≤ words) (s
   unfolding compose
   by_verdicts = rw (le-ltb words work_words enough, short, short')
 
-  pub first_refuses : (f : Fault) → (answer h p rows words).verdict ≡ Refused f → compose h p h' p' words ≡ refused 1 f
+  pub first_refuses : (f : Fault) → (answer h p rows words).verdict ≡ Err f → compose h p h' p' words ≡ refused 1 f
   first_refuses f e = by_verdicts ∙ rw e
 
-  pub second_refuses : (k : ℕ) (f : Fault) → (answer h p rows words).verdict ≡ Accepted k → (answer h' p' rows words).verdict ≡ Refused f
+  pub second_refuses : (k : ℕ) (f : Fault) → (answer h p rows words).verdict ≡ Ok k → (answer h' p' rows words).verdict ≡ Err f
       → compose h p h' p' words ≡ refused 2 f
   second_refuses k f e e' = by_verdicts ∙ rw (e, e')
 
-  pub both_accept : (k k' : ℕ) → (answer h p rows words).verdict ≡ Accepted k → (answer h' p' rows words).verdict ≡ Accepted k'
+  pub both_accept : (k k' : ℕ) → (answer h p rows words).verdict ≡ Ok k → (answer h' p' rows words).verdict ≡ Ok k'
       → compose h p h' p' words ≡ composition h h' (side_of h p) (side_of h' p') (k + k' + 1)
   both_accept k k' e e' = by_verdicts ∙ rw (e, e')
 

@@ -1,4 +1,5 @@
 -- The form of an accepted pair's proof file is written, read back and loaded: the words hold its tables by first mention.
+use Rattle.std.specs.Prelude.{Ok}
 use Prim.Native.Nat.{ℕ, suc, ◌+◌, ◌≤◌, ◌<◌}
 use mathlib.Core.Bool.{false}
 use mathlib.Core.List.{List, [], ◌∷◌, ◌++◌}
@@ -22,6 +23,7 @@ use Rattle.derivation.proofs.NodeTable.{names_known}
 use Rattle.pair.specs.Limits.{most_proof_bytes}
 use Rattle.pair.specs.declared.Arrangement.TheVariants.{Rows}
 use Rattle.pair.specs.Reading.{Pair}
+use Rattle.checker.specs.Verdicts.{Verdict}
 use Rattle.pair.specs.Modes.{rows, tables_in}
 use Rattle.rules.specs.Words.{word_set, word_relation, word_spec}
 use Rattle.checker.proofs.Loaded.{set_loaded, relation_loaded}
@@ -34,8 +36,6 @@ use Rattle.form.proofs.FileBack.{set_back, relation_back}
 use Rattle.form.proofs.Forms.{Writable, any_encodable, any_read, any_members}
 use Rattle.form.proofs.Where.{set_members_where, relation_members_where}
 use Rattle.report.proofs.RootTables.{root_names}
-use Rattle.canonical.specs.declared.Outcome.{Outcome}
-use Rattle.canonical.specs.declared.Outcome.TheVariants.{Written}
 use Rattle.canonical.specs.Canonical.{form, canonical, outcome, out_after}
 use Rattle.canonical.proofs.Theorems as Canonical
 use Rattle.composition.specs.declared.forms.Form.{Form}
@@ -151,8 +151,8 @@ module _ (hb pb : List ℕ) (was : WasAccepted hb pb) where
   form_short = Canonical.form_short hb pb out is_formed
 
   -- Its form is written where there is room for the longest proof file, and is at the front of the bytes.
-  module _ (bytes : List ℕ) (room : length bytes ≡ most_proof_bytes) (o : Outcome) (answer : o ≡ outcome (canonical hb pb) (length bytes))
-      (count : ℕ) (counted : (k : ℕ) → o ≡ Written k → count ≡ k) (after : List ℕ) (is-after : after ≡ out_after (canonical hb pb) bytes) where
+  module _ (bytes : List ℕ) (room : length bytes ≡ most_proof_bytes) (o : Verdict) (answer : o ≡ outcome (canonical hb pb) (length bytes))
+      (count : ℕ) (counted : (k : ℕ) → o ≡ Ok k → count ≡ k) (after : List ℕ) (is-after : after ≡ out_after (canonical hb pb) bytes) where
     has_form : canonical hb pb ≡ form out
     has_form = Canonical.form_of_lem hb pb out is_formed
 

@@ -1,4 +1,5 @@
 -- The first refusals, and what is promised of files that were written.
+use Rattle.std.specs.Prelude.{Ok}
 use Prim.Native.Nat.{ℕ, ◌≤◌, ◌<◌}
 use mathlib.Core.Bool.{Bool, true, false, ◌&&◌}
 use mathlib.Core.List.{List, ◌++◌}
@@ -12,7 +13,6 @@ use Rattle.derivation.specs.Tables.{work_words}
 use Rattle.pair.specs.Limits.{too_long}
 use Rattle.pair.specs.Modes.{rows}
 use Rattle.checker.specs.declared.Fault.{Fault}
-use Rattle.checker.specs.declared.Verdict.TheVariants.{Accepted}
 use Rattle.checker.specs.Verdicts.{answer}
 use Rattle.composition.specs.declared.Made.{Made}
 use Rattle.composition.specs.declared.Composed.{Composed}
@@ -49,7 +49,7 @@ module _ (h p h' p' : List ℕ) (words : ℕ) (hout pout : List ℕ) where
   made_promised k H P e = record {
     always = λ m is words' enough.
         let same : record { steps = k; handler = length H; proof = length P } ≡ m = cc in
-        subst (λ (x : Made). (answer (take x.handler (H ++ drop (length H) hout)) (take x.proof (P ++ drop (length P) pout)) rows words').verdict ≡ Accepted x.steps) same
+        subst (λ (x : Made). (answer (take x.handler (H ++ drop (length H) hout)) (take x.proof (P ++ drop (length P) pout)) rows words').verdict ≡ Ok x.steps) same
         (rw (take_at H (drop (length H) hout) (length H) refl, take_at P (drop (length P) pout) (length P) refl)
         (made_accepted h p h' p' words k H P e words' enough));
   }

@@ -1,8 +1,7 @@
 -- docs/COMPOSITION.md, "What is turned away" and "For hosts": the answer of a call, and what is promised of files that were written.
-use Rattle.std.specs.Prelude.{ℕ, ◌≤◌, List, ◌≡◌, length, take}
+use Rattle.std.specs.Prelude.{ℕ, ◌≤◌, List, ◌≡◌, length, take, Ok}
 use Rattle.derivation.specs.Tables.{work_words}
 use Rattle.pair.specs.Modes.{rows}
-use Rattle.checker.specs.declared.Verdict.TheVariants.{Accepted}
 use Rattle.checker.specs.Verdicts.{answer}
 use Rattle.joint.specs.Composing.{Composition, made, refused}
 use Rattle.composition.specs.declared.Made.{Made}
@@ -16,4 +15,4 @@ composed (made k handler proof) = Composed.Made (record { steps = k; handler = l
 -- What is promised of files that were written: the check accepts them, with any 1,040 work words or more, and with this step number.
 pub record MadeIsAccepted (answered : Composed) (hout pout : List ℕ) : Type 0 where
   pub always : (m : Made) → answered ≡ Composed.Made m → (words : ℕ) → work_words ≤ words
-      → (answer (take m.handler hout) (take m.proof pout) rows words).verdict ≡ Accepted m.steps
+      → (answer (take m.handler hout) (take m.proof pout) rows words).verdict ≡ Ok m.steps

@@ -1,8 +1,7 @@
 -- docs/COMPOSITION.md, "For hosts": the answer as one number of 64 bits.
-use Rattle.std.specs.Prelude.{ℕ, ◌+◌, ◌*◌, ◌/◌, ◌%◌, ◌^◌, cond, ltb, eqb}
+use Rattle.std.specs.Prelude.{ℕ, ◌+◌, ◌*◌, ◌/◌, ◌%◌, ◌^◌, cond, ltb, eqb, Err}
 use Rattle.search.specs.declared.Named.TheVariants.{Nothing}
 use Rattle.checker.specs.declared.Place.TheVariants.{Bit, Node}
-use Rattle.checker.specs.declared.Verdict.TheVariants.{Refused}
 use Rattle.report.specs.Code.{code_of}
 use Rattle.composition.specs.declared.Composed.{Composed}
 
@@ -10,7 +9,7 @@ use Rattle.composition.specs.declared.Composed.{Composed}
 -- file. It is 1 for a refusal: the pair from bit 48 on, and below it the fault as the check codes it.
 unfoldable pub number_of : Composed → ℕ
 number_of (Composed.Made m) = m.steps + 2 ^ 32 * m.handler + 2 ^ 47 * m.proof
-number_of (Composed.Refused pair f) = 2 ^ 63 + 2 ^ 48 * pair + code_of (Refused f)
+number_of (Composed.Refused pair f) = 2 ^ 63 + 2 ^ 48 * pair + code_of (Err f)
 
 -- The number does not carry the states that a pair's own fault names.
 unfoldable pub without_states : Composed → Composed

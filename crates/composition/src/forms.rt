@@ -1,14 +1,14 @@
 // A pair's proof file in its one form, with its tables in words: each table is there once, in the order of its first mention.
-ghost use Rattle.std.specs.Prelude.{◌≡◌, ℕ, ◌≤◌, length};
+ghost use Rattle.std.specs.Prelude.{◌≡◌, ℕ, ◌≤◌, length, Ok};
 ghost use Rattle.semantics.specs.States.{product};
 ghost use Rattle.semantics.specs.Derivations.{Derivation};
 ghost use Rattle.derivation.specs.Tables.{work_words, written};
 ghost use Rattle.derivation.specs.Reading.{proof, read_proof, loaded_word};
-ghost use Rattle.canonical.specs.declared.Outcome.TheVariants.{Written};
 ghost use Rattle.joint.specs.Composing.{side_of};
 ghost use Rattle.composition.specs.Refinement.{form_read, WasAccepted, Formed};
 
-use canonical::{MOST_FORM_BYTES, Outcome, write_form};
+use canonical::{MOST_FORM_BYTES, write_form};
+use checker::Fault;
 use derivation::reading::load;
 use derivation::table::node_at;
 use derivation::{MOST_NODES, ProofFound, ProofHead};
@@ -55,13 +55,10 @@ fn load_file(file: &[u8], n: u32, words: &mut [u64]) -> Form
 }
 
 // How many bytes were written.
-fn written_bytes(outcome: Outcome) -> usize
-    ensures { (k : ℕ) → outcome ≡ Written k → result ≡ k }
+fn written_bytes(outcome: Result<u32, Fault>) -> usize
+    ensures { (k : ℕ) → outcome ≡ Ok k → result ≡ k }
 {
-    match outcome {
-        Outcome::Written(length) => length as usize,
-        Outcome::Refused(_fault) => 0,
-    }
+    outcome.unwrap_or(0) as usize
 }
 
 // Writes the form of an accepted pair's proof file, and loads it. A form has room in the bytes, so it is written.

@@ -10,7 +10,7 @@ ghost use Rattle.joint.specs.Composing.{plain, compose_into, work_after, handler
 ghost use Rattle.composition.specs.Answers.{composed, MadeIsAccepted};
 ghost use Rattle.composition.specs.Refinement.{Small};
 
-use checker::{Fault, Place, Verdict, WORK_WORDS, check};
+use checker::{Fault, Place, WORK_WORDS, check};
 use derivation::words::clear;
 use pair::{rows, too_long};
 use pairs::compose_accepted;
@@ -82,10 +82,10 @@ fn compose_checked(
 {
     let mode = rows();
     match check(h1, p1, mode, work) {
-        Verdict::Refused(fault) => Composed::Refused(1, fault),
-        Verdict::Accepted(steps) => match check(h2, p2, mode, work) {
-            Verdict::Refused(fault) => Composed::Refused(2, fault),
-            Verdict::Accepted(more) => compose_accepted(h1, p1, steps, h2, p2, more, hout, pout),
+        Err(fault) => Composed::Refused(1, fault),
+        Ok(steps) => match check(h2, p2, mode, work) {
+            Err(fault) => Composed::Refused(2, fault),
+            Ok(more) => compose_accepted(h1, p1, steps, h2, p2, more, hout, pout),
         },
     }
 }
@@ -143,9 +143,7 @@ fn number_of(answer: Composed) -> u64
         Composed::Made(made) => made.steps as u64
             + HANDLERS * made.handler as u64
             + PROOFS * made.proof as u64,
-        Composed::Refused(pair, fault) => REFUSED
-            + PAIRS * pair as u64
-            + code_of(Verdict::Refused(fault)),
+        Composed::Refused(pair, fault) => REFUSED + PAIRS * pair as u64 + code_of(Err(fault)),
     }
 }
 

@@ -1,11 +1,10 @@
 -- Worked cases of docs/ADMISSION.md: each call with its number and the numbers of the record after it.
+use Rattle.std.specs.Prelude.{Ok, Err}
 use Prim.Native.Nat.{ℕ}
 use mathlib.Core.Path.{◌≡◌, refl}
 use mathlib.Core.List.{List, [], ◌∷◌}
 use Rattle.checker.specs.declared.Place.TheVariants.{Node}
-use Rattle.checker.specs.declared.Verdict.{Verdict}
-use Rattle.checker.specs.declared.Verdict.TheVariants.{Accepted, Refused}
-use Rattle.checker.specs.Verdicts.{refused_at}
+use Rattle.checker.specs.Verdicts.{Verdict, refused_at}
 use Rattle.frame.specs.declared.Slot.{Slot}
 use Rattle.frame.specs.declared.Frame.{Frame}
 use Rattle.frame.specs.declared.Outcome.{Outcome}
@@ -15,8 +14,8 @@ use Rattle.frame.specs.Lent.{slot_numbers}
 
 -- The number of an answer, 0 if the call was done, and what the record holds.
 abbrev number_of : Verdict → ℕ
-number_of (Accepted k) = 0
-number_of (Refused fault) = fault.number
+number_of (Ok k) = 0
+number_of (Err fault) = fault.number
 
 abbrev shown : Outcome → List ℕ
 shown o = number_of (as_verdict o.answer) ∷ o.frame.length ∷ o.frame.count ∷ slot_numbers (held o.frame)
@@ -33,15 +32,15 @@ broken = refused_at 31 (Node 0)
 
 pub worked :
     -- the third guest just fits, needs no tick, is one tick too long, or needs 2 ^ 32 ticks
-    (shown (admitted two 7 2 (Accepted 1)) ≡ 0 ∷ 10 ∷ 3 ∷ 3 ∷ 0 ∷ 4 ∷ 5 ∷ 4 ∷ 4 ∷ 7 ∷ 8 ∷ 2 ∷ [])
-    × (shown (admitted two 7 2 (Accepted 0)) ≡ 0 ∷ 10 ∷ 3 ∷ 3 ∷ 0 ∷ 4 ∷ 5 ∷ 4 ∷ 4 ∷ 7 ∷ 8 ∷ 0 ∷ [])
-    × (shown (admitted two 7 3 (Accepted 1)) ≡ 103 ∷ 10 ∷ 2 ∷ 3 ∷ 0 ∷ 4 ∷ 5 ∷ 4 ∷ 4 ∷ [])
-    × (shown (admitted two 7 2 (Accepted 2147483648)) ≡ 103 ∷ 10 ∷ 2 ∷ 3 ∷ 0 ∷ 4 ∷ 5 ∷ 4 ∷ 4 ∷ [])
+    (shown (admitted two 7 2 (Ok 1)) ≡ 0 ∷ 10 ∷ 3 ∷ 3 ∷ 0 ∷ 4 ∷ 5 ∷ 4 ∷ 4 ∷ 7 ∷ 8 ∷ 2 ∷ [])
+    × (shown (admitted two 7 2 (Ok 0)) ≡ 0 ∷ 10 ∷ 3 ∷ 3 ∷ 0 ∷ 4 ∷ 5 ∷ 4 ∷ 4 ∷ 7 ∷ 8 ∷ 0 ∷ [])
+    × (shown (admitted two 7 3 (Ok 1)) ≡ 103 ∷ 10 ∷ 2 ∷ 3 ∷ 0 ∷ 4 ∷ 5 ∷ 4 ∷ 4 ∷ [])
+    × (shown (admitted two 7 2 (Ok 2147483648)) ≡ 103 ∷ 10 ∷ 2 ∷ 3 ∷ 0 ∷ 4 ∷ 5 ∷ 4 ∷ 4 ∷ [])
     -- each number before the next: 100, 101, 102, 104, the checker's, 103
     × (shown (admitted two 16 2000 broken) ≡ 100 ∷ 10 ∷ 2 ∷ 3 ∷ 0 ∷ 4 ∷ 5 ∷ 4 ∷ 4 ∷ [])
     × (shown (admitted (record { length = 0; count = 2; slots = two.slots }) 5 2000 broken) ≡ 101 ∷ 0 ∷ 2 ∷ 3 ∷ 0 ∷ 4 ∷ 5 ∷ 4 ∷ 4 ∷ [])
     × (shown (admitted (record { length = 7; count = 2; slots = two.slots }) 7 2000 broken) ≡ 102 ∷ 7 ∷ 2 ∷ 3 ∷ 0 ∷ 4 ∷ 5 ∷ 4 ∷ 4 ∷ [])
-    × (shown (admitted two 7 1001 (Accepted 5)) ≡ 104 ∷ 10 ∷ 2 ∷ 3 ∷ 0 ∷ 4 ∷ 5 ∷ 4 ∷ 4 ∷ [])
+    × (shown (admitted two 7 1001 (Ok 5)) ≡ 104 ∷ 10 ∷ 2 ∷ 3 ∷ 0 ∷ 4 ∷ 5 ∷ 4 ∷ 4 ∷ [])
     × (shown (admitted two 7 2 broken) ≡ 31 ∷ 10 ∷ 2 ∷ 3 ∷ 0 ∷ 4 ∷ 5 ∷ 4 ∷ 4 ∷ [])
     -- a release closes the gap, and nobody is released from a free place
     × (shown (released two 3) ≡ 0 ∷ 10 ∷ 1 ∷ 5 ∷ 0 ∷ 4 ∷ [])

@@ -1,5 +1,6 @@
 -- The outcomes of a call by cases, each with what is known in it. A call that was done had a well-formed record, and if this was read from
 -- numbers, there were 50.
+use Rattle.std.specs.Prelude.{Ok, Err}
 use Prim.Native.Nat.{ℕ, ◌+◌, ◌*◌, ◌≤◌, ◌<◌}
 use mathlib.Core.Bool.{Bool, true, false, not, cond, ◌||◌, false≢true}
 use mathlib.Core.List.{List, [], ◌∷◌, ◌++◌}
@@ -10,7 +11,7 @@ use borrow.Author.Tests.{eqb-true, ltb-true, ltb-false, not-false}
 use lib.Dec.{ltb, eqb}
 use lib.ListN.{length, get_or}
 use Rattle.checker.specs.declared.Fault.{Fault}
-use Rattle.checker.specs.declared.Verdict.{Verdict}
+use Rattle.checker.specs.Verdicts.{Verdict}
 use Rattle.frame.specs.declared.Slot.{Slot}
 use Rattle.frame.specs.declared.Frame.{Frame}
 use Rattle.frame.specs.declared.Answer.{Answer}
@@ -55,9 +56,9 @@ module _ (P : Outcome → Type 0) (f : Frame) where
         either _ (not (well_formed f)) Malformed _ (λ ill. malformed) (λ well. done (not-false _ well))))
 
     module _ (ticks : ℕ) (taken : P (turned_away f Taken)) (wrong : P (turned_away f WrongTicks)) where
-      pub admitted_cases : (v : Verdict) → ((fault : Fault) → v ≡ Verdict.Refused fault → P (turned_away f (Refused fault)))
-          → ((k : ℕ) → v ≡ Verdict.Accepted k → f.length < total (held f) + k * ticks → P (turned_away f NoRoom))
-          → ((k : ℕ) → v ≡ Verdict.Accepted k → total (held f) + k * ticks ≤ f.length
+      pub admitted_cases : (v : Verdict) → ((fault : Fault) → v ≡ Err fault → P (turned_away f (Refused fault)))
+          → ((k : ℕ) → v ≡ Ok k → f.length < total (held f) + k * ticks → P (turned_away f NoRoom))
+          → ((k : ℕ) → v ≡ Ok k → total (held f) + k * ticks ≤ f.length
           → place < places → holds place (held f) ≡ false → well_formed f ≡ true → P (leaving f (held f ++ (new_slot f place (k * ticks) ∷ []))))
           → P (admitted f place ticks v)
       unfolding admitted before_check first_of
@@ -68,12 +69,12 @@ module _ (P : Outcome → Type 0) (f : Frame) where
           either _ (ltb ticks 1 || ltb 1000 ticks) WrongTicks _ (λ e. wrong) (λ e.
           by v refused full (λ k is fits. done k is fits (omega (arith, ltb-false 15 place there)) free (not-false _ well))))))
         where
-          by : (v : Verdict) → ((fault : Fault) → v ≡ Verdict.Refused fault → P (turned_away f (Refused fault)))
-              → ((k : ℕ) → v ≡ Verdict.Accepted k → f.length < total (held f) + k * ticks → P (turned_away f NoRoom))
-              → ((k : ℕ) → v ≡ Verdict.Accepted k → total (held f) + k * ticks ≤ f.length → P (leaving f (held f ++ (new_slot f place (k * ticks) ∷ []))))
+          by : (v : Verdict) → ((fault : Fault) → v ≡ Err fault → P (turned_away f (Refused fault)))
+              → ((k : ℕ) → v ≡ Ok k → f.length < total (held f) + k * ticks → P (turned_away f NoRoom))
+              → ((k : ℕ) → v ≡ Ok k → total (held f) + k * ticks ≤ f.length → P (leaving f (held f ++ (new_slot f place (k * ticks) ∷ []))))
               → P (on_verdict f place ticks v)
-          by (Verdict.Refused fault) refused full done = refused fault refl
-          by (Verdict.Accepted k) refused full done = need_cases place (k * ticks) (full k refl) (done k refl)
+          by (Err fault) refused full done = refused fault refl
+          by (Ok k) refused full done = need_cases place (k * ticks) (full k refl) (done k refl)
 
 -- A call that was done had a well-formed record.
 module _ (f : Frame) (place : ℕ) where

@@ -1,5 +1,6 @@
 -- Any list of calls from a bare frame: the slots are the layout of the guests present, within the frame, each at a place of its own; a guest
 -- is refused for room only if the needs admitted and its own are more than the frame; and each guest present is served by its slot.
+use Rattle.std.specs.Prelude.{Ok}
 use Prim.Native.Nat.{ℕ, ◌+◌, ◌*◌, ◌≤◌, ◌<◌}
 use native.Mathlib.Omega.{arith}
 use mathlib.Core.Bool.{Bool, true, false, cond, true≢false}
@@ -8,8 +9,7 @@ use mathlib.Core.Path.{◌≡◌, refl, sym, ap, ap₂, ◌∙◌, subst}
 use lib.Dec.{eqb}
 use lib.ListN.{length}
 use Rattle.pair.specs.Modes.{rows}
-use Rattle.checker.specs.declared.Verdict.{Verdict}
-use Rattle.checker.specs.Verdicts.{AcceptedIsSound}
+use Rattle.checker.specs.Verdicts.{Verdict, AcceptedIsSound}
 use Rattle.checker.specs.Verdicts as Verdicts
 use Rattle.checker.proofs.Promised.{accepted_is_sound}
 use Rattle.frame.specs.declared.Slot.{Slot}
@@ -31,7 +31,7 @@ use Rattle.frame.proofs.Lent.{read_back}
 
 -- A guest's pair was accepted with the step number by which its need is counted.
 abbrev Accepted : Admission → Type 0
-Accepted g = (Verdicts.answer g.handler g.proof rows g.words).verdict ≡ Verdict.Accepted (steps_of g)
+Accepted g = (Verdicts.answer g.handler g.proof rows g.words).verdict ≡ Ok (steps_of g)
 
 data All {A : Type 0} (P : A → Type 0) : List A → Type 0 where
   none : All P []
@@ -107,7 +107,7 @@ module _ (n : ℕ) (c : Core) (k : Inv n c) where
   admits a v is =
       admitted_cases (InvBy (admission a)) c.frame a.place k k a.ticks k k v (λ fault e. k) (λ s e over. k) comes
     where
-      comes : (s : ℕ) → v ≡ Verdict.Accepted s → total (held c.frame) + s * a.ticks ≤ c.frame.length → a.place < places
+      comes : (s : ℕ) → v ≡ Ok s → total (held c.frame) + s * a.ticks ≤ c.frame.length → a.place < places
           → holds a.place (held c.frame) ≡ false → well_formed c.frame ≡ true
           → InvBy (admission a) (leaving c.frame (held c.frame ++ (new_slot c.frame a.place (s * a.ticks) ∷ [])))
       comes s e fits there free well =
@@ -123,7 +123,7 @@ module _ (n : ℕ) (c : Core) (k : Inv n c) where
             own_places =
                 ap (apart places) (map_last c.guests a)
                 ∙ apart_more places asks (slot_of a) k.own_places (sym (ap (holds a.place) held_is ∙ holds_laid a.place 0 asks) ∙ free) there;
-            accepted = all_last k.accepted (is ∙ e ∙ ap Verdict.Accepted (sym steps));
+            accepted = all_last k.accepted (is ∙ e ∙ ap Ok (sym steps));
           }
 
   releases : (place : ℕ) → InvBy (release place) (released c.frame place)

@@ -1,9 +1,9 @@
 -- docs/ADMISSION.md, "What is turned away": 100, 101, 102, 104, the checker's own numbers, 103; and what each call leaves.
-use Rattle.std.specs.Prelude.{ℕ, ◌+◌, ◌*◌, Bool, true, false, not, cond, ◌||◌, List, [], ◌∷◌, ◌++◌, ltb}
+use Rattle.std.specs.Prelude.{ℕ, ◌+◌, ◌*◌, Bool, true, false, not, cond, ◌||◌, List, [], ◌∷◌, ◌++◌, ltb, Ok, Err}
 use Rattle.std.proofs.Math.Option.{Option, none, some}
 use Rattle.pair.specs.Modes.{rows}
 use Rattle.checker.specs.declared.Place.TheVariants.{Bit}
-use Rattle.checker.specs.declared.Verdict.{Verdict}
+use Rattle.checker.specs.Verdicts.{Verdict}
 use Rattle.checker.specs.Verdicts as Verdicts
 use Rattle.frame.specs.declared.Frame.{Frame}
 use Rattle.frame.specs.declared.Answer.{Answer}
@@ -16,13 +16,13 @@ abbrev pub at_bit0 : ℕ → Verdict
 at_bit0 k = Verdicts.refused_at k (Bit 0)
 
 abbrev pub as_verdict : Answer → Verdict
-as_verdict Done = Verdict.Accepted 0
+as_verdict Done = Ok 0
 as_verdict NoSuchPlace = at_bit0 100
 as_verdict Taken = at_bit0 101
 as_verdict NotTaken = at_bit0 101
 as_verdict Malformed = at_bit0 102
 as_verdict WrongTicks = at_bit0 104
-as_verdict (Refused fault) = Verdict.Refused fault
+as_verdict (Refused fault) = Err fault
 as_verdict NoRoom = at_bit0 103
 
 abbrev pub is_done : Answer → Bool
@@ -78,8 +78,8 @@ module _ (f : Frame) (place : ℕ) where
 
   -- The need is the step number times the ticks per step.
   abbrev pub on_verdict : ℕ → Verdict → Outcome
-  on_verdict ticks (Verdict.Refused fault) = turned_away f (Refused fault)
-  on_verdict ticks (Verdict.Accepted k) = on_need (k * ticks)
+  on_verdict ticks (Err fault) = turned_away f (Refused fault)
+  on_verdict ticks (Ok k) = on_need (k * ticks)
 
   -- What an admission does, with the verdict of the check.
   unfoldable pub admitted : ℕ → Verdict → Outcome

@@ -10,7 +10,7 @@ use super::number::{Number, number_in};
 use super::{
     ARGUMENT_BYTES, HANDLER_BYTES, PROOF_BYTES, Reading, argument, print_front, read_argument, save,
 };
-use checker::{Verdict, WORK_WORDS};
+use checker::WORK_WORDS;
 use frame::{Frame, Outcome, PLACES};
 
 // The argument that is the frame's length, and the first of the guests', which have three each.
@@ -102,12 +102,12 @@ fn write_outcome(place: u32, outcome: Outcome, out: &mut [u8]) -> usize
     let answer = outcome.answer;
     let v = admission::lent::verdict_of(answer);
     match v {
-        Verdict::Accepted(_) => {
+        Ok(_) => {
             let frame = outcome.frame;
             let slot = admission::last_slot(frame);
             report::write_slot(place, slot.first, slot.length, out)
         }
-        Verdict::Refused(_) => report::write_turned(place, v, out),
+        Err(_) => report::write_turned(place, v, out),
     }
 }
 

@@ -52,7 +52,7 @@ fn compose_files(rt: &HostRuntime, h1: &[u8], p1: &[u8], h2: &[u8], p2: &[u8]) {
             }
         }
         Composed::Refused(pair, fault) => {
-            print_pair(rt, Verdict::Refused(fault), pair);
+            print_pair(rt, Err(fault), pair);
         }
     }
 }

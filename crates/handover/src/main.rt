@@ -19,7 +19,7 @@ mod save;
 ghost use Rattle.std.specs.Prelude.{◌≤◌, ◌<◌, length};
 ghost use Rattle.handover.specs.Reading.{amount};
 
-use canonical::{MOST_FORM_BYTES, Outcome};
+use canonical::MOST_FORM_BYTES;
 use checker::{Fault, Verdict, WORK_WORDS};
 use failure::{fail, write_error};
 use pair::{MOST_HANDLER_BYTES, MOST_PROOF_BYTES};
@@ -174,10 +174,8 @@ fn judge(
     let v = checker::check(handler, proof, pair::rows(), &mut work);
     if print_line(rt, v) & explaining {
         match v {
-            Verdict::Accepted(_) => explain_accepted(rt, handler, proof, &work),
-            Verdict::Refused(fault) => {
-                explain_refusal(rt, handler_path, proof_path, handler, proof, fault)
-            }
+            Ok(_) => explain_accepted(rt, handler, proof, &work),
+            Err(fault) => { explain_refusal(rt, handler_path, proof_path, handler, proof, fault) }
         }
     }
 }
@@ -187,13 +185,13 @@ fn write_form(rt: &HostRuntime, handler: &[u8], proof: &[u8], out: &[u8]) {
     let mut form = [0u8; MOST_FORM_BYTES];
     let outcome = canonical::write_form(handler, proof, &mut form);
     match outcome {
-        Outcome::Written(length) => {
+        Ok(length) => {
             if save::save(rt, out, &form[..length as usize]) {
                 print_length(rt, length);
             }
         }
-        Outcome::Refused(fault) => {
-            print_line(rt, Verdict::Refused(fault));
+        Err(fault) => {
+            print_line(rt, Err(fault));
         }
     }
 }

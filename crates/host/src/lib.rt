@@ -10,7 +10,7 @@ ghost use Rattle.report.specs.Code.{code_of, without_states, decoded};
 ghost use Rattle.report.specs.States.{states_of, states_number, states_decoded};
 ghost use Rattle.report.specs.Root.{root_of};
 ghost use Rattle.viewer.specs.View.{view_of};
-ghost use Rattle.canonical.specs.Canonical.{canonical, outcome, out_after, as_verdict};
+ghost use Rattle.canonical.specs.Canonical.{canonical, outcome, out_after};
 ghost use Rattle.joint.specs.Composing.{compose_into, handler_after, proof_after};
 ghost use Rattle.composition.specs.Answers.{composed, MadeIsAccepted};
 ghost use Rattle.joint.specs.Composing as Composing;
@@ -73,8 +73,8 @@ pub extern "C" fn handover_view(
 // the fault for which nothing was written, as one number (`code_of`); `decoded` of it is the outcome.
 #[unsafe(no_mangle)]
 pub extern "C" fn handover_canonical(handler: &[u8], proof: &[u8], out: &mut [u8]) -> u64
-    ensures number { result ≡ code_of (as_verdict (outcome (canonical handler.now proof.now) (length out.old))) }
-    ensures outcome { decoded result ≡ as_verdict (outcome (canonical handler.now proof.now) (length out.old)) }
+    ensures number { result ≡ code_of (outcome (canonical handler.now proof.now) (length out.old)) }
+    ensures outcome { decoded result ≡ outcome (canonical handler.now proof.now) (length out.old) }
     ensures bytes { out.new ≡ out_after (canonical handler.now proof.now) out.old }
 {
     canonical::form_number(handler, proof, out)

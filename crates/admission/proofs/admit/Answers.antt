@@ -9,7 +9,6 @@ use borrow.Author.Rules.{rules}
 use borrow.Author.Tests.{lt-ltb, le-ltb}
 use lib.Dec.{ltb}
 use lib.ListN.{length}
-use Rattle.checker.specs.declared.Verdict.{Verdict}
 use Rattle.checker.specs.Verdicts as Check
 use Rattle.frame.specs.declared.Outcome.{Outcome}
 use Rattle.frame.specs.Slots.{held, total, holds, well_formed}
@@ -18,6 +17,7 @@ use Rattle.frame.proofs.Calls.{no_such_place, taken, malformed, wrong_ticks, rea
 use Rattle.admission.proofs.Looking.{found_malformed, found_end}
 use Rattle.admission.proofs.admit.Goals.{After-check, After-laid, In-EndToEnd}
 use Rattle.admission.proofs.admit.Goals as goal
+use Rattle.checker.specs.Verdicts.{Verdict}
 
 -- What is known when the record is looked at: there is the place, and it is free.
 there : (c : After-laid) → ltb 15 c.args.place ≡ false
@@ -88,7 +88,7 @@ returns-then-ticks c =
 
 pub overflow_mul-steps : goal.overflow_mul-steps
 overflow_mul-steps c =
-    let few : c.in-Accepted.steps < 2 ^ 32 = search rules in
+    let few : c.in-Ok.steps < 2 ^ 32 = search rules in
     let ticks : c.args.ticks < 2 ^ 32 = search rules in
     omega (arith, product_fits few ticks)
 
@@ -97,12 +97,12 @@ grant-requires c =
     let known = found (goal.at.grant-requires c).In-EndToEnd in
     (known.0, free (goal.at.grant-requires c).After-laid, omega (arith, c.if-place-gt-LAST_PLACE.false), known.1)
 
-pub returns-in-Refused : goal.returns-in-Refused
-returns-in-Refused c =
-    let p = decided (goal.at.returns-in-Refused c).After-check _ _ c.in-Refused.is c.turned_away-in-Refused.ensures in
+pub returns-in-Err : goal.returns-in-Err
+returns-in-Err c =
+    let p = decided (goal.at.returns-in-Err c).After-check _ _ c.in-Err.is c.turned_away-in-Err.ensures in
     record { outcome = p.0; words = p.1.0; served = p.1.1 }
 
-pub returns-in-Accepted : goal.returns-in-Accepted
-returns-in-Accepted c =
-    let p = decided (goal.at.returns-in-Accepted c).After-check _ _ c.in-Accepted.is c.grant.ensures in
+pub returns-in-Ok : goal.returns-in-Ok
+returns-in-Ok c =
+    let p = decided (goal.at.returns-in-Ok c).After-check _ _ c.in-Ok.is c.grant.ensures in
     record { outcome = p.0; words = p.1.0; served = p.1.1 }

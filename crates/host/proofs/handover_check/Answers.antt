@@ -3,8 +3,7 @@
 use Rattle.std.proofs.Common.{◌≡◌, sym, ◌∙◌, ap, subst, ℕ, List, length}
 use Rattle.pair.specs.declared.Mode.{Mode}
 use Rattle.pair.specs.Modes.{rows}
-use Rattle.checker.specs.declared.Verdict.{Verdict}
-use Rattle.checker.specs.Verdicts.{answer, AcceptedIsSound}
+use Rattle.checker.specs.Verdicts.{Verdict, answer, AcceptedIsSound}
 use Rattle.report.specs.Code.{code_of, without_states, decoded}
 use Rattle.report.proofs.Decoding.{answer_decoded, accepted_alike}
 use Rattle.host.proofs.handover_check.Goals as goal

@@ -2,8 +2,7 @@
 use Rattle.std.proofs.Common.{◌≡◌, ◌∙◌, ap, subst, ℕ, List, length}
 use Rattle.pair.specs.declared.Mode.{Mode}
 use Rattle.pair.specs.Modes.{rows}
-use Rattle.checker.specs.declared.Verdict.{Verdict}
-use Rattle.checker.specs.Verdicts.{answer}
+use Rattle.checker.specs.Verdicts.{Verdict, answer}
 use Rattle.report.specs.States.{states_of, states_number, states_decoded}
 use Rattle.report.proofs.Decoding.{states_decoded_lem}
 use Rattle.host.proofs.handover_states.Goals as goal

@@ -2,8 +2,8 @@
 use Rattle.report.proofs.Lines.{line_within}
 use Rattle.handover.proofs.admit.write_outcome.Goals as goal
 
-pub returns-in-Accepted : goal.returns-in-Accepted
-returns-in-Accepted c = rw c.write_slot.ensures.0 (line_within _ _)
+pub returns-in-Ok : goal.returns-in-Ok
+returns-in-Ok c = rw c.write_slot.ensures.0 (line_within _ _)
 
-pub returns-in-Refused : goal.returns-in-Refused
-returns-in-Refused c = rw c.write_turned.ensures.0 (line_within _ _)
+pub returns-in-Err : goal.returns-in-Err
+returns-in-Err c = rw c.write_turned.ensures.0 (line_within _ _)
