@@ -1,5 +1,5 @@
 // Both files of the result, where no limit is passed and there is room for them.
-ghost use Rattle.std.specs.Prelude.{◌≡◌, ◌≤◌, max, length, OnOk};
+ghost use Rattle.std.specs.Prelude.{◌≡◌, ◌≤◌, length, OnOk};
 ghost use Rattle.states.specs.Sets.{capacity};
 ghost use Rattle.semantics.specs.StepNumber.{most_steps};
 ghost use Rattle.pair.specs.Limits.{most_handler_bytes, most_proof_bytes};
@@ -115,13 +115,6 @@ pub(crate) fn write_both(
     })
 }
 
-// The larger of two numbers.
-fn higher(a: u32, b: u32) -> u32
-    ensures { result ≡ max a b }
-{
-    if a < b { b } else { a }
-}
-
 // Whether the result is within the limits of counts and levels, and has at most 16 sets and 16 relations.
 fn is_small(both: Handlers, f: ProofHead, g: ProofHead, sets: usize, relations: usize) -> bool
     ensures { result ≡ small_counts both.first both.second f g sets relations }
@@ -129,9 +122,9 @@ fn is_small(both: Handlers, f: ProofHead, g: ProofHead, sets: usize, relations: 
     let a = both.first;
     let b = both.second;
     let statements = a.statements as u64 + b.statements as u64 + 1;
-    let levels = higher(a.levels, b.levels) as u64 + 1;
+    let levels = a.levels.max(b.levels) as u64 + 1;
     let nodes = f.nodes as u64 + g.nodes as u64 + 3;
-    let depth = higher(f.levels, g.levels) as u64 + 2;
+    let depth = f.levels.max(g.levels) as u64 + 2;
     (statements <= STATEMENTS)
         & (levels <= STATEMENT_LEVELS)
         & (nodes <= NODES)
