@@ -1,6 +1,6 @@
 -- Relations are the same exactly if their numbers are equal.
 use mathlib.Core.Bool.{beq}
-use mathlib.Core.Path.{◌≡◌, ◌∙◌, ap}
+use mathlib.Core.Path.{◌∙◌, ap}
 use Rattle.states.specs.Search.{all}
 use Rattle.states.specs.Relations.{rel}
 use Rattle.rules.specs.Words.{word_relation}

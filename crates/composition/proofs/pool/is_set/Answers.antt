@@ -1,5 +1,5 @@
 -- Sets are the same exactly if their numbers are equal.
-use mathlib.Core.Path.{◌≡◌, ◌∙◌, ap, fun_ext}
+use mathlib.Core.Path.{◌∙◌, ap, fun_ext}
 use Rattle.states.specs.Sets.{has}
 use Rattle.semantics.specs.Conditions.{same_set}
 use Rattle.composition.proofs.Comparing.{set_compared}

@@ -38,14 +38,13 @@ returns-then-found-gt-MOST_TABLES c seen k =
 
 pub loop-i-preserved : goal.loop-i-preserved
 unfolding relations_held
-loop-i-preserved c =
-    (
-      omega arith,
-      omega arith,
-      omega (arith, c.mention_relation-found.auto.pool),
-      length-set c.loop-i.names c.loop-i.i c.mention_relation-found.result.place ∙ c.loop-i.invariant.3,
-      listed_next _ _ c.loop-i.i _ _ c.loop-i.invariant.4 _ _ (next (goal.at.loop-i-preserved c).After-mention_relation-found) (omega arith) (omega arith),
-    )
+loop-i-preserved c = (
+  omega arith,
+  omega arith,
+  omega (arith, c.mention_relation-found.auto.pool),
+  length-set c.loop-i.names c.loop-i.i c.mention_relation-found.result.place ∙ c.loop-i.invariant.3,
+  listed_next _ _ c.loop-i.i _ _ c.loop-i.invariant.4 _ _ (next (goal.at.loop-i-preserved c).After-mention_relation-found) (omega arith) (omega arith),
+)
 
 pub returns : goal.returns
 unfolding relations_held

@@ -1,5 +1,5 @@
 -- `find` gives the first set that is the same.
-use mathlib.Core.Path.{◌≡◌, ◌∙◌}
+use mathlib.Core.Path.{◌∙◌}
 use Rattle.std.proofs.Common.{rules}
 use Rattle.composition.specs.Refinement.{sets_held}
 use Rattle.composition.proofs.Mentioning.{place_found}
