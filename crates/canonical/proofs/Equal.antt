@@ -1,5 +1,6 @@
 -- Two runs of bits are equal exactly if their words are; if they are equal, so are their mixes.
 use Prim.Native.Nat.{ℕ, zero, suc, ◌+◌, ◌-◌, ◌*◌, ◌/◌, ◌%◌, ◌^◌, ◌≤◌, ◌<◌}
+use mathlib.Core.Bool.{Bool, true, false}
 use mathlib.Core.List.{List}
 use mathlib.Core.Logic.{⊎_elim}
 use mathlib.Core.Path.{◌≡◌, refl, sym, ◌∙◌, ap, subst}
@@ -7,16 +8,25 @@ use native.Mathlib.Nat.{mul-le-mul, eq-or-lt_of_le}
 use native.Mathlib.Numerals.{add-one}
 use native.Mathlib.Omega.{arith}
 use borrow.Author.Tests.{eqb-true, eqb-false, eq-eqb}
+use denote.Bor.{Bor}
+use denote.Param.Members.{Mut}
 use lib.Dec.{eqb}
 use lib.ListN.{length, get_or, set}
 use lib.Seq.{get_or-set_same, get_or-set_other}
+use Rattle.std.specs.Prelude.{Option, Some, None, MatchOption}
+use Rattle.std.specs.declared.ops.Range.{Range}
+use Rattle.std.specs.Option.{unwrap_or}
+use Rattle.std.specs.Fn.{CalledAt}
+use Rattle.std.specs.Iterator.{FindsItem}
+use Rattle.std.proofs.iter.Yields.{nat_range_steps}
+use Rattle.std.proofs.lemmas.Iterator.{first_from_Range}
 use Rattle.bits.specs.Fields.{bits_at}
 use Rattle.bits.proofs.Laws.{bits_join, same_test}
 use Rattle.bits.proofs.Bytes.{bits_first, bits_last}
 use Rattle.states.specs.Sets.{capacity}
 use Rattle.derivation.specs.Tables.{most_tables}
 use Rattle.canonical.specs.declared.Run.{Run}
-use Rattle.canonical.specs.Refinement.{members_in, Within, mix_with, mix_words, mix_at, Mixes}
+use Rattle.canonical.specs.Refinement.{members_in, Within, Least, mix_with, mix_words, mix_at, Mixes}
 
 -- What holds below j and at j holds below j + 1.
 pub below_more : (P : ℕ → Type 0) (j : ℕ) → ((k : ℕ) → k < j → P k) → P j → (k : ℕ) → k < j + 1 → P k
@@ -87,3 +97,17 @@ mix_more s at k = rw add-one
 -- A table of a run begins within the file's cursors.
 pub table_room : (run : Run) (i : ℕ) → Within run → i < most_tables → run.width * i ≤ capacity * capacity * most_tables
 table_room run i within under = mul-le-mul {m₂ = most_tables} within.1 (omega arith)
+
+-- What `find` over a range gives, whose closure asks whether a table is like table i: the least one that is.
+pub least_found : {F : Type 0} {g : Mut F (Bor ℕ × Unit {0}) Bool} {h : F} (f : ℕ → ℕ) (i : ℕ) (u : Range ℕ) (r : Option ℕ)
+    → FindsItem nat_range_steps g (record { start = 0; end = i }) h r u
+    → ((j : ℕ) (b : Bool) (q : F) → CalledAt g h j b q → (q ≡ h) × (b ≡ eqb (f j) (f i))) → Least f i (unwrap_or r i)
+least_found f i u r ran asked =
+    found r (first_from_Range _ u _ r (λ j. f j ≡ f i) (λ j. f j ≡ f i → ⊥) ran (λ j q k. eqb-true _ _ (sym (asked j true q k).1))
+    (λ j q k. ((asked j false q k).0, eqb-false _ _ (sym (asked j false q k).1))))
+  where
+    found : (r : Option ℕ) → MatchOption r ((j : ℕ) → 0 ≤ j → j < i → f j ≡ f i → ⊥)
+        (λ k. (0 ≤ k) × (k < i) × (f k ≡ f i) × ((j : ℕ) → 0 ≤ j → j < k → f j ≡ f i → ⊥))
+        → Least f i (unwrap_or r i)
+    found (Some k) at = record { within = omega (arith, at.1); same = at.2; first = λ j l. at.3 j (omega arith) l }
+    found None none = record { within = omega arith; same = refl; first = λ j l. none j (omega arith) l }

@@ -1,5 +1,5 @@
 -- The first entries of a buffer as the list of what was mentioned.
-use Prim.Native.Nat.{ℕ, suc, ◌+◌, ◌-◌, ◌≤◌, ◌<◌}
+use Prim.Native.Nat.{ℕ, ◌+◌, ◌≤◌, ◌<◌}
 use mathlib.Core.Bool.{true, false}
 use mathlib.Core.List.{List, [], ◌∷◌, ◌++◌, map, flat_map, map-append, append-nil, append_assoc}
 use mathlib.Core.Path.{◌≡◌, refl, sym, ◌∙◌, ap}
@@ -7,13 +7,16 @@ use native.Mathlib.Numerals.{add-one}
 use native.Mathlib.Omega.{arith}
 use borrow.Author.Tests.{lt-ltb, le-ltb, eq-eqb, ne_eqb}
 use lib.Dec.{ltb}
-use lib.ListN.{length, take, drop, get_or, set}
-use lib.Seq.{take-suc, take-add, take-suc-set, length-take-le}
-use Rattle.states.proofs.Search.{or_right}
+use lib.ListN.{length, take, get_or, set}
+use lib.Seq.{take-suc, take-suc-set, length-take-le}
+use Rattle.std.specs.Prelude.{Option, MatchOption}
+use Rattle.std.specs.Option.{unwrap_or}
+use Rattle.std.specs.List.{AllWithin, HoldsAt}
+use Rattle.std.proofs.lemmas.Iterator.{index_from_first}
 use Rattle.derivation.specs.declared.Node.{Node}
 use Rattle.derivation.specs.NodeTable.{node_of, node_in}
 use Rattle.form.specs.Mentions.{is_in, place_in, mentioned, all_mentioned}
-use Rattle.form.proofs.Mentions.{in_append, place_append, place_end, place_past, place_or_length, mentioned_new, All, all_append, all_map, few_none, few_all}
+use Rattle.form.proofs.Mentions.{place_or_length, mentioned_new, All, all_append, all_map, few_none, few_all}
 use Rattle.canonical.specs.Nodes.{name_in, held_in}
 use Rattle.canonical.specs.Refinement.{Listing, After}
 
@@ -21,29 +24,16 @@ last_in : (x : ℕ) → is_in (x ∷ []) x ≡ true
 unfolding is_in
 last_in x = rw (eq-eqb x x refl)
 
+-- The place of x is that of the first entry that is x; without one it is the number of entries.
+pub place_first : (x : ℕ) (xs : List ℕ) (r : Option ℕ)
+    → MatchOption r (AllWithin (λ y. y ≡ x → ⊥) xs 0 (length xs))
+    (λ i. (i < length xs) × HoldsAt (λ y. y ≡ x) xs i × AllWithin (λ y. y ≡ x → ⊥) xs 0 i)
+    → place_in xs x ≡ unwrap_or r (length xs)
+unfolding place_in
+place_first x =
+    index_from_first (λ l. place_in l x) (λ y. y ≡ x) (λ y. y ≡ x → ⊥) refl (λ y ys e. rw (eq-eqb y x e)) (λ y ys e. rw (ne_eqb y x e) (sym (add-one _)))
+
 module _ (l : List ℕ) (x : ℕ) where
-  -- One more entry that is not x.
-  pub not_yet : (k : ℕ) → k < length l → is_in (take k l) x ≡ false → (get_or l k 0 ≡ x → ⊥) → is_in (take (k + 1) l) x ≡ false
-  unfolding is_in
-  not_yet k inside before differs =
-      rw (add-one k, take-suc l k 0 inside, in_append (take k l) (get_or l k 0 ∷ []) x, before, ne_eqb (get_or l k 0) x differs)
-
-  -- The first entry that is x is its place.
-  pub found_at : (k count : ℕ) → k < count → count ≤ length l → is_in (take k l) x ≡ false → get_or l k 0 ≡ x → place_in (take count l) x ≡ k
-  found_at k count under within before here =
-      let parts : suc k + (count - suc k) ≡ count = omega arith in
-      let front : take (suc k) l ≡ take k l ++ x ∷ [] = take-suc l k 0 (omega arith) ∙ ap (λ y. take k l ++ y ∷ []) here in
-      let whole : take count l ≡ (take k l ++ x ∷ []) ++ take (count - suc k) (drop (suc k) l) =
-      ap (λ c. take c l) (sym parts) ∙ take-add (suc k) (count - suc k) l ∙ ap (λ f. f ++ take (count - suc k) (drop (suc k) l)) front
-      in
-      let there : is_in (take k l ++ x ∷ []) x ≡ true = in_append (take k l) (x ∷ []) x ∙ or_right (is_in (take k l) x) _ (last_in x) in
-      ap (λ m. place_in m x) whole ∙ place_append (take k l ++ x ∷ []) _ x there ∙ place_end (take k l) x ∙ place_past (take k l) x before
-      ∙ length-take-le k l (omega arith)
-
-  -- x is no entry.
-  pub nowhere : (count : ℕ) → count ≤ length l → is_in (take count l) x ≡ false → place_in (take count l) x ≡ count
-  nowhere count within out = place_past (take count l) x out ∙ length-take-le count l within
-
   -- A place below the number of entries says that x is one.
   place_test : (count : ℕ) → count ≤ length l → ltb (place_in (take count l) x) count ≡ is_in (take count l) x
   place_test count within = ap (λ k. ltb (place_in (take count l) x) k) (sym (length-take-le count l within)) ∙ place_or_length (take count l) x

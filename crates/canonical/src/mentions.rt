@@ -25,12 +25,7 @@ fn place_in(order: &[u64], count: usize, x: u64) -> usize
     requires { count ≤ length order.now }
     ensures { result ≡ place_in (take count order.now) x }
 {
-    for k in 0..count {
-        if order[k] == x {
-            return k;
-        }
-    }
-    count
+    order[..count].iter().position(|y| *y == x).unwrap_or(count)
 }
 
 // A mention of x: it is added after the first `count` entries, unless it is among them. The result is how many there are now.

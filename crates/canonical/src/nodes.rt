@@ -80,16 +80,7 @@ fn node_count(nodes: &[u64], count: usize) -> usize
     ensures { (result ≤ 127) × (result ≤ length nodes.now)
         × (take result nodes.now ≡ take (min count 127) nodes.now) }
 {
-    let most = if count < MOST_NODES {
-        count
-    } else {
-        MOST_NODES
-    };
-    if most < nodes.len() {
-        most
-    } else {
-        nodes.len()
-    }
+    count.min(MOST_NODES).min(nodes.len())
 }
 
 // How many bits the first `count` nodes of a table have; of more than 127, the first 127.

@@ -80,21 +80,25 @@ fn mix_of(src: &[u8], at: usize, width: usize) -> u64
     mixed(mix, bits::number_at(src, at + WORD * words, width % WORD))
 }
 
-// The least table of a run with the members of table i. Tables with different mixes have different members.
+// Whether table j of a run has the members of a later table i. Tables with different mixes have different members.
+fn same_tables(src: &[u8], run: Run, mixes: &[u64; MOST_TABLES], i: usize, j: usize) -> bool
+    requires { Within run × (i < most_tables) × (j < i) × Mixes src.now run (i + 1) mixes.now }
+    ensures { result ≡ eqb (members_in src.now run j) (members_in src.now run i) }
+{
+    if mixes[j] != mixes[i] {
+        return false;
+    }
+    same_bits(src, table_cursor(run, j), table_cursor(run, i), run.width)
+}
+
+// The least table of a run with the members of table i.
 fn least_equal(src: &[u8], run: Run, mixes: &[u64; MOST_TABLES], i: usize) -> usize
     requires { Within run × (i < most_tables) × Mixes src.now run (i + 1) mixes.now }
     ensures { Least (members_in src.now run) i result }
 {
-    let at = table_cursor(run, i);
-    for j in 0..i {
-        if mixes[j] != mixes[i] {
-            continue;
-        }
-        if same_bits(src, table_cursor(run, j), at, run.width) {
-            return j;
-        }
-    }
-    i
+    (0..i)
+        .find(|j| same_tables(src, run, mixes, i, *j))
+        .unwrap_or(i)
 }
 
 // The least table with equal members for each of the first `count` tables of a run.

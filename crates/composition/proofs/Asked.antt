@@ -7,6 +7,7 @@ use native.Mathlib.Omega.{arith}
 use borrow.Author.Tests.{eqb-true, eq-eqb, not-true, not-false}
 use lib.Dec.{eqb}
 use lib.ListN.{length, get_or, replicate, get_or-append}
+use Rattle.std.specs.Prelude.{Result, Ok, Err, ⊤}
 use Rattle.states.specs.Search.{implies, all}
 use Rattle.states.proofs.Search.{and_left, and_right, and_both, bool_ext, all_intro, all_at, all_cong}
 use Rattle.semantics.specs.Derivations.{Spec}
@@ -15,8 +16,8 @@ use Rattle.handler.specs.declared.head.Head.{Head}
 use Rattle.handler.specs.Header.{head_of}
 use Rattle.joint.proofs.Sizes.{sizes_same}
 use Rattle.joint.specs.Joining.{root_spec}
-use Rattle.joint.specs.Composing.{Side, N, met_p_kept, second_allowed, first_allowed, limited, Composition, refused, plain, asked, same_sizes, stays_in, composition}
-use Rattle.composition.specs.Refinement.{first_unmet}
+use Rattle.joint.specs.Composing.{Side, N, met_p_kept, second_allowed, first_allowed, limited, Composition, asked, same_sizes, stays_in, composition}
+use Rattle.composition.specs.Refinement.{first_unmet, unless}
 
 -- Heads with equal counts are padded alike, so all four sizes can be compared.
 abbrev alike : Head → Head → Bool
@@ -53,27 +54,27 @@ from_every n p r q every = all_cong n _ _ (λ s l. rw (every s l))
 
 -- The conditions one after the other, as they are asked.
 module _ (n : ℕ) (a b : Spec) (x : Bool) (first : x ≡ relation_lies_in n b.G a.R) where
-  pub unmet_91 : not x ≡ true → 91 ≡ first_unmet n a b
+  pub unmet_91 : not x ≡ true → Err 91 ≡ first_unmet n a b
   unfolding first_unmet
   unmet_91 e = rw (sym first ∙ not-true x e)
 
   module _ (in-first : not x ≡ false) (y : Bool) (second : y ≡ relation_lies_in n a.G b.R) where
-    pub unmet_92 : not y ≡ true → 92 ≡ first_unmet n a b
+    pub unmet_92 : not y ≡ true → Err 92 ≡ first_unmet n a b
     unfolding first_unmet
     unmet_92 e = rw (sym first ∙ not-false x in-first, sym second ∙ not-true y e)
 
-    pub unmet_93 : not y ≡ false → (z held : Bool) → z ≡ (stays_in n (root_spec n a b).P a.G && stays_in n (root_spec n a b).P b.G) → z ≡ held → cond held 0 93 ≡ first_unmet n a b
+    pub unmet_93 : not y ≡ false → (z held : Bool) → z ≡ (stays_in n (root_spec n a b).P a.G && stays_in n (root_spec n a b).P b.G) → z ≡ held → cond held (Ok tt) (Err 93) ≡ first_unmet n a b
     unfolding first_unmet
     unmet_93 in-second z held third e = rw (sym first ∙ not-false x in-first, sym second ∙ not-false y in-second, sym third ∙ e)
 
 -- 91 to 93 of both roots' tables.
 module _ (h h' : List ℕ) (a b : Side) (steps : ℕ) where
-  abbrev unmet_here : ℕ
+  abbrev unmet_here : Result ⊤ ℕ
   unmet_here = first_unmet (N h h' a b) a.tables b.tables
 
   -- They are what the definition asks of both sides.
   pub asked_by_number : composition h h' a b steps
-      ≡ asked 90 (same_sizes a.sizes b.sizes) (cond (eqb unmet_here 0) (limited h h' a b steps) (refused 0 (plain unmet_here)))
+      ≡ asked 90 (same_sizes a.sizes b.sizes) (unless unmet_here (limited h h' a b steps))
   unfolding composition first_unmet
   asked_by_number =
       ap (asked 90 (same_sizes a.sizes b.sizes))
@@ -81,7 +82,7 @@ module _ (h h' : List ℕ) (a b : Side) (steps : ℕ) where
     where
       by : (x y z : Bool) (next : Composition)
           → asked 91 x (asked 92 y (asked 93 z next))
-          ≡ (let k = cond x (cond y (cond z 0 93) 92) 91 in cond (eqb k 0) next (refused 0 (plain k)))
+          ≡ unless (cond x (cond y (cond z (Ok tt) (Err 93)) (Err 92)) (Err 91)) next
       by true true true next = refl
       by true true false next = refl
       by true false z next = refl

@@ -4,7 +4,7 @@ use mathlib.Core.Bool.{true, false}
 use mathlib.Core.List.{List}
 use mathlib.Core.Path.{◌≡◌, refl, sym, ◌∙◌, subst}
 use native.Mathlib.Omega.{arith}
-use borrow.Author.Tests.{eq-eqb, ne_eqb}
+use Rattle.std.specs.Prelude.{Ok, Err}
 use lib.ListN.{length}
 use Rattle.semantics.specs.States.{product}
 use Rattle.handler.specs.declared.HandlerSummary.{HandlerSummary}
@@ -64,13 +64,13 @@ module _ (hb pb : List ℕ) (was : WasAccepted hb pb) where
     ready s f words of_handler of_form = record { states_are = states; of_handler = of_handler; of_form = of_form; room = room_of }
 
 module _ (n : ℕ) (h h' : List ℕ) (A B : Side) (steps : ℕ) where
-  pub met_not : (first_unmet n A.tables B.tables ≡ 0 → ⊥) → met_of n h h' A B steps ≡ refused 0 (plain (first_unmet n A.tables B.tables))
+  pub met_not : (k : ℕ) → first_unmet n A.tables B.tables ≡ Err k → met_of n h h' A B steps ≡ refused 0 (plain k)
   unfolding met_of
-  met_not some = rw (ne_eqb (first_unmet n A.tables B.tables) 0 some)
+  met_not k e = rw e
 
-  pub met_all : first_unmet n A.tables B.tables ≡ 0 → met_of n h h' A B steps ≡ limited h h' A B steps
+  pub met_all : first_unmet n A.tables B.tables ≡ Ok tt → met_of n h h' A B steps ≡ limited h h' A B steps
   unfolding met_of
-  met_all none = rw (eq-eqb (first_unmet n A.tables B.tables) 0 none)
+  met_all e = rw e
 
 -- The whole, by the sizes and by what both are asked.
 module _ (h h' : List ℕ) (A B : Side) (steps : ℕ) where

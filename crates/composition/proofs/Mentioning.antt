@@ -1,15 +1,24 @@
 -- Tables by first mention: where one is among the first tables of words, and what one more mention adds.
 use Prim.Native.Nat.{ℕ, zero, suc, ◌+◌, ◌-◌, ◌≤◌, ◌<◌}
-use mathlib.Core.Bool.{Bool, true, false}
+use mathlib.Core.Bool.{Bool, true, false, true≢false}
 use mathlib.Core.List.{List, [], ◌∷◌, ◌++◌, append-nil, append_assoc}
 use mathlib.Core.Path.{◌≡◌, refl, sym, ◌∙◌, ap, subst}
 use native.Mathlib.Nat.{add-zero, add-suc}
 use native.Mathlib.Numerals.{add-one}
 use native.Mathlib.Omega.{arith}
-use borrow.Author.Tests.{eq-eqb, ne_eqb, lt-ltb, le-ltb, ltb-true, ltb-false}
-use lib.Dec.{ltb}
+use borrow.Author.Tests.{eqb-true, eq-eqb, ne_eqb, lt-ltb, le-ltb, ltb-true, ltb-false}
+use denote.Bor.{Bor}
+use denote.Param.Members.{Mut}
+use lib.Dec.{eqb, ltb}
 use lib.ListN.{length, get_or, set, length-append, get_or-append}
 use lib.Seq.{get_or_at, get_or-set_same, get_or-set_other}
+use Rattle.std.specs.Prelude.{Option, Some, None, MatchOption}
+use Rattle.std.specs.declared.ops.Range.{Range}
+use Rattle.std.specs.Option.{unwrap_or}
+use Rattle.std.specs.Fn.{CalledAt}
+use Rattle.std.specs.Iterator.{FindsItem}
+use Rattle.std.proofs.iter.Yields.{nat_range_steps}
+use Rattle.std.proofs.lemmas.Iterator.{first_from_Range}
 use Rattle.states.proofs.Search.{below_cases}
 use Rattle.derivation.specs.Tables.{most_tables, tabulate}
 use Rattle.derivation.proofs.Buffers.{length_tabulate}
@@ -49,6 +58,28 @@ module _ (f : ℕ → ℕ) where
 
     pub nowhere : (count : ℕ) → is_in (tabulate count f) x ≡ false → place_in (tabulate count f) x ≡ count
     nowhere count out = place_past (tabulate count f) x out ∙ length_tabulate f count
+
+    -- None of the first k is x.
+    none_in : (k : ℕ) → ((i : ℕ) → 0 ≤ i → i < k → f i ≡ x → ⊥) → is_in (tabulate k f) x ≡ false
+    unfolding is_in tabulate
+    none_in zero out = refl
+    none_in (suc k) out =
+        ap (λ m. is_in (tabulate m f) x) (sym (add-one k))
+        ∙ not_yet k (none_in k (λ i z l. out i z (omega arith))) (out k (omega arith) (omega arith))
+
+    -- What `find` over a range gives, whose closure asks whether a table is x: the place of x.
+    pub place_found : {F : Type 0} {g : Mut F (Bor ℕ × Unit {0}) Bool} {h : F} (count : ℕ) (u : Range ℕ) (r : Option ℕ)
+        → FindsItem nat_range_steps g (record { start = 0; end = count }) h r u
+        → ((i : ℕ) (b : Bool) (q : F) → CalledAt g h i b q → (q ≡ h) × (b ≡ eqb (f i) x)) → unwrap_or r count ≡ place_in (tabulate count f) x
+    place_found count u r ran asked =
+        found r (first_from_Range _ u _ r (λ i. f i ≡ x) (λ i. f i ≡ x → ⊥) ran (λ i q k. eqb-true _ _ (sym (asked i true q k).1))
+        (λ i q k. ((asked i false q k).0, λ e. true≢false (sym (eq-eqb _ _ e) ∙ sym (asked i false q k).1))))
+      where
+        found : (r : Option ℕ) → MatchOption r ((i : ℕ) → 0 ≤ i → i < count → f i ≡ x → ⊥)
+            (λ k. (0 ≤ k) × (k < count) × (f k ≡ x) × ((i : ℕ) → 0 ≤ i → i < k → f i ≡ x → ⊥))
+            → unwrap_or r count ≡ place_in (tabulate count f) x
+        found (Some k) at = sym (found_at k count at.1 (none_in k at.3) at.2)
+        found None none = sym (nowhere count (none_in count none))
 
     -- A place below the count says that x is there; the count, that it is not.
     pub is_there_lem : (count : ℕ) → place_in (tabulate count f) x < count → is_in (tabulate count f) x ≡ true

@@ -9,15 +9,15 @@ use borrow.Author.Tests.{lt-ltb, le-ltb}
 use lib.Dec.{leb}
 use lib.ListN.{length, take, drop}
 use lib.Seq.{take_at}
+use Rattle.std.specs.Prelude.{Err}
 use Rattle.derivation.specs.Tables.{work_words}
 use Rattle.pair.specs.Limits.{too_long}
 use Rattle.pair.specs.Modes.{rows}
 use Rattle.checker.specs.declared.Fault.{Fault}
 use Rattle.checker.specs.Verdicts.{answer}
 use Rattle.composition.specs.declared.Made.{Made}
-use Rattle.composition.specs.declared.Composed.{Composed}
 use Rattle.joint.specs.Composing.{Composition, made, refused, plain, asked, compose, work_after, with_room, compose_into, handler_after, proof_after}
-use Rattle.composition.specs.Answers.{composed, MadeIsAccepted}
+use Rattle.composition.specs.Answers.{Composed, turned, composed, MadeIsAccepted}
 use Rattle.joint.proofs.Theorems.{made_accepted}
 
 module _ (h p h' p' : List ℕ) (work : List ℕ) where
@@ -83,6 +83,6 @@ module _ (h p h' p' work hout pout : List ℕ) where
 
   -- A refusal that writes nothing.
   pub untouched : (pair : ℕ) (f : Fault) → (compose h p h' p' (length work) ≡ refused pair f) × (work_after h p h' p' work ≡ work)
-      → (r : Composed) → r ≡ Composed.Refused pair f → Contract r work hout pout
+      → (r : Composed) → r ≡ Err (turned pair f) → Contract r work hout pout
   unfolding with_room
   untouched pair f e r is = contract r work hout pout (rw e.0 is) (sym e.1) (rw e.0) (rw e.0)

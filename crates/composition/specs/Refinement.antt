@@ -1,5 +1,5 @@
 -- What the private functions require and ensure. No public contract uses this.
-use Rattle.std.specs.Prelude.{ℕ, suc, ◌+◌, ◌-◌, ◌*◌, ◌^◌, ◌≤◌, ◌<◌, min, max, Bool, cond, ◌&&◌, List, [], ◌∷◌, ◌++◌, map, ◌≡◌, leb, eqb, length, take, get_or, Ok}
+use Rattle.std.specs.Prelude.{ℕ, suc, ◌+◌, ◌-◌, ◌*◌, ◌^◌, ◌≤◌, ◌<◌, min, max, Bool, cond, ◌&&◌, List, [], ◌∷◌, ◌++◌, map, ◌≡◌, leb, length, take, get_or, Result, Ok, Err, ⊤}
 use Rattle.writer.specs.Packing.{Part, part, width_of, bytes_for, packed}
 use Rattle.states.specs.Sets.{capacity, has}
 use Rattle.states.specs.Relations.{rel}
@@ -19,6 +19,7 @@ use Rattle.derivation.specs.NodeTable.{node_table}
 use Rattle.pair.specs.Limits.{most_handler_bytes, most_proof_bytes}
 use Rattle.pair.specs.Modes.{rows}
 use Rattle.rules.specs.Words.{word_set, word_relation, word_spec}
+use Rattle.checker.specs.declared.Verdict.TheVariants.{Accepted}
 use Rattle.checker.specs.Verdicts.{answer}
 use Rattle.report.specs.Code.{index_of}
 use Rattle.form.specs.Members.{node_by, set_where, relation_where}
@@ -26,7 +27,7 @@ use Rattle.form.specs.Mentions.{place_in, mentioned, all_mentioned}
 use Rattle.form.specs.Form.{sets_in, relations_in, numbered, parts_of}
 use Rattle.form.proofs.Forms.{Writable}
 use Rattle.canonical.specs.Nodes.{name_in, held_in}
-use Rattle.composition.specs.declared.Composed.{Composed}
+use Rattle.composition.specs.Answers.{Composed}
 use Rattle.composition.specs.declared.tables.Roots.{Roots}
 use Rattle.composition.specs.declared.forms.Form.{Form}
 use Rattle.composition.specs.declared.joining.Handlers.{Handlers}
@@ -90,7 +91,7 @@ pub record Merged (before xs after : List ℕ) (count : ℕ) (names : List ℕ) 
 pub record WasAccepted (hb pb : List ℕ) : Type 0 where
   pub words : ℕ
   pub steps : ℕ
-  pub accepted : (answer hb pb rows words).verdict ≡ Ok steps
+  pub accepted : (answer hb pb rows words).verdict ≡ Accepted steps
 
 -- What is taken from a pair of files over n states, as its proof file's one form holds it, with the tables in words.
 pub record Formed (n : ℕ) (side : Side) (words : List ℕ) (f : Form) : Type 0 where
@@ -190,11 +191,11 @@ form_read sets relations root d = record {
   nodes = node_table root d;
 }
 
--- The first of 91, 92 and 93 that the tables of two roots over n states do not meet, or 0.
-unfoldable pub first_unmet : ℕ → Spec → Spec → ℕ
+-- The first of 91, 92 and 93 that the tables of two roots over n states do not meet.
+unfoldable pub first_unmet : ℕ → Spec → Spec → Result ⊤ ℕ
 first_unmet n a b =
     let P = (root_spec n a b).P in
-    cond (relation_lies_in n b.G a.R) (cond (relation_lies_in n a.G b.R) (cond (stays_in n P a.G && stays_in n P b.G) 0 93) 92) 91
+    cond (relation_lies_in n b.G a.R) (cond (relation_lies_in n a.G b.R) (cond (stays_in n P a.G && stays_in n P b.G) (Ok tt) (Err 93)) (Err 92)) (Err 91)
 
 -- A statement that lies within a file.
 pub record Placed (s : HandlerSummary) : Type 0 where
@@ -214,9 +215,10 @@ pub record LengthsAre (n : ℕ) (x : Handlers) (f g : Form) (m : SetNumbers) (k 
 abbrev pub lengths_fit : ℕ → ℕ → ℕ → Bool
 lengths_fit handler proof steps = leb handler most_handler_bytes && leb proof most_proof_bytes && leb steps most_steps
 
--- 94 or 95 for files of these lengths and this step number, or 0.
-unfoldable pub length_fault : ℕ → ℕ → ℕ → ℕ → ℕ → ℕ
-length_fault handler proof steps room space = cond (lengths_fit handler proof steps) (cond (leb handler room && leb proof space) 0 95) 94
+-- 94 or 95, where files of these lengths and this step number have it.
+unfoldable pub length_fault : ℕ → ℕ → ℕ → ℕ → ℕ → Result ⊤ ℕ
+length_fault handler proof steps room space =
+    cond (lengths_fit handler proof steps) (cond (leb handler room && leb proof space) (Ok tt) (Err 95)) (Err 94)
 
 -- Both files where no count is over its limit: 94 is asked of their lengths and of the step number.
 abbrev pub if_fit : ℕ → List ℕ → List ℕ → Composition
@@ -263,12 +265,16 @@ pub record SameStates (n : ℕ) (h p h' p' : List ℕ) (x : Handlers) : Type 0 w
   pub first_handler : HandlerOf (side_of h p) x.first
   pub second_handler : HandlerOf (side_of h' p') x.second
 
+-- What follows where nothing is unmet, or the refusal of what is.
+abbrev pub unless : Result ⊤ ℕ → Composition → Composition
+unless (Ok x) next = next
+unless (Err k) next = refused 0 (plain k)
+
 -- The result over the same variables: 91 to 93, then the rest.
 unfoldable pub met_of : ℕ → List ℕ → List ℕ → Side → Side → ℕ → Composition
-met_of n h h' A B steps =
-    cond (eqb (first_unmet n A.tables B.tables) 0) (limited h h' A B steps) (refused 0 (plain (first_unmet n A.tables B.tables)))
+met_of n h h' A B steps = unless (first_unmet n A.tables B.tables) (limited h h' A B steps)
 
 -- An answer whose parts are small enough for one number of 64 bits.
 abbrev pub Small : Composed → Type 0
-Small (Composed.Made m) = (m.steps < 2 ^ 32) × (m.handler ≤ most_handler_bytes) × (m.proof ≤ most_proof_bytes)
-Small (Composed.Refused pair f) = (pair ≤ 2) × (0 < f.number) × (f.number ≤ 95) × (index_of f.place < 2 ^ 32)
+Small (Ok m) = (m.steps < 2 ^ 32) × (m.handler ≤ most_handler_bytes) × (m.proof ≤ most_proof_bytes)
+Small (Err t) = (t.pair ≤ 2) × (0 < t.fault.number) × (t.fault.number ≤ 95) × (index_of t.fault.place < 2 ^ 32)

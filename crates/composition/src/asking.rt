@@ -48,20 +48,26 @@ fn both_stay(n: u32, first: &[u64], a: Names, second: &[u64], b: Names) -> bool
     leads_into(n, first, p, a.g, p) & leads_into(n, second, p, b.g, p)
 }
 
-// The number of the first condition on both roots that does not hold, or 0.
-pub(crate) fn unmet(n: u32, first: &[u64], a: Names, second: &[u64], b: Names) -> u32
+// Asks the conditions on both roots. The `Err` is the number of the first that does not hold.
+pub(crate) fn ask_roots(
+    n: u32,
+    first: &[u64],
+    a: Names,
+    second: &[u64],
+    b: Names,
+) -> Result<(), u32>
     requires { n ≤ capacity }
     ensures { result ≡ first_unmet n (word_spec n first.now a) (word_spec n second.now b) }
 {
     if !lies_across(n, second, b.g, first, a.r) {
-        return SECOND_NOT_ALLOWED;
+        return Err(SECOND_NOT_ALLOWED);
     }
     if !lies_across(n, first, a.g, second, b.r) {
-        return FIRST_NOT_ALLOWED;
+        return Err(FIRST_NOT_ALLOWED);
     }
     if both_stay(n, first, a, second, b) {
-        0
+        Ok(())
     } else {
-        P_LEFT
+        Err(P_LEFT)
     }
 }

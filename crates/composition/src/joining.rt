@@ -1,6 +1,8 @@
 // Both files of the result, where no limit is passed and there is room for them.
-ghost use Rattle.std.specs.Prelude.{◌≡◌, ◌≤◌, max, length};
+ghost use Rattle.std.specs.Prelude.{◌≡◌, ◌≤◌, length, OnOk};
 ghost use Rattle.states.specs.Sets.{capacity};
+ghost use Rattle.semantics.specs.StepNumber.{most_steps};
+ghost use Rattle.pair.specs.Limits.{most_handler_bytes, most_proof_bytes};
 ghost use Rattle.derivation.specs.Tables.{most_tables, work_words};
 ghost use Rattle.joint.specs.Composing.{Side, limited, handler_after, proof_after, with_room};
 ghost use Rattle.composition.specs.Answers.{composed};
@@ -11,7 +13,7 @@ use crate::numbering::{RelationNumbers, SetNumbers, number_relations, number_set
 use crate::proof::{proof_bits, write_proof};
 use crate::tables::roots_of;
 use crate::writing::{file_bytes, write_handler};
-use crate::{Composed, Made, refused};
+use crate::{Composed, Made, refusal};
 use checker::MOST_STEPS;
 use derivation::{MOST_LEVELS, MOST_NODES, MOST_TABLES, ProofHead};
 use handler::{HandlerSummary, MOST_STATEMENT_LEVELS, MOST_STATEMENTS};
@@ -59,18 +61,21 @@ fn measure(n: u32, both: Handlers, f: Form, g: Form, m: SetNumbers, k: RelationN
     Lengths { handler, proof }
 }
 
-// 94 where a length or the step number is over its limit, 95 where a buffer is too short, or 0.
-fn length_fault(l: Lengths, steps: u64, room: usize, space: usize) -> u32
-    ensures { result ≡ length_fault l.handler l.proof steps room space }
+// Asks the limits of the lengths and of the step number, and room for both files. The `Err` is 94 or 95.
+#[tactic(auto, unfolding(crate::specs::Refinement::length_fault))]
+fn ask_lengths(l: Lengths, steps: u64, room: usize, space: usize) -> Result<(), u32>
+    ensures answer { result ≡ length_fault l.handler l.proof steps room space }
+    ensures within { OnOk result ((l.handler ≤ most_handler_bytes) × (l.proof ≤ most_proof_bytes) × (steps ≤ most_steps)
+        × (l.handler ≤ room) × (l.proof ≤ space)) }
 {
     let fit = (l.handler <= MOST_HANDLER_BYTES) & (l.proof <= MOST_PROOF_BYTES);
     if fit & (steps <= MOST_STEPS) {
         if (l.handler <= room) & (l.proof <= space) {
-            return 0;
+            return Ok(());
         }
-        return SHORT_BUFFER;
+        return Err(SHORT_BUFFER);
     }
-    LIMIT_PASSED
+    Err(LIMIT_PASSED)
 }
 
 // Writes both files, whose lengths are known before the first byte is written.
@@ -98,26 +103,16 @@ pub(crate) fn write_both(
         (relations_held n relations.now k.right.count) k) (length hout.old) (length pout.old)) pout.old }
 {
     let l = measure(n, both, f, g, m, k);
-    let fault = length_fault(l, both.steps, hout.len(), pout.len());
-    if fault != 0 {
-        return refused(0, fault);
-    }
+    ask_lengths(l, both.steps, hout.len(), pout.len())?;
     let a = both.first;
     let b = both.second;
     write_handler(first, a.at, a.end, second, b.at, b.end, hout);
     write_proof(n, sets, m, relations, k, f, g, l.proof, pout);
-    Composed::Made(Made {
+    Ok(Made {
         steps: both.steps as u32,
         handler: l.handler as u32,
         proof: l.proof as u32,
     })
-}
-
-// The larger of two numbers.
-fn higher(a: u32, b: u32) -> u32
-    ensures { result ≡ max a b }
-{
-    if a < b { b } else { a }
 }
 
 // Whether the result is within the limits of counts and levels, and has at most 16 sets and 16 relations.
@@ -127,9 +122,9 @@ fn is_small(both: Handlers, f: ProofHead, g: ProofHead, sets: usize, relations: 
     let a = both.first;
     let b = both.second;
     let statements = a.statements as u64 + b.statements as u64 + 1;
-    let levels = higher(a.levels, b.levels) as u64 + 1;
+    let levels = a.levels.max(b.levels) as u64 + 1;
     let nodes = f.nodes as u64 + g.nodes as u64 + 3;
-    let depth = higher(f.levels, g.levels) as u64 + 2;
+    let depth = f.levels.max(g.levels) as u64 + 2;
     (statements <= STATEMENTS)
         & (levels <= STATEMENT_LEVELS)
         & (nodes <= NODES)
@@ -194,6 +189,6 @@ pub(crate) fn join(
             pout,
         )
     } else {
-        refused(0, LIMIT_PASSED)
+        Err(refusal(0, LIMIT_PASSED))
     }
 }

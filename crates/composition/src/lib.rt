@@ -4,13 +4,12 @@
 ghost use Rattle.std.specs.Prelude.{false, ◌≡◌, ◌≤◌, length};
 ghost use Rattle.derivation.specs.Tables.{work_words, written};
 ghost use Rattle.pair.specs.Limits.{too_long};
-ghost use Rattle.composition.specs.declared.Composed.TheVariants.{Refused};
 ghost use Rattle.composition.specs.Coding.{number_of, of_number, without_states};
 ghost use Rattle.joint.specs.Composing.{plain, compose_into, work_after, handler_after, proof_after};
-ghost use Rattle.composition.specs.Answers.{composed, MadeIsAccepted};
+ghost use Rattle.composition.specs.Answers.{turned, composed, MadeIsAccepted};
 ghost use Rattle.composition.specs.Refinement.{Small};
 
-use checker::{Fault, Place, WORK_WORDS, check};
+use checker::{Fault, Place, Verdict, WORK_WORDS, check};
 use derivation::words::clear;
 use pair::{rows, too_long};
 use pairs::compose_accepted;
@@ -35,25 +34,36 @@ pub struct Made {
     pub proof: u32,
 }
 
-// The result: what was written; or the fault for which nothing was, with the pair whose fault it is, 1 or 2, or 0 for neither.
+// The fault for which nothing was written, and the pair whose fault it is, 1 or 2, or 0 for neither. The pair stays a number: `number_of` and
+// `of_number` of specs/Coding are over it.
 #[derive(Clone, Copy)]
-pub enum Composed {
-    Made(Made),
-    Refused(u32, Fault),
+pub struct Turned {
+    pub pair: u32,
+    pub fault: Fault,
 }
 
+// The result: what was written, or why nothing was.
+pub type Composed = Result<Made, Turned>;
+
 // A refusal at bit 0, with no states.
-fn refused(pair: u32, number: u32) -> Composed
-    ensures { result ≡ Refused pair (plain number) }
+fn refusal(pair: u32, number: u32) -> Turned
+    ensures { result ≡ turned pair (plain number) }
 {
-    Composed::Refused(
-        pair,
-        Fault {
-            number,
-            place: Place::Bit(0),
-            states: Named::Nothing,
-        },
-    )
+    let fault = Fault {
+        number,
+        place: Place::Bit(0),
+        states: Named::Nothing,
+    };
+    Turned { pair, fault }
+}
+
+// What is asked of both pairs together is refused by its number alone: it is about neither pair.
+impl From<u32> for Turned {
+    ghost from_gives = { λ number t. t ≡ turned 0 (plain number) };
+
+    fn from(number: u32) -> Turned {
+        refusal(0, number)
+    }
 }
 
 // The numbers of the first refusals: too few work words, and a file that is over its length.
@@ -82,10 +92,10 @@ fn compose_checked(
 {
     let mode = rows();
     match check(h1, p1, mode, work) {
-        Err(fault) => Composed::Refused(1, fault),
-        Ok(steps) => match check(h2, p2, mode, work) {
-            Err(fault) => Composed::Refused(2, fault),
-            Ok(more) => compose_accepted(h1, p1, steps, h2, p2, more, hout, pout),
+        Verdict::Refused(fault) => Err(Turned { pair: 1, fault }),
+        Verdict::Accepted(steps) => match check(h2, p2, mode, work) {
+            Verdict::Refused(fault) => Err(Turned { pair: 2, fault }),
+            Verdict::Accepted(more) => compose_accepted(h1, p1, steps, h2, p2, more, hout, pout),
         },
     }
 }
@@ -111,13 +121,13 @@ pub fn compose(
     ensures accepted { MadeIsAccepted result hout.new pout.new }
 {
     if work.len() < WORK_WORDS {
-        return refused(0, FEW_WORDS);
+        return Err(refusal(0, FEW_WORDS));
     }
     if too_long(h1, p1) {
-        return refused(1, LONG_FILE);
+        return Err(refusal(1, LONG_FILE));
     }
     if too_long(h2, p2) {
-        return refused(2, LONG_FILE);
+        return Err(refusal(2, LONG_FILE));
     }
     let answer = compose_checked(h1, p1, h2, p2, work, hout, pout);
     clear(work);
@@ -140,10 +150,10 @@ fn number_of(answer: Composed) -> u64
     ensures { result ≡ number_of answer }
 {
     match answer {
-        Composed::Made(made) => made.steps as u64
-            + HANDLERS * made.handler as u64
-            + PROOFS * made.proof as u64,
-        Composed::Refused(pair, fault) => REFUSED + PAIRS * pair as u64 + code_of(Err(fault)),
+        Ok(made) => made.steps as u64 + HANDLERS * made.handler as u64 + PROOFS * made.proof as u64,
+        Err(turned) => REFUSED
+            + PAIRS * turned.pair as u64
+            + code_of(Verdict::Refused(turned.fault)),
     }
 }
 

@@ -6,10 +6,10 @@ ghost use Rattle.joint.specs.Composing.{side_of, composition, handler_after, pro
 ghost use Rattle.composition.specs.Answers.{composed};
 ghost use Rattle.composition.specs.Refinement.{WasAccepted, SameStates, met_of};
 
-use crate::asking::{same_sizes, unmet};
+use crate::asking::{ask_roots, same_sizes};
 use crate::forms::load_form;
 use crate::joining::{Handlers, join};
-use crate::{Composed, refused};
+use crate::{Composed, refusal};
 use checker::WORK_WORDS;
 use handler::HandlerSummary;
 use pair::{PairFound, read_pair};
@@ -62,10 +62,7 @@ fn compose_sides(
     let mut others = [0u64; WORK_WORDS];
     let f = load_form(h1, p1, n, &mut words);
     let g = load_form(h2, p2, n, &mut others);
-    let fault = unmet(n, &words, f.names, &others, g.names);
-    if fault != 0 {
-        return refused(0, fault);
-    }
+    ask_roots(n, &words, f.names, &others, g.names)?;
     let mut relations = [0u64; WORK_WORDS];
     join(
         n,
@@ -116,6 +113,6 @@ pub(crate) fn compose_accepted(
         };
         compose_sides(first.states, h1, p1, h2, p2, both, hout, pout)
     } else {
-        refused(0, OTHER_SIZES)
+        Err(refusal(0, OTHER_SIZES))
     }
 }

@@ -1,9 +1,10 @@
 // The tables of the result, by first mention: a table that is mentioned is looked up among those that are there, and added if it is new.
 // Sets are kept in words of their own, relations in the words that are lent for them, laid out as the check lays them out.
-ghost use Rattle.std.specs.Prelude.{List, ◌≡◌, ℕ, ◌+◌, ◌*◌, ◌≤◌, ◌<◌, length};
+ghost use Rattle.std.specs.Prelude.{List, ◌≡◌, ℕ, ◌+◌, ◌*◌, ◌≤◌, ◌<◌, eqb, length};
 ghost use Rattle.states.specs.Sets.{set_words, capacity, has};
 ghost use Rattle.states.specs.Relations.{rel};
 ghost use Rattle.derivation.specs.Tables.{most_tables, work_words};
+ghost use Rattle.rules.specs.Words.{word_set, word_relation};
 ghost use Rattle.form.specs.Members.{set_where, relation_where};
 ghost use Rattle.form.specs.Mentions.{place_in};
 ghost use Rattle.composition.specs.Refinement.{sets_held, relations_held, RelationStored, Kept, Mentioned, ThreeMentioned, Merged};
@@ -30,17 +31,21 @@ pub(crate) struct Three {
     pub count: usize,
 }
 
+// Whether set i of the pool is a set.
+fn is_set(n: u32, pool: &[u64], i: u32, set: StateSet) -> bool
+    ensures { result ≡ eqb (set_where n (word_set n pool.now i)) (set_where n (has set)) }
+{
+    same_set(n, set_at(n, pool, i), set)
+}
+
 // The place of a set among the first `count`; `count` if it is not there.
 fn place_of_set(n: u32, pool: &[u64], count: usize, set: StateSet) -> usize
     requires { count ≤ most_tables }
     ensures { result ≡ place_in (sets_held n pool.now count) (set_where n (has set)) }
 {
-    for i in 0..count {
-        if same_set(n, set_at(n, pool, i as u32), set) {
-            return i;
-        }
-    }
-    count
+    (0..count)
+        .find(|i| is_set(n, pool, *i as u32, set))
+        .unwrap_or(count)
 }
 
 // A mention of a set.
@@ -91,17 +96,21 @@ pub(crate) fn mention_sets(
     total
 }
 
+// Whether relation i of the pool has some rows.
+fn is_relation(n: u32, pool: &[u64], i: u32, rows: &[u64]) -> bool
+    ensures { result ≡ eqb (relation_where n (word_relation n pool.now i)) (relation_where n (rel n rows.now)) }
+{
+    same_members(n, rows_of(pool, i), rows)
+}
+
 // The place of a relation among the first `count`; `count` if it is not there.
 fn place_of_relation(n: u32, pool: &[u64], count: usize, rows: &[u64]) -> usize
     requires { count ≤ most_tables }
     ensures { result ≡ place_in (relations_held n pool.now count) (relation_where n (rel n rows.now)) }
 {
-    for i in 0..count {
-        if same_members(n, rows_of(pool, i as u32), rows) {
-            return i;
-        }
-    }
-    count
+    (0..count)
+        .find(|i| is_relation(n, pool, *i as u32, rows))
+        .unwrap_or(count)
 }
 
 // Stores the rows of a relation as relation `index`.

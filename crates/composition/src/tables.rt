@@ -1,7 +1,7 @@
 // The tables of the composition's root and of its two weaken nodes, from the tables of both roots. A relation is given by its rows.
 ghost use Rattle.std.specs.Prelude.{◌≡◌, ◌&&◌, ◌||◌, ℕ, ◌≤◌, ◌<◌};
 ghost use Rattle.states.specs.Sets.{capacity, has};
-ghost use Rattle.states.specs.Relations.{rel, reach as reachOf};
+ghost use Rattle.states.specs.Relations.{rel, reach as reaches};
 ghost use Rattle.rules.specs.Words.{word_spec};
 ghost use Rattle.composition.specs.Refinement.{Joint};
 
@@ -43,7 +43,7 @@ fn joined(n: u32, a: &[u64], b: &[u64]) -> [u64; RELATION_WORDS]
 // The ends of both Q at a state of P that are reached from it by the moves.
 fn post_at(n: u32, p: StateSet, a: &[u64], b: &[u64], moves: &[u64], s: u32) -> StateSet
     requires { s < capacity }
-    ensures { (t : ℕ) → has result t ≡ (has p s && rel n a.now s t && rel n b.now s t && reachOf n (rel n moves.now) s t) }
+    ensures { (t : ℕ) → has result t ≡ (has p s && rel n a.now s t && rel n b.now s t && reaches n (rel n moves.now) s t) }
 {
     if p.holds_state(s) {
         let both = row(n, a, s).meet(row(n, b, s));
@@ -56,7 +56,7 @@ fn post_at(n: u32, p: StateSet, a: &[u64], b: &[u64], moves: &[u64], s: u32) -> 
 // The pairs of both Q that start in P and end in a state that the moves reach from the start.
 fn post(n: u32, p: StateSet, a: &[u64], b: &[u64], moves: &[u64]) -> [u64; RELATION_WORDS]
     ensures { n ≤ capacity → (s t : ℕ) → rel n result s t
-        ≡ (has p s && rel n a.now s t && rel n b.now s t && reachOf n (rel n moves.now) s t) }
+        ≡ (has p s && rel n a.now s t && rel n b.now s t && reaches n (rel n moves.now) s t) }
 {
     let mut rows = [0u64; RELATION_WORDS];
     for s in 0..CAPACITY {

@@ -4,7 +4,6 @@ use super::{
     ARGUMENT_BYTES, HANDLER_BYTES, PROOF_BYTES, Reading, argument, print_front, read_argument,
 };
 use checker::{Verdict, WORK_WORDS};
-use composition::Composed;
 use pair::{MOST_HANDLER_BYTES, MOST_PROOF_BYTES};
 
 // The arguments that name the first of the files to be read and of those to be written.
@@ -42,7 +41,7 @@ fn compose_files(rt: &HostRuntime, h1: &[u8], p1: &[u8], h2: &[u8], p2: &[u8]) {
     let mut proof = [0u8; MOST_PROOF_BYTES];
     let composed = composition::compose(h1, p1, h2, p2, &mut work, &mut handler, &mut proof);
     match composed {
-        Composed::Made(made) => {
+        Ok(made) => {
             if save_arguments(
                 rt,
                 &handler[..made.handler as usize],
@@ -51,8 +50,8 @@ fn compose_files(rt: &HostRuntime, h1: &[u8], p1: &[u8], h2: &[u8], p2: &[u8]) {
                 print_composed(rt, made.steps);
             }
         }
-        Composed::Refused(pair, fault) => {
-            print_pair(rt, Err(fault), pair);
+        Err(turned) => {
+            print_pair(rt, Verdict::Refused(turned.fault), turned.pair);
         }
     }
 }

@@ -1,8 +1,9 @@
 -- The first refusals write nothing; after both checks the table words are cleared.
 use mathlib.Core.Bool.{false}
-use mathlib.Core.Path.{◌≡◌, sym, ◌∙◌}
+use mathlib.Core.Path.{◌≡◌, sym, ◌∙◌, ap}
 use native.Mathlib.Omega.{arith}
 use borrow.Author.Rules.{rules}
+use Rattle.std.specs.Prelude.{Err}
 use Rattle.pair.specs.Limits.{too_long}
 use Rattle.joint.specs.Composing.{plain}
 use Rattle.joint.proofs.Words.{tables_cleared}
@@ -22,7 +23,7 @@ pub returns-then-work-lt-WORK_WORDS : goal.returns-then-work-lt-WORK_WORDS
 returns-then-work-lt-WORK_WORDS c = let a = c.args in
     let u = untouched a.h1.now a.p1.now a.h2.now a.p2.now a.work.now a.hout.now a.pout.now 0 (plain 1)
     (few_words a.h1.now a.p1.now a.h2.now a.p2.now a.work.now (search rules))
-    _ c.refused.ensures
+    _ (ap Err c.refusal.ensures)
     in
     record { answer = u.0; words = u.1.0; handler = u.1.1.0; proof = u.1.1.1.0; accepted = u.1.1.1.1 }
 
@@ -30,7 +31,7 @@ pub returns-then-too_long : goal.returns-then-too_long
 returns-then-too_long c = let a = c.args in
     let u = untouched a.h1.now a.p1.now a.h2.now a.p2.now a.work.now a.hout.now a.pout.now 1 (plain 2)
     (first_long a.h1.now a.p1.now a.h2.now a.p2.now a.work.now (omega arith) (sym c.too_long.ensures ∙ c.if-too_long.true))
-    _ c.refused-then-too_long.ensures
+    _ (ap Err c.refusal-then-too_long.ensures)
     in
     record { answer = u.0; words = u.1.0; handler = u.1.1.0; proof = u.1.1.1.0; accepted = u.1.1.1.1 }
 
@@ -40,7 +41,7 @@ returns-then-too_long-2 c = let two = (goal.at.returns-then-too_long-2 c).After-
     let long = sym c.too_long-2.ensures ∙ c.if-too_long-2.true in
     let u = untouched a.h1.now a.p1.now a.h2.now a.p2.now a.work.now a.hout.now a.pout.now 2 (plain 2)
     (second_long a.h1.now a.p1.now a.h2.now a.p2.now a.work.now (omega arith) (first_short two) long)
-    _ c.refused-then-too_long-2.ensures
+    _ (ap Err c.refusal-then-too_long-2.ensures)
     in
     record { answer = u.0; words = u.1.0; handler = u.1.1.0; proof = u.1.1.1.0; accepted = u.1.1.1.1 }
 

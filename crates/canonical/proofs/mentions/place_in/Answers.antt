@@ -1,30 +1,16 @@
--- None of the first k entries is x.
-use mathlib.Core.Path.{◌≡◌, refl, sym}
-use native.Mathlib.Omega.{arith}
-use borrow.Author.Rules.{rules}
-use Rattle.form.specs.Mentions.{is_in}
-use Rattle.canonical.proofs.Order.{not_yet, found_at, nowhere}
+-- `position` gives the first entry that is x.
+use mathlib.Core.Path.{◌≡◌, sym, ◌∙◌, ap}
+use lib.ListN.{take}
+use lib.Seq.{length-take-le}
+use Rattle.std.specs.Option.{unwrap_or}
+use Rattle.std.proofs.Common.{rules, tests}
+use Rattle.std.proofs.lemmas.Iterator.{IsFirst-from_position, YieldsList-from_slice}
+use Rattle.canonical.proofs.Order.{place_first}
 use Rattle.canonical.proofs.mentions.place_in.Goals as goal
 
-pub loop-k-init : goal.loop-k-init
-unfolding is_in
-loop-k-init c = (omega arith, refl)
-
-pub returns-then-order-k : goal.returns-then-order-k
-unfolding is_in
-returns-then-order-k c = let a = c.args in
-    let l = c.loop-k in
-    sym (found_at a.order.now a.x l.k a.count (search rules) (search rules) l.invariant.1 c.if-order-k.true)
-
-pub loop-k-preserved : goal.loop-k-preserved
-unfolding is_in
-loop-k-preserved c = let a = c.args in
-    let l = c.loop-k in
-    (omega arith, not_yet a.order.now a.x l.k (omega arith) l.invariant.1 c.if-order-k.false)
-
 pub returns : goal.returns
-unfolding is_in
 returns c = let a = c.args in
-    let l = c.loop-k in
-    let all : l.k ≡ a.count = omega arith in
-    sym (nowhere a.order.now a.x a.count (search rules) (rw all at l.invariant.1))
+    let first = IsFirst-from_position _ _ c.position.result (λ y. y ≡ a.x) (λ y. y ≡ a.x → ⊥) c.position.ensures.ran
+    (YieldsList-from_slice (take a.count a.order.now) cc) (λ y q k. search (rules, tests)) (λ y q k. search (rules, tests))
+    in
+    c.unwrap_or.ensures ∙ ap (unwrap_or c.position.result) (sym (length-take-le a.count a.order.now c.requires)) ∙ sym (place_first a.x _ _ first)

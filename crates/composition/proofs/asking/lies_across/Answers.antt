@@ -12,10 +12,8 @@ use Rattle.composition.proofs.asking.lies_across.Goals as goal
 pub returns : goal.returns
 unfolding word_relation
 returns c =
-    let from = c in
-    let start = from in
-    let n = start.args.n in
+    let n = c.args.n in
     c.included_from.ensures
-    ∙ (λ i. all n (λ s. implies (has from.below.result s)
+    ∙ (λ i. all n (λ s. implies (has c.below.result s)
     (all n (λ t. implies (rel n (c.rows_of.ensures i) s t) (rel n (c.rows_of-2.ensures i) s t)))))
-    ∙ from_every n _ _ _ (λ s l. from.below.ensures s ∙ rw (lt-ltb s capacity (omega (arith, start.requires)), lt-ltb s n l))
+    ∙ from_every n _ _ _ (λ s l. c.below.ensures s ∙ rw (lt-ltb s capacity (omega (arith, c.requires)), lt-ltb s n l))

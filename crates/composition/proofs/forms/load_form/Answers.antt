@@ -9,20 +9,16 @@ use Rattle.composition.proofs.forms.load_form.Goals as goal
 
 pub slice_bounds-bytes-end : goal.slice_bounds-bytes-end
 slice_bounds-bytes-end c =
-    let wrote = c in
-    let start = wrote in
-    front_fits _ _ start.requires.0 _ (length-replicate {A = ℕ} most_proof_bytes 0) _ wrote.write_form.ensures.answer _ c.written_bytes-length.ensures _
-    wrote.write_form.ensures.bytes
+    front_fits _ _ c.requires.0 _ (length-replicate {A = ℕ} most_proof_bytes 0) _ c.write_form.ensures.answer _ c.written_bytes-length.ensures _
+    c.write_form.ensures.bytes
 
 pub slice_bounds-load_file-end : goal.slice_bounds-load_file-end
 slice_bounds-load_file-end c = sym (length-take-le _ _ (front_fits _ _ c.requires.0 _ (length-replicate {A = ℕ} most_proof_bytes 0) _ c.write_form.ensures.answer _ c.written_bytes-length.ensures _
     c.write_form.ensures.bytes))
 
 pub returns : goal.returns
-returns c = let load = c in
-    let count = load in
-    let wrote = count in
-    let pre = wrote.requires in
-    let front = front_is _ _ pre.0 _ (length-replicate {A = ℕ} most_proof_bytes 0) _ wrote.write_form.ensures.answer _ count.written_bytes-length.ensures _
-    wrote.write_form.ensures.bytes in
-    form_loaded _ _ pre.0 _ pre.2 _ _ _ pre.1 _ front load.load_file.ensures.answer load.load_file.ensures.tables
+returns c =
+    let pre = c.requires in
+    let front = front_is _ _ pre.0 _ (length-replicate {A = ℕ} most_proof_bytes 0) _ c.write_form.ensures.answer _ c.written_bytes-length.ensures _
+    c.write_form.ensures.bytes in
+    form_loaded _ _ pre.0 _ pre.2 _ _ _ pre.1 _ front c.load_file.ensures.answer c.load_file.ensures.tables

@@ -2,17 +2,17 @@
 use Prim.Native.Nat.{ℕ}
 use mathlib.Core.Bool.{true, false}
 use mathlib.Core.List.{List, []}
-use mathlib.Core.Path.{◌≡◌, sym, ◌∙◌}
+use mathlib.Core.Path.{◌≡◌, sym, ◌∙◌, ap}
 use native.Mathlib.Omega.{arith}
 use lib.ListN.{length}
+use Rattle.std.specs.Prelude.{Err}
 use Rattle.states.specs.Sets.{has}
 use Rattle.states.specs.Relations.{rel}
 use Rattle.derivation.proofs.Buffers.{length_tabulate}
 use Rattle.form.specs.Members.{set_where, relation_where}
 use Rattle.joint.specs.Composing.{Side, plain, limited}
 use Rattle.rules.specs.Words.{word_relation, word_spec}
-use Rattle.composition.specs.declared.Composed.{Composed}
-use Rattle.composition.specs.declared.Composed.TheVariants.{Refused}
+use Rattle.composition.specs.Answers.{Composed, turned}
 use Rattle.composition.specs.declared.forms.Form.{Form}
 use Rattle.composition.specs.declared.joining.Handlers.{Handlers}
 use Rattle.composition.specs.declared.numbering.SetNumbers.{SetNumbers}
@@ -63,7 +63,7 @@ module _ (n : ℕ) (both : Handlers) (f g : Form) (words others : List ℕ) (roo
     files few =
         leaves_same hout pout _ _ (limited_is n A B both f g words others ra rb m k S T are_sets are_relations long_S long_T h h' few)
 
-    no_files : small_counts both.first both.second f.head g.head m.count k.right.count ≡ false → (r : Composed) → r ≡ Refused 0 (plain 94)
+    no_files : small_counts both.first both.second f.head g.head m.count k.right.count ≡ false → (r : Composed) → r ≡ Err (turned 0 (plain 94))
         → Leaves hout pout (limited h h' A B both.steps) r hout pout
     no_files many =
         leaves_refused hout pout _ 0 (plain 94)
@@ -118,7 +118,7 @@ returns-else-is_small c =
     let many = sym c.is_small.ensures ∙ c.if-is_small.false in
     let all = λ (A B : Side) (x : Ready a.n A a.both.first a.f a.words.now) (y : Ready a.n B a.both.second a.g a.others.now).
     no_files a.n a.both a.f a.g a.words.now a.others.now _ c.roots_of-roots.ensures _ _ _ _ c.number_sets-m.ensures
-    c.number_relations-k.ensures A B x y a.first.now a.second.now a.hout.now a.pout.now many _ c.refused.ensures
+    c.number_relations-k.ensures A B x y a.first.now a.second.now a.hout.now a.pout.now many _ (ap Err c.refusal.ensures)
     in
     record {
       answer = λ A B x y. (all A B x y).0;

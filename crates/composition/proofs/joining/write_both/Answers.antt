@@ -4,21 +4,23 @@ use mathlib.Core.List.{List}
 use mathlib.Core.Path.{◌≡◌, sym, ◌∙◌, ap}
 use native.Mathlib.Omega.{arith}
 use lib.ListN.{length}
+use Rattle.std.specs.Prelude.{Ok, Err}
+use Rattle.std.proofs.lemmas.Result.{err_from_is_err_and}
 use Rattle.writer.specs.Packing.{bytes_for, packed}
 use Rattle.writer.proofs.Packed.{length_packed}
 use Rattle.derivation.proofs.Buffers.{length_tabulate}
-use Rattle.composition.specs.declared.Composed.TheVariants.{Made, Refused}
 use Rattle.composition.specs.declared.forms.Form.{Form}
 use Rattle.composition.specs.declared.joining.Handlers.{Handlers}
 use Rattle.composition.specs.declared.joining.Lengths.{Lengths}
 use Rattle.composition.specs.declared.numbering.SetNumbers.{SetNumbers}
 use Rattle.composition.specs.declared.numbering.RelationNumbers.{RelationNumbers}
-use Rattle.joint.specs.Composing.{plain, handler_after, proof_after}
+use Rattle.joint.specs.Composing.{handler_after, proof_after}
 use Rattle.composition.specs.Answers.{composed}
 use Rattle.composition.specs.Refinement.{LengthsAre, sets_held, relations_held, node_parts, proof_parts, both_parts, length_fault}
 use Rattle.composition.proofs.HandlerFields.{width_handler}
 use Rattle.composition.proofs.NewNodes.{proof_length}
-use Rattle.composition.proofs.Deciding.{no_fault, some_fault, Within, within_all}
+use Rattle.composition.proofs.Deciding.{by_fault}
+use Rattle.composition.proofs.joining.write_both.Goals.{After-ask_lengths}
 use Rattle.composition.proofs.joining.write_both.Goals as goal
 
 -- Both files and their lengths.
@@ -42,68 +44,47 @@ module _ (n : ℕ) (first second : List ℕ) (both : Handlers) (f g : Form) (set
         ≡ length_fault (length handler_of) (length proof_of) both.steps room space
     fault_is room space = λ i. length_fault (handler_length i) (proof_long i) both.steps room space
 
--- The answer is that of the fault.
-pub returns-then-fault-ne0 : goal.returns-then-fault-ne0
-returns-then-fault-ne0 c =
+-- What the fault says of the files.
+fault_of : (c : After-ask_lengths) → let a = c.args in
+    length_fault (length (handler_of a.n a.first.now a.second.now a.both a.f a.g a.sets.now a.m a.relations.now a.k))
+    (length (proof_of a.n a.first.now a.second.now a.both a.f a.g a.sets.now a.m a.relations.now a.k)) a.both.steps (length a.hout.now) (length a.pout.now)
+    ≡ c.ask_lengths.result
+fault_of c =
     let a = c.args in
-    let H = handler_of a.n a.first.now a.second.now a.both a.f a.g a.sets.now a.m a.relations.now a.k in
-    let P = proof_of a.n a.first.now a.second.now a.both a.f a.g a.sets.now a.m a.relations.now a.k in
-    let is = c.length_fault-fault.ensures ∙ fault_is a.n a.first.now a.second.now a.both a.f a.g a.sets.now a.m a.relations.now a.k _ c.measure-l.ensures
-    (length a.hout.now) (length a.pout.now)
+    sym (c.ask_lengths.ensures.answer ∙ fault_is a.n a.first.now a.second.now a.both a.f a.g a.sets.now a.m a.relations.now a.k _ c.measure-l.ensures
+    (length a.hout.now) (length a.pout.now))
+
+pub returns-in_err-ask_lengths : goal.returns-in_err-ask_lengths
+returns-in_err-ask_lengths c =
+    let a = c.args in
+    let e = by_fault _ _ a.both.steps (length a.hout.now) (length a.pout.now) _
+    (fault_of (goal.at.returns-in_err-ask_lengths c).After-ask_lengths ∙ c.in_err-ask_lengths.was)
     in
-    let e = some_fault H P a.both.steps (length a.hout.now) (length a.pout.now) (λ z. c.if-fault-ne0.true (is ∙ z)) in record {
-      answer = c.refused.ensures ∙ ap (λ k. Refused 0 (plain k)) is ∙ sym (ap composed e);
+    let p = err_from_is_err_and c.from_residual.result c.from_residual.ensures.1 in record {
+      answer = p.1 ∙ ap Err p.2 ∙ sym (ap composed e);
       handler = sym (ap (λ o. handler_after o a.hout.now) e);
       proof = sym (ap (λ o. proof_after o a.pout.now) e);
     }
 
--- Without a fault all lengths are within their limits and have room.
+-- All lengths are within their limits and have room.
 pub write_handler-requires : goal.write_handler-requires
 write_handler-requires c =
     let p = c.requires in
-    let within = within_all _ _ _ _ _ (sym c.length_fault-fault.ensures ∙ c.if-fault-ne0.false) in
-    (p.5.starts, omega (arith, p.5.ends), p.6.starts, omega (arith, p.6.ends), rw (← c.measure-l.ensures.handler_is) within.handler_room)
+    (p.5.starts, omega (arith, p.5.ends), p.6.starts, omega (arith, p.6.ends), rw (← c.measure-l.ensures.handler_is) c.in_ok-ask_lengths.ensures.within.3)
 
 pub write_proof-requires : goal.write_proof-requires
 write_proof-requires c =
     let p = c.requires in
-    let within = within_all _ _ _ _ _ (sym c.length_fault-fault.ensures ∙ c.if-fault-ne0.false) in
-    (p.0, p.1, p.2, p.3, p.4, within.proof_room, c.measure-l.ensures.proof_is)
-
-pub overflow_cast-result : goal.overflow_cast-result
-overflow_cast-result c =
-    let within : Within c.measure-l.result.handler c.measure-l.result.proof c.args.both.steps (length c.args.hout.now) (length c.args.pout.now) =
-    within_all _ _ _ _ _ (sym c.length_fault-fault.ensures ∙ c.if-fault-ne0.false)
-    in
-    omega (arith, within)
-
-pub overflow_cast-result-2 : goal.overflow_cast-result-2
-overflow_cast-result-2 c =
-    let within : Within c.measure-l.result.handler c.measure-l.result.proof c.args.both.steps (length c.args.hout.now) (length c.args.pout.now) =
-    within_all _ _ _ _ _ (sym c.length_fault-fault.ensures ∙ c.if-fault-ne0.false)
-    in
-    omega (arith, within)
-
-pub overflow_cast-result-3 : goal.overflow_cast-result-3
-overflow_cast-result-3 c =
-    let within : Within c.measure-l.result.handler c.measure-l.result.proof c.args.both.steps (length c.args.hout.now) (length c.args.pout.now) =
-    within_all _ _ _ _ _ (sym c.length_fault-fault.ensures ∙ c.if-fault-ne0.false)
-    in
-    omega (arith, within)
+    (p.0, p.1, p.2, p.3, p.4, omega (arith, c.in_ok-ask_lengths.ensures.within), c.measure-l.ensures.proof_is)
 
 pub returns : goal.returns
 returns c =
     let a = c.args in
-    let H = handler_of a.n a.first.now a.second.now a.both a.f a.g a.sets.now a.m a.relations.now a.k in
-    let P = proof_of a.n a.first.now a.second.now a.both a.f a.g a.sets.now a.m a.relations.now a.k in
     let are = c.measure-l.ensures in
-    let is = c.length_fault-fault.ensures ∙ fault_is a.n a.first.now a.second.now a.both a.f a.g a.sets.now a.m a.relations.now a.k _ are
-    (length a.hout.now) (length a.pout.now)
-    in
-    let e = no_fault H P a.both.steps (length a.hout.now) (length a.pout.now) (sym is ∙ c.if-fault-ne0.false) in
+    let e = by_fault _ _ a.both.steps (length a.hout.now) (length a.pout.now) _ (fault_of (goal.at.returns c).After-ask_lengths ∙ c.in_ok-ask_lengths.was) in
     let long = handler_length a.n a.first.now a.second.now a.both a.f a.g a.sets.now a.m a.relations.now a.k _ are in
     let long' = proof_long a.n a.first.now a.second.now a.both a.f a.g a.sets.now a.m a.relations.now a.k _ are in record {
-      answer = (λ i. Made (record { steps = a.both.steps; handler = long i; proof = long' i })) ∙ sym (ap composed e);
+      answer = (λ i. Ok (record { steps = a.both.steps; handler = long i; proof = long' i })) ∙ sym (ap composed e);
       handler = c.write_handler.ensures ∙ sym (ap (λ o. handler_after o a.hout.now) e);
       proof = c.write_proof.ensures ∙ sym (ap (λ o. proof_after o a.pout.now) e);
     }

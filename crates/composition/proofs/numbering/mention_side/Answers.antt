@@ -8,7 +8,7 @@ use Rattle.composition.proofs.numbering.mention_side.Goals as goal
 
 pub returns : goal.returns
 unfolding word_relation
-returns c seen k = let m = c in
-    let n = m.args.n in
-    three_by _ _ _ _ _ _ _ _ (ap (λ w. relation_where n (rel n w)) m.rows_of.ensures)
-    (ap (λ w. relation_where n (rel n w)) m.rows_of-2.ensures) (m.mention_three.ensures seen k)
+returns c seen k =
+    let n = c.args.n in
+    three_by _ _ _ _ _ _ _ _ (ap (λ w. relation_where n (rel n w)) c.rows_of.ensures)
+    (ap (λ w. relation_where n (rel n w)) c.rows_of-2.ensures) (c.mention_three.ensures seen k)

@@ -6,9 +6,7 @@ use Rattle.composition.proofs.numbering.number_relations.Goals as goal
 
 pub returns : goal.returns
 unfolding relations_held
-returns c = let right = c in
-    let left = right in
-    let root = left in
-    let three = root.mention_root-root.ensures in
-    let a = left.number_side-left.ensures _ three.kept in
-    relations_numbered _ _ _ _ _ _ _ _ _ _ _ _ _ _ _ _ _ three a (right.number_side-right.ensures _ a.kept) (length_tabulate _ _) (length_tabulate _ _)
+returns c =
+    let three = c.mention_root-root.ensures in
+    let a = c.number_side-left.ensures _ three.kept in
+    relations_numbered _ _ _ _ _ _ _ _ _ _ _ _ _ _ _ _ _ three a (c.number_side-right.ensures _ a.kept) (length_tabulate _ _) (length_tabulate _ _)

@@ -7,9 +7,7 @@ use Rattle.composition.proofs.numbering.number_sets.Goals as goal
 
 pub returns : goal.returns
 unfolding sets_held tabulate
-returns c = let third = c in
-    let second = third in
-    let first = second in
-    let m₁ = first.mention_set-one.ensures in
-    let m₂ = second.mention_sets-some.ensures _ m₁.kept in
-    sets_numbered _ _ _ _ _ _ _ _ _ _ _ m₁ m₂ (third.mention_sets-count.ensures _ (kept_merged _ _ _ _ _ m₂)) (length_tabulate _ _)
+returns c =
+    let m₁ = c.mention_set-one.ensures in
+    let m₂ = c.mention_sets-some.ensures _ m₁.kept in
+    sets_numbered _ _ _ _ _ _ _ _ _ _ _ m₁ m₂ (c.mention_sets-count.ensures _ (kept_merged _ _ _ _ _ m₂)) (length_tabulate _ _)

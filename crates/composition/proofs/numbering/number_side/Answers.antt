@@ -6,7 +6,6 @@ use Rattle.composition.proofs.numbering.number_side.Goals as goal
 
 pub returns : goal.returns
 unfolding relations_held
-returns c seen k = let rest = c in
-    let node = rest in
-    let three = node.mention_side-node.ensures seen k in
-    side_numbered seen _ _ _ _ _ _ _ _ _ three (rest.mention_relations-count.ensures _ three.kept) (length_tabulate _ _)
+returns c seen k =
+    let three = c.mention_side-node.ensures seen k in
+    side_numbered seen _ _ _ _ _ _ _ _ _ three (c.mention_relations-count.ensures _ three.kept) (length_tabulate _ _)

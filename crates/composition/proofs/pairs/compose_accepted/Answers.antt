@@ -1,6 +1,7 @@
 -- Both pairs are read; other sizes are 90, and the rest is decided over the same variables.
 use mathlib.Core.Path.{◌≡◌, sym, ◌∙◌, ap, subst}
 use native.Mathlib.Omega.{arith}
+use Rattle.std.specs.Prelude.{Err}
 use Rattle.semantics.specs.States.{product}
 use Rattle.handler.specs.Header.{head_of}
 use Rattle.joint.specs.Composing.{Side, side_of, same_sizes, plain}
@@ -64,6 +65,6 @@ pub returns-else-same_sizes : goal.returns-else-same_sizes
 returns-else-same_sizes c = let d = (goal.at.returns-else-same_sizes c).After-same_sizes in
     let a = c.args in
     let left = leaves_refused a.hout.now a.pout.now _ 0 (plain 90)
-    (other_sizes a.h1.now a.h2.now (firstSide d) (secondSide d) _ (sym (compared d) ∙ c.if-same_sizes.false)) _ c.refused.ensures
+    (other_sizes a.h1.now a.h2.now (firstSide d) (secondSide d) _ (sym (compared d) ∙ c.if-same_sizes.false)) _ (ap Err c.refusal.ensures)
     in
     record { answer = left.0; handler = left.1.0; proof = left.1.1 }

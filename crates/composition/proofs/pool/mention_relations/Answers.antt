@@ -14,10 +14,9 @@ use Rattle.composition.proofs.pool.mention_relations.Goals as goal
 
 -- The mention of this round, by the value of its relation.
 next : (c : After-mention_relation-found) →
-    let l = c in
-    let a = l.args in
-    Mentioned (relations_held a.n l.loop-i.pool l.loop-i.total) (relations_held a.n c.mention_relation-found.new.pool c.mention_relation-found.result.count)
-    (relation_where a.n (word_relation a.n a.words.now l.loop-i.i)) c.mention_relation-found.result
+    let a = c.args in
+    Mentioned (relations_held a.n c.loop-i.pool c.loop-i.total) (relations_held a.n c.mention_relation-found.new.pool c.mention_relation-found.result.count)
+    (relation_where a.n (word_relation a.n a.words.now c.loop-i.i)) c.mention_relation-found.result
 unfolding word_relation
 next c =
     let n = c.args.n in
@@ -33,21 +32,19 @@ returns-then-count-gt-MOST_TABLES c seen k = merged_full seen _ _ _ _ (search ru
 
 pub returns-then-found-gt-MOST_TABLES : goal.returns-then-found-gt-MOST_TABLES
 unfolding relations_held
-returns-then-found-gt-MOST_TABLES c seen k = let m = c in
-    let l = m in
+returns-then-found-gt-MOST_TABLES c seen k =
     merged_from _ seen _ _ _ _ _ k (omega arith)
-    (merged_over _ _ l.loop-i.i _ _ l.loop-i.invariant.4 _ _ (next (goal.at.returns-then-found-gt-MOST_TABLES c).After-mention_relation-found) (search rules) _ (omega arith) _ _)
+    (merged_over _ _ c.loop-i.i _ _ c.loop-i.invariant.4 _ _ (next (goal.at.returns-then-found-gt-MOST_TABLES c).After-mention_relation-found) (search rules) _ (omega arith) _ _)
 
 pub loop-i-preserved : goal.loop-i-preserved
 unfolding relations_held
-loop-i-preserved c = let m = c in
-    let l = m in (
-      omega arith,
-      omega arith,
-      omega (arith, c.mention_relation-found.auto.pool),
-      length-set l.loop-i.names l.loop-i.i m.mention_relation-found.result.place ∙ l.loop-i.invariant.3,
-      listed_next _ _ l.loop-i.i _ _ l.loop-i.invariant.4 _ _ (next (goal.at.loop-i-preserved c).After-mention_relation-found) (omega arith) (omega arith),
-    )
+loop-i-preserved c = (
+  omega arith,
+  omega arith,
+  omega (arith, c.mention_relation-found.auto.pool),
+  length-set c.loop-i.names c.loop-i.i c.mention_relation-found.result.place ∙ c.loop-i.invariant.3,
+  listed_next _ _ c.loop-i.i _ _ c.loop-i.invariant.4 _ _ (next (goal.at.loop-i-preserved c).After-mention_relation-found) (omega arith) (omega arith),
+)
 
 pub returns : goal.returns
 unfolding relations_held

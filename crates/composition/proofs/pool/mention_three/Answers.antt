@@ -6,9 +6,7 @@ use Rattle.composition.proofs.pool.mention_three.Goals as goal
 
 pub returns : goal.returns
 unfolding relations_held
-returns c seen k = let third = c in
-    let second = third in
-    let first = second in
-    let m₁ = first.mention_relation-first.ensures seen k in
-    let m₂ = second.mention_relation-second.ensures _ m₁.kept in
-    three_mentioned seen _ _ _ _ _ _ _ _ _ m₁ m₂ (third.mention_relation-third.ensures _ m₂.kept) (length_tabulate _ _) (length_tabulate _ _)
+returns c seen k =
+    let m₁ = c.mention_relation-first.ensures seen k in
+    let m₂ = c.mention_relation-second.ensures _ m₁.kept in
+    three_mentioned seen _ _ _ _ _ _ _ _ _ m₁ m₂ (c.mention_relation-third.ensures _ m₂.kept) (length_tabulate _ _) (length_tabulate _ _)

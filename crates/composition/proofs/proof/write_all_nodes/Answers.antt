@@ -7,13 +7,7 @@ use Rattle.composition.proofs.proof.write_all_nodes.Goals as goal
 pub returns : goal.returns
 unfolding node_parts form_bits
 returns c =
-    let right = c in
-    let left = right in
-    let node = left in
-    let root = node in
-    let bits = root in
-    let start = bits in
-    let room = start.requires.1 in
-    all_written _ _ _ _ _ _ _ start.args.k.root _ _ _ root.new_node.ensures (omega (arith, room)) (omega (arith, room)) (side_width _ _ _ _ _)
-    (omega (arith, bits.form_bits.ensures.0)) node.write_node.ensures left.write_side.ensures
-    right.write_side-2.ensures
+    let room = c.requires.1 in
+    all_written _ _ _ _ _ _ _ c.args.k.root _ _ _ c.new_node.ensures (omega (arith, room)) (omega (arith, room)) (side_width _ _ _ _ _)
+    (omega (arith, c.form_bits.ensures.0)) c.write_node.ensures c.write_side.ensures
+    c.write_side-2.ensures

@@ -22,28 +22,25 @@ room c =
 
 pub write_tables-requires : goal.write_tables-requires
 unfolding proof_bits relations_held sets_held
-write_tables-requires c = let start = c in
+write_tables-requires c =
     let same = c.out-1.given in
     let r = room (goal.at.write_tables-requires c).Start in
-    (start.requires.0, start.requires.1, start.requires.2, start.requires.3, (omega (arith, r, same), omega (arith, r)))
+    (c.requires.0, c.requires.1, c.requires.2, c.requires.3, (omega (arith, r, same), omega (arith, r)))
 
 pub write_all_nodes-requires : goal.write_all_nodes-requires
 unfolding proof_bits relations_held sets_held
-write_all_nodes-requires c = let start = c in
+write_all_nodes-requires c =
     let same = c.out-2-1.given ∙ c.out-1.given in
     let r = room (goal.at.write_all_nodes-requires c).Start in
     let at = c.root_at.ensures.0 in
-    (start.requires.4, (omega (arith, r, same, at), omega (arith, r, at)))
+    (c.requires.4, (omega (arith, r, same, at), omega (arith, r, at)))
 
 pub returns : goal.returns
 unfolding proof_bits relations_held sets_held
-returns c = let nodes = c in
-    let at = nodes.root_at.ensures.0 in
-    let tables = nodes in
-    let first = tables in
-    let start = first in
-    let a = start.args in
+returns c =
+    let at = c.root_at.ensures.0 in
+    let a = c.args in
     let bits = nodes_width a.k a.m a.a a.b in
     proof_written_by _ _ _ _ _ _ (length_tabulate _ _) (length_tabulate _ _) _ _ _ _ a.bytes _
-    (start.requires.6 ∙ ap bytes_for (omega (arith, at, bits))) start.requires.5 at first.clear.ensures tables.write_tables.ensures
-    nodes.write_all_nodes.ensures
+    (c.requires.6 ∙ ap bytes_for (omega (arith, at, bits))) c.requires.5 at c.clear.ensures c.write_tables.ensures
+    c.write_all_nodes.ensures

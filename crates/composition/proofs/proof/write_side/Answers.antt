@@ -17,7 +17,5 @@ slice_bounds-write_nodes-end c = sym (full (goal.at.slice_bounds-write_nodes-end
 
 pub returns : goal.returns
 unfolding form_bits
-returns c = let nodes = c in
-    let node = nodes in
-    let start = node in
-    side_written _ _ _ _ _ _ _ _ _ _ node.new_node.ensures start.requires.1 node.write_node.ensures nodes.write_nodes.ensures
+returns c =
+    side_written _ _ _ _ _ _ _ _ _ _ c.new_node.ensures c.requires.1 c.write_node.ensures c.write_nodes.ensures

@@ -12,10 +12,10 @@ pub loop-s-init : goal.loop-s-init
 loop-s-init c = rows_none _
 
 pub loop-s-preserved : goal.loop-s-preserved
-loop-s-preserved c = let d = c in
+loop-s-preserved c =
     rw c.put_entry.ensures
-    (rows_more _ _ _ _ (omega arith) (λ t. d.meet.ensures t ∙ ap₂ ◌&&◌ (d.row.ensures t) (d.row-in-loop-s.ensures t))
-    d.loop-s.invariant)
+    (rows_more _ _ _ _ (omega arith) (λ t. c.meet.ensures t ∙ ap₂ ◌&&◌ (c.row.ensures t) (c.row-in-loop-s.ensures t))
+    c.loop-s.invariant)
 
 pub returns : goal.returns
 returns c most s t = filled_rel _ most _ _ _ c.loop-s-test.false c.loop-s.invariant (λ u v e. rel_between _ _ u v (and_left _ _ e)) s t

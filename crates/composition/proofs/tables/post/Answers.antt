@@ -10,8 +10,8 @@ pub loop-s-init : goal.loop-s-init
 loop-s-init c = rows_none _
 
 pub loop-s-preserved : goal.loop-s-preserved
-loop-s-preserved c = let d = c in
-    rw c.put_entry.ensures (rows_more _ _ _ _ (omega arith) d.post_at.ensures d.loop-s.invariant)
+loop-s-preserved c =
+    rw c.put_entry.ensures (rows_more _ _ _ _ (omega arith) c.post_at.ensures c.loop-s.invariant)
 
 pub returns : goal.returns
 returns c most = let a = c.args in

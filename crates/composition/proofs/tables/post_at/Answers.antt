@@ -6,11 +6,10 @@ use Rattle.rules.proofs.Words.{reached_set}
 use Rattle.composition.proofs.tables.post_at.Goals as goal
 
 pub returns-then-holds_state : goal.returns-then-holds_state
-returns-then-holds_state c t = let both = c in
-    let in_P = both in
-    rw (sym in_P.holds_state.ensures ∙ in_P.if-holds_state.true)
+returns-then-holds_state c t =
+    rw (sym c.holds_state.ensures ∙ c.if-holds_state.true)
     (c.meet.ensures t
-    ∙ ap₂ ◌&&◌ (both.meet-both.ensures t ∙ ap₂ ◌&&◌ (both.row.ensures t) (both.row-then-holds_state.ensures t))
+    ∙ ap₂ ◌&&◌ (c.meet-both.ensures t ∙ ap₂ ◌&&◌ (c.row.ensures t) (c.row-then-holds_state.ensures t))
     (reached_set _ _ _ _ _ (search rules) c.single.ensures c.reach.ensures t))
 
 pub returns-else-holds_state : goal.returns-else-holds_state

@@ -8,13 +8,8 @@ use Rattle.composition.proofs.HandlerFields.{handler_written}
 use Rattle.composition.proofs.writing.write_handler.Goals as goal
 
 pub returns : goal.returns
-returns c = let second = c in
-    let first = second in
-    let code = first in
-    let head = code in
-    let clear = head in
-    let start = clear in
-    let a = start.args in
+returns c =
+    let a = c.args in
     handler_written a.first.now a.at (a.end - a.at) a.second.now a.from (a.to - a.from) a.out.now _ _ _ _ _
-    (search rules) (omega arith) (omega arith) (clear.clear.ensures ∙ ap (cleared a.out.now) clear.file_bytes.ensures)
-    head.copy.ensures code.put.ensures first.copy-2.ensures second.copy-3.ensures
+    (search rules) (omega arith) (omega arith) (c.clear.ensures ∙ ap (cleared a.out.now) c.file_bytes.ensures)
+    c.copy.ensures c.put.ensures c.copy-2.ensures c.copy-3.ensures

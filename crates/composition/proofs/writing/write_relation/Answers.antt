@@ -22,9 +22,8 @@ kept c =
 
 -- A row ends within the room.
 room : (c : After-put_set-arg-1) →
-    let l = c in
-    let a = l.args in
-    a.n * l.loop-s.s + a.n ≤ a.n * a.n
+    let a = c.args in
+    a.n * c.loop-s.s + a.n ≤ a.n * a.n
 room c = table_within _ _ _ (omega arith)
 
 pub loop-s-init : goal.loop-s-init
@@ -41,15 +40,13 @@ overflow_add-at c = omega (arith, room c)
 
 pub loop-s-preserved : goal.loop-s-preserved
 unfolding put_bits relation_where
-loop-s-preserved c = let put = c in
-    let arg = put in
-    let l = arg in
-    let a = l.args in
-    let members = fun_ext arg.row_at-row.ensures in (
+loop-s-preserved c =
+    let a = c.args in
+    let members = fun_ext c.row_at-row.ensures in (
       omega arith,
-      put.put_set.ensures
-          ∙ rw (members, l.loop-s.invariant.1)
-          (row_more a.n (word_relation a.n a.words.now a.r) a.out.now a.at l.loop-s.s (omega (arith, room (goal.at.loop-s-preserved c).After-put_set-arg-1)) (omega (arith, room (goal.at.loop-s-preserved c).After-put_set-arg-1))),
+      c.put_set.ensures
+          ∙ rw (members, c.loop-s.invariant.1)
+          (row_more a.n (word_relation a.n a.words.now a.r) a.out.now a.at c.loop-s.s (omega (arith, room (goal.at.loop-s-preserved c).After-put_set-arg-1)) (omega (arith, room (goal.at.loop-s-preserved c).After-put_set-arg-1))),
     )
 
 pub returns : goal.returns

@@ -22,9 +22,8 @@ kept c =
 
 -- A relation ends within the room.
 room : (c : After-write_relation-arg-1) →
-    let l = c in
-    let a = l.args in
-    a.n * a.n * l.loop-r.r + a.n * a.n ≤ a.n * a.n * a.count
+    let a = c.args in
+    a.n * a.n * c.loop-r.r + a.n * a.n ≤ a.n * a.n * a.count
 room c = table_within _ _ _ (omega arith)
 
 pub overflow_mul-width : goal.overflow_mul-width
@@ -45,15 +44,14 @@ overflow_add-at c = omega (arith, room c)
 
 pub write_relation-requires : goal.write_relation-requires
 unfolding put_parts relations_held tabulate
-write_relation-requires c = let l = c in
+write_relation-requires c =
     (search rules, search rules, (omega (arith, room c, kept (goal.at.write_relation-requires c).At-loop-r), omega (arith, room c)))
 
 pub loop-r-preserved : goal.loop-r-preserved
 unfolding put_parts relations_held tabulate
-loop-r-preserved c = let call = c in
-    let l = call in
-    let a = l.args in
-    (omega arith, call.write_relation.ensures ∙ rw l.loop-r.invariant.1 (tables_more (a.n * a.n) _ a.out.now a.at l.loop-r.r))
+loop-r-preserved c =
+    let a = c.args in
+    (omega arith, c.write_relation.ensures ∙ rw c.loop-r.invariant.1 (tables_more (a.n * a.n) _ a.out.now a.at c.loop-r.r))
 
 pub returns : goal.returns
 unfolding put_parts relations_held tabulate

@@ -22,9 +22,8 @@ kept c =
 
 -- A set ends within the room.
 room : (c : After-put_set-arg-1) →
-    let l = c in
-    let a = l.args in
-    a.n * l.loop-i.i + a.n ≤ a.n * a.count
+    let a = c.args in
+    a.n * c.loop-i.i + a.n ≤ a.n * a.count
 room c = table_within _ _ _ (omega arith)
 
 pub loop-i-init : goal.loop-i-init
@@ -41,15 +40,13 @@ overflow_add-at c = omega (arith, room c)
 
 pub loop-i-preserved : goal.loop-i-preserved
 unfolding put_parts sets_held tabulate
-loop-i-preserved c = let put = c in
-    let arg = put in
-    let l = arg in
-    let a = l.args in
-    let members = fun_ext arg.set_at-set.ensures in (
+loop-i-preserved c =
+    let a = c.args in
+    let members = fun_ext c.set_at-set.ensures in (
       omega arith,
-      put.put_set.ensures
-          ∙ rw (members, l.loop-i.invariant.1)
-          (set_more a.n (word_set a.n a.words.now) a.out.now a.at l.loop-i.i (omega (arith, room (goal.at.loop-i-preserved c).After-put_set-arg-1)) (omega (arith, room (goal.at.loop-i-preserved c).After-put_set-arg-1))),
+      c.put_set.ensures
+          ∙ rw (members, c.loop-i.invariant.1)
+          (set_more a.n (word_set a.n a.words.now) a.out.now a.at c.loop-i.i (omega (arith, room (goal.at.loop-i-preserved c).After-put_set-arg-1)) (omega (arith, room (goal.at.loop-i-preserved c).After-put_set-arg-1))),
     )
 
 pub returns : goal.returns

@@ -15,14 +15,12 @@ pub write_sets-requires : goal.write_sets-requires
 write_sets-requires c = (search rules, search rules, search rules, (omega (arith, c.out-1.given), omega arith))
 
 pub write_relations-requires : goal.write_relations-requires
-write_relations-requires c = let sets = c in
-    let same = sets.out-2-1.given ∙ sets.out-1.given in
+write_relations-requires c =
+    let same = c.out-2-1.given ∙ c.out-1.given in
     (search rules, search rules, search rules, (omega (arith, same), omega arith))
 
 pub returns : goal.returns
-returns c = let relations = c in
-    let sets = relations in
-    let counts = sets in
-    let a = counts.args in
+returns c =
+    let a = c.args in
     tables_written a.n a.sets.now a.k a.relations.now a.m a.out.now _ _ _
-    (search rules) (search rules) (omega arith) counts.put.ensures sets.write_sets.ensures relations.write_relations.ensures
+    (search rules) (search rules) (omega arith) c.put.ensures c.write_sets.ensures c.write_relations.ensures
