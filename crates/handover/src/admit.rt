@@ -6,7 +6,7 @@ ghost use Rattle.std.specs.Prelude.{◌≤◌, length};
 ghost use Rattle.handover.specs.Guest.{handler_amount, proof_amount};
 ghost use Rattle.handover.specs.Reading.{amount};
 
-use super::number::{Number, number_in};
+use super::number::number_in;
 use super::{
     ARGUMENT_BYTES, HANDLER_BYTES, PROOF_BYTES, Reading, argument, print_front, read_argument, save,
 };
@@ -57,11 +57,11 @@ pub(crate) fn guests_among(count: usize) -> usize
 }
 
 // Reads argument i as a number, and names it on standard error if it is none.
-fn read_number(rt: &HostRuntime, i: usize) -> Number {
+fn read_number(rt: &HostRuntime, i: usize) -> Option<u32> {
     let mut text = [0u8; ARGUMENT_BYTES];
     let n = argument(rt, i, &mut text);
     let number = number_in(&text[..n]);
-    if let Number::Nothing = number {
+    if number.is_none() {
         save::report(rt, &text[..n], b": Not a number from 0 to 4294967295\n");
     }
     number
@@ -73,7 +73,7 @@ fn read_guest(rt: &HostRuntime, first: usize, handler: &mut [u8], proof: &mut [u
     ensures result_in_bounds { handler_amount result ≤ length handler.old }
     ensures result_in_bounds_2 { proof_amount result ≤ length proof.old }
 {
-    let Number::Value(ticks) = read_number(rt, first) else {
+    let Some(ticks) = read_number(rt, first) else {
         return GuestReading::Failed;
     };
     let Reading::Bytes(n) = read_argument(rt, first + 1, handler) else {
@@ -140,7 +140,7 @@ fn write_table(rt: &HostRuntime, frame_length: u32, guests: usize, table: &mut [
 pub(crate) fn admit_arguments(rt: &HostRuntime, guests: usize)
     requires { guests ≤ 16 }
 {
-    let Number::Value(frame_length) = read_number(rt, FRAME_LENGTH) else {
+    let Some(frame_length) = read_number(rt, FRAME_LENGTH) else {
         return;
     };
     let mut table = [0u8; TABLE_BYTES];
