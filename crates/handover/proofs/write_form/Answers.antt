@@ -9,9 +9,6 @@ use Rattle.handover.proofs.write_form.Goals as goal
 within : (o : Outcome) (f : Form) (room k : ℕ) → o ≡ outcome f room → o ≡ Written k → k ≤ room
 within o f room k e is = written_within f room k (sym e ∙ is)
 
-pub slice_bounds-form-end : goal.slice_bounds-form-end
-slice_bounds-form-end c = omega (arith, within _ _ _ _ c.write_form-outcome.ensures.answer c.in-Written.is, c.write_form-outcome.auto.out)
-
-pub slice_bounds-save-end : goal.slice_bounds-save-end
-slice_bounds-save-end c =
+pub slice_bounds-form-end-in-Written : goal.slice_bounds-form-end-in-Written
+slice_bounds-form-end-in-Written c =
     sym (length-take-le _ _ (omega (arith, within _ _ _ _ c.write_form-outcome.ensures.answer c.in-Written.is, c.write_form-outcome.auto.out)))
