@@ -27,22 +27,20 @@ struct Guest<'a> {
     proof: &'a [u8],
 }
 
-// How many guests so many arguments name, the program's own name among them: three for each of at most 16, after the word and the frame's
-// length. If they name no guests, 0.
-pub(crate) fn guests_among(count: usize) -> usize
-    ensures { result ≤ 16 }
+// How many guests so many arguments name, the program's own name among them: three for each of 1 to 16, after the word and the frame's
+// length.
+pub(crate) fn guests_among(count: usize) -> Option<usize>
+    ensures { IfSome result (λ guests. guests ≤ 16) }
 {
-    if count < FIRST_GUEST {
-        return 0;
-    }
-    let guests = (count - FIRST_GUEST) / GUEST_ARGUMENTS;
-    if (count - FIRST_GUEST) % GUEST_ARGUMENTS != 0 {
-        return 0;
+    let arguments = count.checked_sub(FIRST_GUEST)?;
+    let guests = arguments / GUEST_ARGUMENTS;
+    if (guests == 0) | (arguments % GUEST_ARGUMENTS != 0) {
+        return None;
     }
     if guests > PLACES {
-        return 0;
+        return None;
     }
-    guests
+    Some(guests)
 }
 
 // Reads argument i as a number, and names it on standard error if it is none.

@@ -291,7 +291,6 @@ fn argument_count(rt: &HostRuntime) -> usize {
 // Chooses by the number of arguments. The program's own name is one of those that are counted.
 fn run(rt: &HostRuntime) -> Option<()> {
     let count = argument_count(rt);
-    let guests = admit::guests_among(count);
     if count < 2 {
         do_with_files(rt, b"handler.bin", b"proof.bin", check)
     } else if count == 3 {
@@ -302,11 +301,14 @@ fn run(rt: &HostRuntime) -> Option<()> {
         do_with_arguments(rt, 2, write_form)
     } else if (count == 8) & asks_to(rt, b"compose") {
         compose::compose_arguments(rt)
-    } else if (guests > 0) & asks_to(rt, b"admit") {
-        admit::admit_arguments(rt, guests)
     } else {
-        print_usage(rt);
-        None
+        match admit::guests_among(count) {
+            Some(guests) if asks_to(rt, b"admit") => admit::admit_arguments(rt, guests),
+            _ => {
+                print_usage(rt);
+                None
+            }
+        }
     }
 }
 

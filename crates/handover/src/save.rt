@@ -22,7 +22,7 @@ pub(crate) fn report(rt: &HostRuntime, path: &[u8], text: &[u8]) {
     write_error(rt, text);
 }
 
-// Whether an open file is a regular one: the system can wait for its bytes to reach a device, and of a terminal or a pipe it cannot.
+// Refuses an open file that is no regular one: the system can wait for its bytes to reach a device, and of a terminal or a pipe it cannot.
 fn check_regular(rt: &HostRuntime, file: &File, path: &[u8]) -> Option<()> {
     match file.sync_data() {
         Err(error) if error.kind() == ErrorKind::InvalidInput => {
@@ -33,7 +33,7 @@ fn check_regular(rt: &HostRuntime, file: &File, path: &[u8]) -> Option<()> {
     }
 }
 
-// A path that is free, or has a file that the user may write. Links, folders, devices and pipes are not replaced.
+// Refuses a path that is not free and has no file that the user may write. Links, folders, devices and pipes are not replaced.
 fn check_replaceable(rt: &HostRuntime, path: &[u8]) -> Option<()> {
     if has_link(rt, path).unwrap_or(false) {
         report(rt, path, b": Is a symbolic link\n");
@@ -127,7 +127,7 @@ fn take_names(
     taken
 }
 
-// A path that leaves room for the new file's name.
+// Refuses a path that leaves no room for the new file's name.
 fn check_length(rt: &HostRuntime, path: &[u8]) -> Option<()>
     ensures { OnSome result (length path.now < 4092) }
 {
