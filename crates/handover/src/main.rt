@@ -16,183 +16,165 @@ mod files;
 mod number;
 mod save;
 
-ghost use Rattle.std.specs.Prelude.{◌≤◌, ◌<◌, length};
-ghost use Rattle.handover.specs.Reading.{amount};
+ghost use Rattle.std.specs.Prelude.{ℕ, ◌≤◌, ◌<◌, length, IfOk, IfSome};
 
-use canonical::MOST_FORM_BYTES;
+use canonical::{MOST_FORM_BYTES, Outcome};
 use checker::{Fault, Verdict, WORK_WORDS};
-use failure::{fail, write_error};
+use failure::{or_fail, write_error};
 use pair::{MOST_HANDLER_BYTES, MOST_PROOF_BYTES};
 use std::env::FillError;
+use std::io;
 use std::io::Read;
 use std::rt::Env;
 use viewer::File;
 
-// What is to be done with the two files.
-#[derive(Drop)]
-enum Task {
-    Check,
-    Explain,
-    Write,
-}
-
-// The result of reading a file: the number of bytes, or that reading failed and the file was named on standard error.
-#[derive(Drop)]
-enum Reading {
-    Bytes(usize),
-    Failed,
+// A file that was read: its name as it was given, and its bytes.
+#[derive(Clone, Copy)]
+struct Given<'a> {
+    path: &'a [u8],
+    bytes: &'a [u8],
 }
 
 // Reads until the file ends or `buf` is full.
-fn read_to_end<R: Read>(rt: &HostRuntime, file: &mut R, path: &[u8], buf: &mut [u8]) -> Reading
-    ensures { amount result ≤ length buf.old }
+fn read_to_end<R: Read>(file: &mut R, buf: &mut [u8]) -> io::Result<usize>
+    ensures { IfOk result (λ n. n ≤ length buf.old) }
 {
     let mut done = 0;
     while done < buf.len() {
-        match file.read(&mut buf[done..]) {
-            Ok(more) => {
-                if more == 0 {
-                    break;
-                }
-                done += more;
-            }
-            Err(error) => {
-                fail(rt, path, &error);
-                return Reading::Failed;
-            }
+        let more = file.read(&mut buf[done..])?;
+        if more == 0 {
+            break;
         }
+        done += more;
     }
-    Reading::Bytes(done)
+    Ok(done)
 }
 
 // Reads the front of the file at `path`, as much as `buf` holds.
-fn read_file(rt: &HostRuntime, path: &[u8], buf: &mut [u8]) -> Reading
-    ensures { amount result ≤ length buf.old }
+fn read_front(rt: &HostRuntime, path: &[u8], buf: &mut [u8]) -> io::Result<usize>
+    ensures { IfOk result (λ n. n ≤ length buf.old) }
 {
-    match files::open_read(rt, path) {
-        Ok(mut file) => read_to_end(rt, &mut file, path, buf),
-        Err(error) => {
-            fail(rt, path, &error);
-            Reading::Failed
-        }
-    }
+    let mut file = files::open_read(rt, path)?;
+    read_to_end(&mut file, buf)
 }
 
-// Prints bytes, and answers whether they were written.
-fn print(rt: &HostRuntime, text: &[u8]) -> bool {
-    match rt.write_all(text) {
-        Ok(()) => true,
-        Err(error) => {
-            fail(rt, b"standard output", &error);
-            false
-        }
-    }
+// Does the same, or names the file on standard error.
+fn read_file<'a>(rt: &HostRuntime, path: &[u8], buf: &'a mut [u8]) -> Option<&'a [u8]>
+    ensures { IfSome result (λ bytes. length bytes.now ≤ length buf.old) }
+{
+    let n = or_fail(rt, path, read_front(rt, path, buf))?;
+    Some(&buf[..n])
 }
 
-// Prints the first n bytes of a text.
-fn print_front(rt: &HostRuntime, text: &[u8], n: usize) -> bool
-    requires { n ≤ length text.now }
+// Prints bytes, or says on standard error that they cannot be written.
+fn print(rt: &HostRuntime, text: &[u8]) -> Option<()> {
+    or_fail(rt, b"standard output", rt.write_all(text))
+}
+
+// Prints what `write` puts at the start of `room`, so many bytes as it answers.
+fn print_written<W: FnOnce(&mut [u8]) -> usize>(
+    rt: &HostRuntime,
+    room: &mut [u8],
+    write: W,
+) -> Option<()>
+    requires callable { W.IsAlwaysCallable write }
+    requires within { (text : _) (n : ℕ) (after : _) → W.post write text n after → n ≤ length text.now }
 {
-    print(rt, &text[..n])
+    let n = write(room);
+    print(rt, &room[..n])
 }
 
 // Prints the line.
-fn print_line(rt: &HostRuntime, v: Verdict) -> bool {
-    let mut line = [0u8; report::LINE_BYTES];
-    let n = report::write_line(v, &mut line);
-    print_front(rt, &line, n)
+#[tactic(auto, using(report::proofs::Lines::line_within))]
+fn print_line(rt: &HostRuntime, v: Verdict) -> Option<()> {
+    let mut room = [0u8; report::LINE_BYTES];
+    print_written(rt, &mut room, |line| report::write_line(v, line))
 }
 
 // Prints the line of a file that was written.
-fn print_length(rt: &HostRuntime, length: u32) -> bool {
-    let mut line = [0u8; report::LINE_BYTES];
-    let n = report::write_length(length, &mut line);
-    print_front(rt, &line, n)
+#[tactic(auto, using(report::proofs::Lines::line_within))]
+fn print_length(rt: &HostRuntime, length: u32) -> Option<()> {
+    let mut room = [0u8; report::LINE_BYTES];
+    print_written(rt, &mut room, |line| report::write_length(length, line))
 }
 
 // Prints the name of a file and its bytes from an index on.
-fn print_bytes(rt: &HostRuntime, path: &[u8], file: &[u8], from: usize) {
-    let mut text = [0u8; explain::TEXT_BYTES];
-    let n = explain::write_bytes(file, from, &mut text);
-    if print(rt, path) {
-        print_front(rt, &text, n);
-    }
-}
-
-// Prints the bytes from the place of a refusal on.
-fn print_place(
-    rt: &HostRuntime,
-    handler_path: &[u8],
-    proof_path: &[u8],
-    handler: &[u8],
-    proof: &[u8],
-    fault: Fault,
-) {
-    let place = fault.place;
-    let at = viewer::locate(handler, proof, fault.number, place);
-    let file = at.file;
-    let index = at.index;
-    match file {
-        File::Handler => print_bytes(rt, handler_path, handler, index),
-        File::Proof => print_bytes(rt, proof_path, proof, index),
-    }
+fn print_bytes(rt: &HostRuntime, file: Given<'_>, from: usize) -> Option<()> {
+    let mut room = [0u8; explain::TEXT_BYTES];
+    print(rt, file.path)?;
+    print_written(
+        rt,
+        &mut room,
+        |text| explain::write_bytes(file.bytes, from, text),
+    )
 }
 
 // Prints what a refusal means, and then the bytes at its place.
 fn explain_refusal(
     rt: &HostRuntime,
-    handler_path: &[u8],
-    proof_path: &[u8],
-    handler: &[u8],
-    proof: &[u8],
+    handler: Given<'_>,
+    proof: Given<'_>,
     fault: Fault,
-) {
-    let mut text = [0u8; explain::TEXT_BYTES];
-    let n = explain::write_refusal(handler, proof, fault, &mut text);
-    if print_front(rt, &text, n) & (fault.number >= explain::FIRST_IN_A_FILE) {
-        print_place(rt, handler_path, proof_path, handler, proof, fault);
+) -> Option<()> {
+    let mut room = [0u8; explain::TEXT_BYTES];
+    print_written(rt, &mut room, |text| {
+        explain::write_refusal(handler.bytes, proof.bytes, fault, text)
+    })?;
+    if fault.number < explain::FIRST_IN_A_FILE {
+        return Some(());
     }
+    let at = viewer::locate(handler.bytes, proof.bytes, fault.number, fault.place);
+    let file = match at.file {
+        File::Handler => handler,
+        File::Proof => proof,
+    };
+    print_bytes(rt, file, at.index)
 }
 
 // Prints what an accepted pair of files is about.
-fn explain_accepted(rt: &HostRuntime, handler: &[u8], proof: &[u8], work: &[u64]) {
-    let mut text = [0u8; explain::TEXT_BYTES];
-    let n = explain::write_accepted(handler, proof, work, &mut text);
-    print_front(rt, &text, n);
+fn explain_accepted(rt: &HostRuntime, handler: &[u8], proof: &[u8], work: &[u64]) -> Option<()> {
+    let mut room = [0u8; explain::TEXT_BYTES];
+    print_written(
+        rt,
+        &mut room,
+        |text| explain::write_accepted(handler, proof, work, text),
+    )
 }
 
-// Checks the two files, prints the line and, if asked to, explains it.
-fn judge(
-    rt: &HostRuntime,
-    handler_path: &[u8],
-    proof_path: &[u8],
-    handler: &[u8],
-    proof: &[u8],
-    explaining: bool,
-) {
+// Checks the two files and prints the line.
+fn check(rt: &HostRuntime, handler: Given<'_>, proof: Given<'_>) -> Option<()> {
     let mut work = [0u64; WORK_WORDS];
-    let v = checker::check(handler, proof, pair::rows(), &mut work);
-    if print_line(rt, v) & explaining {
-        match v {
-            Ok(_) => explain_accepted(rt, handler, proof, &work),
-            Err(fault) => { explain_refusal(rt, handler_path, proof_path, handler, proof, fault) }
-        }
+    print_line(
+        rt,
+        checker::check(handler.bytes, proof.bytes, pair::rows(), &mut work),
+    )
+}
+
+// Does the same, and explains the line.
+fn explain(rt: &HostRuntime, handler: Given<'_>, proof: Given<'_>) -> Option<()> {
+    let mut work = [0u64; WORK_WORDS];
+    let v = checker::check(handler.bytes, proof.bytes, pair::rows(), &mut work);
+    print_line(rt, v)?;
+    match v {
+        Verdict::Accepted(_) => explain_accepted(rt, handler.bytes, proof.bytes, &work),
+        Verdict::Refused(fault) => explain_refusal(rt, handler, proof, fault),
     }
 }
 
-// Writes the proof file in its one form to the file at `out` and prints its length, or the line of a refusal.
-fn write_form(rt: &HostRuntime, handler: &[u8], proof: &[u8], out: &[u8]) {
+// Writes the proof file in its one form to the file that argument 4 names, and prints its length, or the line of a refusal.
+#[tactic(auto, using(crate::proofs::Room::written_within))]
+fn write_form(rt: &HostRuntime, handler: Given<'_>, proof: Given<'_>) -> Option<()> {
     let mut form = [0u8; MOST_FORM_BYTES];
-    let outcome = canonical::write_form(handler, proof, &mut form);
+    let outcome = canonical::write_form(handler.bytes, proof.bytes, &mut form);
     match outcome {
-        Ok(length) => {
-            if save::save(rt, out, &form[..length as usize]) {
-                print_length(rt, length);
-            }
+        Outcome::Written(length) => {
+            let mut out = [0u8; ARGUMENT_BYTES];
+            let out = argument(rt, 4, &mut out);
+            let form = &form[..length as usize];
+            save::save(rt, out, form)?;
+            print_length(rt, length)
         }
-        Err(fault) => {
-            print_line(rt, Err(fault));
-        }
+        Outcome::Refused(fault) => print_line(rt, Verdict::Refused(fault)),
     }
 }
 
@@ -201,82 +183,71 @@ const HANDLER_BYTES: usize = MOST_HANDLER_BYTES + 1;
 
 const PROOF_BYTES: usize = MOST_PROOF_BYTES + 1;
 
-// Reads the files at the two paths and does the task with them, unless one of them cannot be read. Only Write looks at `out`.
-fn do_with_files(rt: &HostRuntime, handler_path: &[u8], proof_path: &[u8], out: &[u8], task: Task) {
+// Reads the files at the two paths and does the task with them, unless one of them cannot be read.
+fn do_with_files<T: FnOnce(&HostRuntime, Given<'_>, Given<'_>) -> Option<()>>(
+    rt: &HostRuntime,
+    handler_path: &[u8],
+    proof_path: &[u8],
+    task: T,
+) -> Option<()>
+    requires { T.IsAlwaysCallable task }
+{
     let mut handler = [0u8; HANDLER_BYTES];
-    let Reading::Bytes(n) = read_file(rt, handler_path, &mut handler) else {
-        return;
+    let handler = Given {
+        path: handler_path,
+        bytes: read_file(rt, handler_path, &mut handler)?,
     };
     let mut proof = [0u8; PROOF_BYTES];
-    let Reading::Bytes(m) = read_file(rt, proof_path, &mut proof) else {
-        return;
+    let proof = Given {
+        path: proof_path,
+        bytes: read_file(rt, proof_path, &mut proof)?,
     };
-    let handler = &handler[..n];
-    let proof = &proof[..m];
-    match task {
-        Task::Check => judge(rt, handler_path, proof_path, handler, proof, false),
-        Task::Explain => judge(rt, handler_path, proof_path, handler, proof, true),
-        Task::Write => write_form(rt, handler, proof, out),
-    }
+    task(rt, handler, proof)
 }
 
 // The longest argument that Linux passes to a program, with its final 0.
 const ARGUMENT_BYTES: usize = 131072;
 
-// Puts argument i at the start of `name` and answers its length. One that does not fit fills `name`: the file is then reported
-// under the bytes that fit.
-fn argument(rt: &HostRuntime, i: usize, name: &mut [u8]) -> usize
-    ensures { result ≤ length name.old }
+// Puts argument i at the start of `room`. One that does not fit fills `room`: the file is then reported under the bytes that fit.
+fn argument<'a>(rt: &HostRuntime, i: usize, room: &'a mut [u8]) -> &'a [u8]
+    ensures { length result.now ≤ length room.old }
 {
-    match rt.arg(i, name) {
+    let n = match rt.arg(i, room) {
         Ok(n) => n,
-        Err(FillError::TooLong) => {
-            return name.len();
-        }
+        Err(FillError::TooLong) => room.len(),
         Err(FillError::NotPresent) => 0,
-    }
+    };
+    &room[..n]
 }
 
 // Reads the file that argument i names, as much as `buf` holds.
-fn read_argument(rt: &HostRuntime, i: usize, buf: &mut [u8]) -> Reading
-    ensures { amount result ≤ length buf.old }
+fn read_argument<'a>(rt: &HostRuntime, i: usize, buf: &'a mut [u8]) -> Option<&'a [u8]>
+    ensures { IfSome result (λ bytes. length bytes.now ≤ length buf.old) }
 {
     let mut name = [0u8; ARGUMENT_BYTES];
-    let n = argument(rt, i, &mut name);
-    read_file(rt, &name[..n], buf)
+    read_file(rt, argument(rt, i, &mut name), buf)
 }
 
-// Does the task with the files that the arguments from `first` on name: the handler, the proof and, for Write, the file to be written.
-fn do_with_arguments(rt: &HostRuntime, first: usize, task: Task)
-    requires { first < 3 }
+// Does the task with the files that the arguments from `first` on name: the handler and the proof.
+fn do_with_arguments<T: FnOnce(&HostRuntime, Given<'_>, Given<'_>) -> Option<()>>(
+    rt: &HostRuntime,
+    first: usize,
+    task: T,
+) -> Option<()>
+    requires always { T.IsAlwaysCallable task }
+    requires few { first < 3 }
 {
     let mut handler = [0u8; ARGUMENT_BYTES];
-    let n = argument(rt, first, &mut handler);
+    let handler = argument(rt, first, &mut handler);
     let mut proof = [0u8; ARGUMENT_BYTES];
-    let m = argument(rt, first + 1, &mut proof);
-    let mut out = [0u8; ARGUMENT_BYTES];
-    let k = argument(rt, first + 2, &mut out);
-    do_with_files(rt, &handler[..n], &proof[..m], &out[..k], task);
-}
-
-// Whether the bytes are those of a word.
-fn is_word(given: &[u8], word: &[u8]) -> bool {
-    if given.len() != word.len() {
-        return false;
-    }
-    for i in 0..word.len() {
-        if given[i] != word[i] {
-            return false;
-        }
-    }
-    true
+    let proof = argument(rt, first + 1, &mut proof);
+    do_with_files(rt, handler, proof, task)
 }
 
 // Whether the first argument is a command, a word of less than 16 bytes. One that is longer fills the 16 bytes.
 fn asks_to(rt: &HostRuntime, command: &[u8]) -> bool {
     let mut given = [0u8; 16];
-    let n = argument(rt, 1, &mut given);
-    is_word(&given[..n], command)
+    argument(rt, 1, &mut given) == command
 }
 
 // Prints on standard error how the program is called and what its line means.
@@ -312,32 +283,36 @@ The numbers are explained in docs/FAULTS.md. The exit status is always 0.
 
 // How many arguments the program was started with, its own name among them.
 fn argument_count(rt: &HostRuntime) -> usize {
-    for i in 0..usize::MAX {
-        if let Err(FillError::NotPresent) = rt.arg(i, &mut [0u8; 1]) {
-            return i;
-        }
-    }
-    usize::MAX
+    (0..usize::MAX)
+        .find(|i| matches!(rt.arg(*i, &mut [0u8; 1]), Err(FillError::NotPresent)))
+        .unwrap_or(usize::MAX)
 }
 
 // Chooses by the number of arguments. The program's own name is one of those that are counted.
-fn main(rt: HostRuntime) {
-    let rt = &rt;
+fn run(rt: &HostRuntime) -> Option<()> {
     let count = argument_count(rt);
-    let guests = admit::guests_among(count);
     if count < 2 {
-        do_with_files(rt, b"handler.bin", b"proof.bin", b"", Task::Check);
+        do_with_files(rt, b"handler.bin", b"proof.bin", check)
     } else if count == 3 {
-        do_with_arguments(rt, 1, Task::Check);
+        do_with_arguments(rt, 1, check)
     } else if (count == 4) & asks_to(rt, b"explain") {
-        do_with_arguments(rt, 2, Task::Explain);
+        do_with_arguments(rt, 2, explain)
     } else if (count == 5) & asks_to(rt, b"canonical") {
-        do_with_arguments(rt, 2, Task::Write);
+        do_with_arguments(rt, 2, write_form)
     } else if (count == 8) & asks_to(rt, b"compose") {
-        compose::compose_arguments(rt);
-    } else if (guests > 0) & asks_to(rt, b"admit") {
-        admit::admit_arguments(rt, guests);
+        compose::compose_arguments(rt)
     } else {
-        print_usage(rt);
+        match admit::guests_among(count) {
+            Some(guests) if asks_to(rt, b"admit") => admit::admit_arguments(rt, guests),
+            _ => {
+                print_usage(rt);
+                None
+            }
+        }
     }
+}
+
+// Whatever is not done was named on standard error, and the exit status is 0 all the same.
+fn main(rt: HostRuntime) {
+    run(&rt);
 }

@@ -1,6 +1,0 @@
--- The line's length is within the 80 bytes: `line_within`.
-use Rattle.report.proofs.Lines.{line_within}
-use Rattle.handover.proofs.compose.print_pair.Goals as goal
-
-pub print_front-requires : goal.print_front-requires
-print_front-requires c = rw (c.write_pair-n.ensures.0, c.write_pair-n.auto.out) (line_within _ _)
