@@ -10,7 +10,7 @@ ghost use Rattle.frame.specs.Served.{ServedIf};
 use checker::{Verdict, check};
 use frame::{Answer, Frame, Outcome, PLACES, Slot};
 use pair::rows;
-use slots::{Extent, NO_SLOT, added, holds_from, laid, laid_without, no_slots};
+use slots::{NO_SLOT, added, holds_from, laid, laid_without, no_slots};
 
 pub mod lent;
 mod slots;
@@ -47,8 +47,8 @@ pub fn left_over(frame: Frame) -> u32
     ensures { result ≡ left_over frame }
 {
     match laid(frame) {
-        Extent::EndToEnd(end) => frame.length - end,
-        Extent::Malformed => 0,
+        Some(end) => frame.length - end,
+        None => 0,
     }
 }
 
@@ -102,7 +102,7 @@ pub fn admit(
     if holds_from(frame, 0, place) {
         return turned_away(frame, Answer::Taken);
     }
-    let Extent::EndToEnd(end) = laid(frame) else {
+    let Some(end) = laid(frame) else {
         return turned_away(frame, Answer::Malformed);
     };
     if (ticks < 1) | (ticks > MOST_TICKS) {
@@ -124,7 +124,7 @@ pub fn release(frame: Frame, place: u32) -> Outcome
     if !holds_from(frame, 0, place) {
         return turned_away(frame, Answer::NotTaken);
     }
-    let Extent::EndToEnd(_end) = laid(frame) else {
+    let Some(_end) = laid(frame) else {
         return turned_away(frame, Answer::Malformed);
     };
     Outcome {

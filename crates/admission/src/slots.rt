@@ -15,13 +15,6 @@ pub(crate) const NO_SLOT: Slot = Slot {
     length: 0,
 };
 
-// The first tick after slots that lie end to end from tick 0 within the frame, each at a place of its own; or that they do not.
-#[derive(Clone, Copy)]
-pub(crate) enum Extent {
-    EndToEnd(u32),
-    Malformed,
-}
-
 // A frame of this length that has no slots.
 pub(crate) fn no_slots(length: u32) -> Frame
     ensures { result ≡ bare length }
@@ -66,8 +59,9 @@ fn lies_at(slot: Slot, tick: u32, length: u32) -> bool
     (slot.first == tick) & (slot.length <= length - tick) & (slot.place < PLACES as u32)
 }
 
-// Whether the slots lie end to end, by one look at each, with the places of those after it.
-fn laid_slots(frame: Frame) -> Extent
+// The first tick after slots that lie end to end from tick 0 within the frame, each at a place of its own; none if they do not. One look at
+// each slot, with the places of those after it.
+fn laid_slots(frame: Frame) -> Option<u32>
     requires { frame.count ≤ places }
     ensures { result ≡ laid_found (laid_within frame.length 0 (held frame)) (total (held frame)) }
 {
@@ -76,25 +70,25 @@ fn laid_slots(frame: Frame) -> Extent
     for i in 0..frame.count {
         let slot = slots[i as usize];
         if !lies_at(slot, tick, frame.length) {
-            return Extent::Malformed;
+            return None;
         }
         if holds_from(frame, i + 1, slot.place) {
-            return Extent::Malformed;
+            return None;
         }
         tick += slot.length;
     }
-    Extent::EndToEnd(tick)
+    Some(tick)
 }
 
 // The same, if the frame's length and the count are in range.
-pub(crate) fn laid(frame: Frame) -> Extent
+pub(crate) fn laid(frame: Frame) -> Option<u32>
     ensures { result ≡ laid_found (well_formed frame) (total (held frame)) }
 {
     if (frame.length < 1) | (frame.length > MOST_LENGTH) {
-        return Extent::Malformed;
+        return None;
     }
     if frame.count > PLACES as u32 {
-        return Extent::Malformed;
+        return None;
     }
     laid_slots(frame)
 }

@@ -16,7 +16,7 @@ use Rattle.frame.specs.Slots.{held, total, holds, well_formed}
 use Rattle.frame.specs.Calls.{before_check, on_verdict}
 use Rattle.frame.proofs.Calls.{no_such_place, taken, malformed, wrong_ticks, reached, Promised, turned, checked}
 use Rattle.admission.proofs.Looking.{found_malformed, found_end}
-use Rattle.admission.proofs.admit.Goals.{After-check, After-laid, In-EndToEnd}
+use Rattle.admission.proofs.admit.Goals.{After-check, After-laid, In-Some}
 use Rattle.admission.proofs.admit.Goals as goal
 
 -- What is known when the record is looked at: there is the place, and it is free.
@@ -27,15 +27,15 @@ free : (c : After-laid) → holds c.args.place (held c.args.frame) ≡ false
 free c = sym c.holds_from.ensures ∙ c.if-holds_from.false
 
 -- What the look found: the record is well-formed, and where the last slot ends.
-found : (c : In-EndToEnd) → let f = c.args.frame in (well_formed f ≡ true) × (c.in-EndToEnd.end ≡ total (held f))
-found c = found_end (well_formed c.args.frame) _ _ _ c.laid.ensures c.in-EndToEnd.is
+found : (c : In-Some) → let f = c.args.frame in (well_formed f ≡ true) × (c.in-Some.end ≡ total (held f))
+found c = found_end (well_formed c.args.frame) _ _ _ c.laid.ensures c.in-Some.is
 
 -- When the check is reached, its verdict alone decides.
 none_there : (c : After-check) → let a = c.args in before_check a.frame a.place a.ticks ≡ none
 none_there c =
     let a = c.args in
     let free = sym c.holds_from.ensures ∙ c.if-holds_from.false in
-    let found = found_end (well_formed a.frame) _ _ _ c.laid.ensures c.in-EndToEnd.is in
+    let found = found_end (well_formed a.frame) _ _ _ c.laid.ensures c.in-Some.is in
     reached a.frame a.place a.ticks (le-ltb _ _ c.if-place-gt-LAST_PLACE.false) free found.0 c.if-ticks.false
 
 -- The need of any step number and any ticks is a number of 64 bits.
@@ -82,7 +82,7 @@ pub returns-then-ticks : goal.returns-then-ticks
 returns-then-ticks c =
     let a = c.args in
     let at = (goal.at.returns-then-ticks c).After-laid in
-    let well = (found (goal.at.returns-then-ticks c).In-EndToEnd).0 in
+    let well = (found (goal.at.returns-then-ticks c).In-Some).0 in
     let p = turned _ _ _ _ _ _ _ _ refl (wrong_ticks a.frame a.place a.ticks (there at) (free at) well c.if-ticks.true) c.turned_away-then-ticks.ensures in
     record { outcome = p.0; words = p.1.0; served = p.1.1 }
 
@@ -94,7 +94,7 @@ overflow_mul-steps c =
 
 pub grant-requires : goal.grant-requires
 grant-requires c =
-    let known = found (goal.at.grant-requires c).In-EndToEnd in
+    let known = found (goal.at.grant-requires c).In-Some in
     (known.0, free (goal.at.grant-requires c).After-laid, omega (arith, c.if-place-gt-LAST_PLACE.false), known.1)
 
 pub returns-in-Refused : goal.returns-in-Refused

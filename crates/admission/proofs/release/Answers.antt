@@ -9,7 +9,7 @@ use Rattle.frame.specs.Slots.{held, holds, well_formed}
 use Rattle.frame.proofs.Frames.{well}
 use Rattle.frame.proofs.Calls.{no_such_guest, not_taken, ill_formed, may_go, not_released, gap_closed}
 use Rattle.admission.proofs.Looking.{found_malformed, found_end}
-use Rattle.admission.proofs.release.Goals.{After-laid, In-EndToEnd}
+use Rattle.admission.proofs.release.Goals.{After-laid, In-Some}
 use Rattle.admission.proofs.release.Goals as goal
 
 -- What is known when the record is looked at: there is the place, and it is taken.
@@ -20,8 +20,8 @@ held_there : (c : After-laid) → holds c.args.place (held c.args.frame) ≡ tru
 held_there c = sym c.holds_from.ensures ∙ c.if-not-holds_from.false
 
 -- After the look at the record the guest may go.
-well_formed_lem : (c : In-EndToEnd) → well_formed c.args.frame ≡ true
-well_formed_lem c = (found_end (well_formed c.args.frame) _ _ _ c.laid.ensures c.in-EndToEnd.is).0
+well_formed_lem : (c : In-Some) → well_formed c.args.frame ≡ true
+well_formed_lem c = (found_end (well_formed c.args.frame) _ _ _ c.laid.ensures c.in-Some.is).0
 
 pub returns-then-place-gt-LAST_PLACE : goal.returns-then-place-gt-LAST_PLACE
 returns-then-place-gt-LAST_PLACE c =
@@ -44,7 +44,7 @@ returns-in_default c =
 
 pub laid_without-requires : goal.laid_without-requires
 laid_without-requires c =
-    let known = well _ (well_formed_lem (goal.at.laid_without-requires c).In-EndToEnd) in
+    let known = well _ (well_formed_lem (goal.at.laid_without-requires c).In-Some) in
     (known.few_slots, known.within)
 
 pub returns : goal.returns
@@ -52,4 +52,4 @@ returns c =
     let a = c.args in
     let at = (goal.at.returns c).After-laid in
     ap (λ (g : Frame). record { frame = g; answer = Done }) c.laid_without.ensures
-    ∙ sym (gap_closed a.frame a.place (may_go a.frame a.place (there at) (held_there at) (well_formed_lem (goal.at.returns c).In-EndToEnd)))
+    ∙ sym (gap_closed a.frame a.place (may_go a.frame a.place (there at) (held_there at) (well_formed_lem (goal.at.returns c).In-Some)))

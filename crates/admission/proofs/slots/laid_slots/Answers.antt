@@ -9,8 +9,8 @@ use borrow.Author.Tests.{leb-true}
 use lib.Dec.{ltb, eqb}
 use lib.ListN.{length, get_or, take, drop}
 use Rattle.states.proofs.Search.{and_left, and_right}
+use Rattle.std.specs.Prelude.{None}
 use Rattle.frame.specs.Slots.{places, held, total, laid_within, no_slot}
-use Rattle.admission.specs.declared.slots.Extent.TheVariants.{Malformed}
 use Rattle.admission.specs.Refinement.{laid_found}
 use Rattle.admission.proofs.Arrays.{length_of_mapped}
 use Rattle.admission.proofs.Looking.{next_slot, none_left, laid_none, Lies, laid_on, laid_not, laid_twice}
@@ -30,7 +30,7 @@ next c = next_slot c.args.frame.slots c.args.frame.count c.loop-i.i no_slot (ome
 wrong : (c : In-loop-i) →
     let f = c.args.frame in
     laid_within f.length c.loop-i.tick (get_or f.slots c.loop-i.i no_slot ∷ drop (c.loop-i.i + 1) (held f)) ≡ false
-    → Malformed ≡ laid_found (laid_within f.length 0 (held f)) (total (held f))
+    → None ≡ laid_found (laid_within f.length 0 (held f)) (total (held f))
 wrong c h =
     let f = c.args.frame in
     let none = sym c.loop-i.invariant.decide ∙ ap (laid_within f.length c.loop-i.tick) (next c) ∙ h in
