@@ -2,7 +2,11 @@
 // functions; here are the types.
 #![tactic(auto)]
 
-use checker::Fault;
+ghost use Rattle.std.specs.Prelude.{◌≡◌};
+ghost use Rattle.frame.specs.Calls.{fault_of};
+
+use checker::{Fault, Place};
+use search::Named;
 
 // How many guest places a core has.
 pub const PLACES: usize = 16;
@@ -23,16 +27,15 @@ pub struct Frame {
     pub slots: [Slot; PLACES],
 }
 
-// The answer to a call. docs/ADMISSION.md has the number of each refusal.
+// Why a call is turned away. docs/ADMISSION.md has the number of each refusal.
 #[derive(Clone, Copy)]
-pub enum Answer {
-    Done,
+pub enum Refusal {
     NoSuchPlace,
     Taken,
     NotTaken,
     Malformed,
     WrongTicks,
-    Refused(Fault),
+    Check(Fault),
     NoRoom,
 }
 
@@ -40,5 +43,27 @@ pub enum Answer {
 #[derive(Clone, Copy)]
 pub struct Outcome {
     pub frame: Frame,
-    pub answer: Answer,
+    pub answer: Result<(), Refusal>,
+}
+
+// The refusal with its number. Those that are not the check's have no place of their own, and are at bit 0.
+impl From<Refusal> for Fault {
+    ghost from_gives = { λ refusal fault. fault ≡ fault_of refusal };
+
+    fn from(refusal: Refusal) -> Fault {
+        let number = match refusal {
+            Refusal::NoSuchPlace => 100,
+            Refusal::Taken => 101,
+            Refusal::NotTaken => 101,
+            Refusal::Malformed => 102,
+            Refusal::WrongTicks => 104,
+            Refusal::Check(fault) => return fault,
+            Refusal::NoRoom => 103,
+        };
+        Fault {
+            number,
+            place: Place::Bit(0),
+            states: Named::Nothing,
+        }
+    }
 }
