@@ -17,11 +17,11 @@ use Rattle.checker.proofs.Bounds.{bounded}
 use Rattle.report.specs.Code.{index_of, code_of, Lossless}
 use Rattle.report.proofs.Decoding.{lossless}
 use Rattle.frame.specs.declared.Frame.{Frame}
-use Rattle.frame.specs.declared.Answer.{Answer}
-use Rattle.frame.specs.declared.Answer.TheVariants as Answer
+use Rattle.frame.specs.declared.Refusal.TheVariants.{Check}
 use Rattle.frame.specs.declared.Outcome.{Outcome}
 use Rattle.frame.specs.Slots.{places}
-use Rattle.frame.specs.Calls.{as_verdict, is_done, admit, released}
+use Rattle.std.specs.Prelude.{Ok, Err, is_ok}
+use Rattle.frame.specs.Calls.{Answer, as_verdict, admit, released}
 use Rattle.frame.specs.Served.{ServedIf}
 use Rattle.frame.specs.Lent.{frame_in, numbers_after}
 use Rattle.frame.proofs.Outcomes.{admitted_cases, released_cases}
@@ -29,18 +29,18 @@ use Rattle.frame.proofs.Lent.{read_back}
 
 -- No bit of the answer is cut off, and its number is 0 exactly if the call was done.
 abbrev pub Coded : Answer → Type 0
-Coded a = Lossless (as_verdict a) × (eqb (code_of (as_verdict a)) 0 ≡ is_done a)
+Coded a = Lossless (as_verdict a) × (eqb (code_of (as_verdict a)) 0 ≡ is_ok a)
 
-refused : (f : Fault) → Lossless (Verdict.Refused f) → Coded (Answer.Refused f)
+refused : (f : Fault) → Lossless (Verdict.Refused f) → Coded (Err (Check f))
 unfolding code_of
 refused f small = (small, ne_eqb (code_of (Verdict.Refused f)) 0 (λ e. omega arith))
 
 -- The refusals that are not the check's.
-plain : (k : ℕ) → k ≤ 4 → Coded (Answer.Refused (record { number = 100 + k; place = Bit 0; states = Nothing }))
+plain : (k : ℕ) → k ≤ 4 → Coded (Err (Check (record { number = 100 + k; place = Bit 0; states = Nothing })))
 unfolding index_of
 plain k few = refused _ (omega arith, omega arith, omega arith)
 
-done : Coded Answer.Done
+done : Coded (Ok tt)
 unfolding code_of
 done = (omega arith, refl)
 
@@ -57,7 +57,7 @@ admit_coded f place hb pb ticks words =
 
 -- If the number is 0, the record that is read from the numbers is the call's.
 pub served_read : (o : Outcome) (hb pb : List ℕ) (ticks : ℕ) (numbers : List ℕ) → length o.frame.slots ≡ places → Coded o.answer
-    → ServedIf (is_done o.answer) hb pb ticks o.frame
+    → ServedIf (is_ok o.answer) hb pb ticks o.frame
     → ServedIf (eqb (code_of (as_verdict o.answer)) 0) hb pb ticks (frame_in (numbers_after o numbers))
 served_read o hb pb ticks numbers long coded so =
     record { served = λ zero. let done = sym coded.1 ∙ zero in rw (done, read_back o.frame long) (so.served done) }

@@ -13,7 +13,7 @@ use Rattle.states.proofs.Search.{and_left, and_right, and_both, or_none, bool_ex
 use Rattle.frame.specs.declared.Slot.{Slot}
 use Rattle.frame.specs.declared.Frame.{Frame}
 use Rattle.frame.specs.Slots.{places, held, total, holds, end_to_end, apart, laid_within, well_formed}
-use Rattle.std.specs.Prelude.{Option, Some, None}
+use Rattle.std.specs.Prelude.{Option, Some, is_some, unwrap_or}
 use Rattle.admission.specs.Refinement.{laid_found}
 use Rattle.frame.proofs.Places.{first_below, first_alone, rest_apart, apart_cons, or_neither}
 use Rattle.frame.proofs.Frames.{well}
@@ -124,21 +124,11 @@ module _ (f : Frame) where
       let h = or_neither (ltb f.length 1) (ltb 1000000 f.length) inside in
       rw (le-leb 1 f.length (ltb-false f.length 1 h.0), le-leb f.length 1000000 (ltb-false 1000000 f.length h.1), le-leb f.count places few) refl
 
--- What the look at a record found.
-malformed : Option ℕ → Bool
-malformed (Some end) = false
-malformed None = true
-
-end_of : Option ℕ → ℕ
-end_of (Some end) = end
-end_of None = 0
-
-pub found_malformed : (b : Bool) (n : ℕ) (x : Option ℕ) → x ≡ laid_found b n → x ≡ None → b ≡ false
-unfolding malformed
-found_malformed true n x is e = ap malformed (sym (sym is ∙ e))
-found_malformed false n x is e = refl
+-- What the look at a record found: an end, if it is well-formed, which is where the last slot ends.
+pub found_some : (b : Bool) (n : ℕ) (x : Option ℕ) → x ≡ laid_found b n → is_some x ≡ b
+found_some true n x is = ap is_some is
+found_some false n x is = ap is_some is
 
 pub found_end : (b : Bool) (n end : ℕ) (x : Option ℕ) → x ≡ laid_found b n → x ≡ Some end → (b ≡ true) × (end ≡ n)
-unfolding malformed end_of
-found_end true n end x is e = (refl, ap end_of (sym e ∙ is))
-found_end false n end x is e = (ap malformed (sym (sym is ∙ e)), absurd (true≢false (ap malformed (sym is ∙ e))))
+found_end true n end x is e = (refl, ap (λ o. unwrap_or o 0) (sym e ∙ is))
+found_end false n end x is e = absurd (true≢false (ap is_some (sym e ∙ is)))

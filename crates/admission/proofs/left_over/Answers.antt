@@ -1,12 +1,13 @@
 -- What the look at the record found decides.
 use Prim.Native.Nat.{◌-◌}
-use mathlib.Core.Path.{◌≡◌, refl}
+use mathlib.Core.Path.{◌≡◌, refl, sym, ap, ◌∙◌}
 use mathlib.Core.Bool.{true}
 use native.Mathlib.Omega.{arith}
+use Rattle.std.specs.Prelude.{is_some}
 use Rattle.frame.specs.declared.Frame.{Frame}
 use Rattle.frame.specs.Slots.{held, total, well_formed, left_over}
 use Rattle.frame.proofs.Frames.{well}
-use Rattle.admission.proofs.Looking.{found_malformed, found_end}
+use Rattle.admission.proofs.Looking.{found_some, found_end}
 use Rattle.admission.proofs.left_over.Goals.{In-Some}
 use Rattle.admission.proofs.left_over.Goals as goal
 
@@ -29,4 +30,4 @@ pub returns-in-None : goal.returns-in-None
 unfolding left_over
 returns-in-None c =
     let f = c.args.frame in
-    rw (found_malformed (well_formed f) _ _ c.laid.ensures c.in-None.is) refl
+    rw (sym (found_some (well_formed f) _ _ c.laid.ensures) ∙ ap is_some c.in-None.is) refl
