@@ -96,7 +96,8 @@ fn put_slot(numbers: &mut [u32], i: usize, slot: Slot)
 // Writes a record over the 50 numbers.
 fn put_frame(numbers: &mut [u32], frame: Frame)
     requires { length numbers.old ≡ 50 }
-    ensures { numbers.new ≡ numbers_of frame }
+    ensures numbers { numbers.new ≡ numbers_of frame }
+    ensures read { frame_in numbers.new ≡ frame }
 {
     numbers[0] = frame.length;
     numbers[1] = frame.count;
@@ -120,6 +121,7 @@ fn answered(numbers: &mut [u32], frame: Frame, answer: Result<(), Refusal>) -> u
     requires { is_ok answer ≡ true → length numbers.old ≡ 50 }
     ensures number { result ≡ code_of (as_verdict answer) }
     ensures numbers { numbers.new ≡ numbers_after (record { frame = frame; answer = answer }) numbers.old }
+    ensures read { is_ok answer ≡ true → frame_in numbers.new ≡ frame }
 {
     if answer.is_ok() {
         put_frame(numbers, frame);

@@ -11,7 +11,7 @@ use super::{
     ARGUMENT_BYTES, HANDLER_BYTES, PROOF_BYTES, Reading, argument, print_front, read_argument, save,
 };
 use checker::{Verdict, WORK_WORDS};
-use frame::{Frame, Outcome, PLACES};
+use frame::{Frame, PLACES, Refusal};
 
 // The argument that is the frame's length, and the first of the guests', which have three each.
 const FRAME_LENGTH: usize = 2;
@@ -90,20 +90,24 @@ fn read_guest(rt: &HostRuntime, first: usize, handler: &mut [u8], proof: &mut [u
 }
 
 // Tries a guest with work words of its own.
-fn try_guest(frame: Frame, place: u32, handler: &[u8], proof: &[u8], ticks: u32) -> Outcome {
+fn try_guest(
+    frame: &mut Frame,
+    place: u32,
+    handler: &[u8],
+    proof: &[u8],
+    ticks: u32,
+) -> Result<(), Refusal> {
     let mut work = [0u64; WORK_WORDS];
     admission::admit(frame, place, handler, proof, ticks, &mut work)
 }
 
 // Writes the line of a guest that was tried: its slot, which is the last one, or the refusal.
-fn write_outcome(place: u32, outcome: Outcome, out: &mut [u8]) -> usize
+fn write_outcome(place: u32, frame: Frame, answer: Result<(), Refusal>, out: &mut [u8]) -> usize
     ensures { result ≤ length out.old }
 {
-    let answer = outcome.answer;
     let v = admission::lent::verdict_of(answer);
     match v {
         Verdict::Accepted(_) => {
-            let frame = outcome.frame;
             let slot = admission::last_slot(frame);
             report::write_slot(place, slot.first, slot.length, out)
         }
@@ -128,9 +132,8 @@ fn write_table(rt: &HostRuntime, frame_length: u32, guests: usize, table: &mut [
         };
         let handler = &handler[..guest.handler];
         let proof = &proof[..guest.proof];
-        let outcome = try_guest(frame, place, handler, proof, guest.ticks);
-        end += write_outcome(place, outcome, &mut table[end..]);
-        frame = outcome.frame;
+        let answer = try_guest(&mut frame, place, handler, proof, guest.ticks);
+        end += write_outcome(place, frame, answer, &mut table[end..]);
     }
     end += report::write_left(admission::left_over(frame), &mut table[end..]);
     Reading::Bytes(end)

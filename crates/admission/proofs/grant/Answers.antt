@@ -4,7 +4,6 @@ use mathlib.Core.Path.{refl, sym, ap, ◌∙◌}
 use native.Mathlib.Omega.{arith}
 use Rattle.frame.specs.declared.Frame.{Frame}
 use Rattle.std.specs.Prelude.{Ok}
-use Rattle.frame.specs.declared.Outcome.{Outcome}
 use Rattle.frame.specs.Slots.{held, frame_of}
 use Rattle.frame.proofs.Frames.{Well, well}
 use Rattle.frame.proofs.Calls.{no_room, has_room}

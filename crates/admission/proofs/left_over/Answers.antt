@@ -1,10 +1,8 @@
 -- What the look at the record found decides.
-use Prim.Native.Nat.{◌-◌}
 use mathlib.Core.Path.{◌≡◌, refl, sym, ap, ◌∙◌}
 use mathlib.Core.Bool.{true}
 use native.Mathlib.Omega.{arith}
 use Rattle.std.specs.Prelude.{is_some}
-use Rattle.frame.specs.declared.Frame.{Frame}
 use Rattle.frame.specs.Slots.{held, total, well_formed, left_over}
 use Rattle.frame.proofs.Frames.{well}
 use Rattle.admission.proofs.Looking.{found_some, found_end}

@@ -1,16 +1,13 @@
 -- The call is made with the record that the numbers hold; if it is done, these are 50, and the record is read from those at exit.
 use mathlib.Core.Path.{◌≡◌, sym, ◌∙◌, ap, subst}
-use borrow.Author.Rules.{rules}
 use lib.ListN.{length}
 use Rattle.report.specs.Code.{code_of, decoded}
 use Rattle.report.proofs.Decoding.{decoded_back}
 use Rattle.std.specs.Prelude.{is_ok}
 use Rattle.frame.specs.declared.Outcome.{Outcome}
-use Rattle.frame.specs.Slots.{places}
 use Rattle.frame.specs.Calls.{as_verdict, admit}
 use Rattle.frame.specs.Lent.{frame_in}
 use Rattle.frame.proofs.Outcomes.{admitted_well, well_whole}
-use Rattle.admission.proofs.Arrays.{length_of_mapped}
 use Rattle.admission.proofs.Decoding.{Coded, admit_coded, served_read}
 use Rattle.admission.proofs.lent.admit_lent.Goals.{After-admit-answer}
 use Rattle.admission.proofs.lent.admit_lent.Goals as goal
@@ -23,10 +20,6 @@ outcome : (c : After-admit-answer) →
     let a = c.args in
     left c ≡ admit (frame_in a.numbers.now) a.place a.handler.now a.proof.now a.ticks (length a.work.now)
 outcome c = rw (← c.frame_in-frame.ensures) c.admit-answer.ensures.outcome
-
--- The record of the result has 16 slots.
-all_slots : (c : After-admit-answer) → length c.admit-answer.new.frame.slots ≡ places
-all_slots c = search (rules, length_of_mapped)
 
 pub answered-requires : goal.answered-requires
 unfolding admit
@@ -52,5 +45,4 @@ pub returns-clause-served : goal.returns-clause-served
 returns-clause-served c =
     let at = (goal.at.returns-clause-served c).After-admit-answer in
     let coded = subst (λ o. Coded o.answer) (sym (outcome at)) (admit_coded _ _ _ _ _ _) in
-    rw (c.answered.ensures.number, c.answered.ensures.numbers)
-    (served_read (left at) _ _ _ _ (all_slots at) coded c.admit-answer.ensures.served)
+    rw c.answered.ensures.number (served_read (left at) _ _ _ _ c.answered.ensures.read coded c.admit-answer.ensures.served)
