@@ -21,7 +21,7 @@ pub const RECORD_NUMBERS: usize = 50;
 fn number_at(numbers: &[u32], i: usize) -> u32
     ensures { result ≡ get_or numbers.now i 0 }
 {
-    if i < numbers.len() { numbers[i] } else { 0 }
+    numbers.get(i).copied().unwrap_or(0)
 }
 
 // Slot i of the numbers.
@@ -51,15 +51,7 @@ fn slots_in(numbers: &[u32]) -> [Slot; PLACES]
 fn in_full(count: u32, len: usize) -> u32
     ensures { result ≡ min count ((len - 2) / 3) }
 {
-    if len < 2 {
-        return 0;
-    }
-    let full = (len - 2) / 3;
-    if (count as usize) < full {
-        count
-    } else {
-        full as u32
-    }
+    (count as usize).min(len.saturating_sub(2) / 3) as u32
 }
 
 // The record that numbers hold. One that is not 50 numbers has no frame, so that it is malformed.

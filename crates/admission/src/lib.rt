@@ -10,7 +10,7 @@ ghost use Rattle.frame.specs.Served.{ServedIf};
 use checker::{Verdict, check};
 use frame::{Frame, PLACES, Refusal, Slot};
 use pair::rows;
-use slots::{NO_SLOT, added, holds_from, laid, laid_without, no_slots};
+use slots::{NO_SLOT, added, is_taken, laid, laid_without, no_slots};
 
 pub mod lent;
 mod slots;
@@ -31,22 +31,15 @@ pub fn bare(length: u32) -> Frame
 pub fn last_slot(frame: Frame) -> Slot
     ensures { result ≡ last_slot frame }
 {
-    let slots = frame.slots;
-    let count = frame.count as usize;
-    if count == 0 {
-        return slots[0];
-    }
-    if count > PLACES {
-        return NO_SLOT;
-    }
-    slots[count - 1]
+    let last = (frame.count as usize).saturating_sub(1);
+    frame.slots.get(last).copied().unwrap_or(NO_SLOT)
 }
 
 // The ticks after the last slot; a malformed record has none.
 pub fn left_over(frame: Frame) -> u32
     ensures { result ≡ left_over frame }
 {
-    match laid(frame) {
+    match laid(&frame) {
         Some(end) => frame.length - end,
         None => 0,
     }
@@ -61,7 +54,7 @@ fn grant(frame: &mut Frame, place: u32, end: u32, need: u64) -> Result<(), Refus
     if need > room as u64 {
         return Err(Refusal::NoRoom);
     }
-    let kept = laid_without(*frame, place);
+    let kept = laid_without(frame, place);
     *frame = added(
         kept,
         Slot {
@@ -90,10 +83,10 @@ pub fn admit(
     if place > LAST_PLACE {
         return Err(Refusal::NoSuchPlace);
     }
-    if holds_from(*frame, 0, place) {
+    if is_taken(frame, place) {
         return Err(Refusal::Taken);
     }
-    let end = laid(*frame).ok_or(Refusal::Malformed)?;
+    let end = laid(frame).ok_or(Refusal::Malformed)?;
     if (ticks < 1) | (ticks > MOST_TICKS) {
         return Err(Refusal::WrongTicks);
     }
@@ -110,12 +103,12 @@ pub fn release(frame: &mut Frame, place: u32) -> Result<(), Refusal>
     if place > LAST_PLACE {
         return Err(Refusal::NoSuchPlace);
     }
-    if !holds_from(*frame, 0, place) {
+    if !is_taken(frame, place) {
         return Err(Refusal::NotTaken);
     }
-    if laid(*frame).is_none() {
+    if laid(frame).is_none() {
         return Err(Refusal::Malformed);
     }
-    *frame = laid_without(*frame, place);
+    *frame = laid_without(frame, place);
     Ok(())
 }

@@ -34,7 +34,7 @@ there : (c : After-laid) → ltb 15 c.args.place ≡ false
 there c = le-ltb _ _ c.if-place-gt-LAST_PLACE.false
 
 free : (c : After-laid) → holds c.args.place (held c.args.frame.now) ≡ false
-free c = sym c.holds_from.ensures ∙ c.if-holds_from.false
+free c = sym c.is_taken.ensures ∙ c.if-is_taken.false
 
 -- What the look found: the record is well-formed, and where the last slot ends.
 found : (c : In_ok-end) → let f = c.args.frame.now in (well_formed f ≡ true) × (c.in_ok-end.end ≡ total (held f))
@@ -44,7 +44,7 @@ found c = found_end (well_formed c.args.frame.now) _ _ _ c.laid.ensures (c.ok_or
 none_there : (c : After-check) → let a = c.args in before_check a.frame.now a.place a.ticks ≡ none
 none_there c =
     let a = c.args in
-    let free = sym c.holds_from.ensures ∙ c.if-holds_from.false in
+    let free = sym c.is_taken.ensures ∙ c.if-is_taken.false in
     let found = found_end (well_formed a.frame.now) _ _ _ c.laid.ensures (c.ok_or.ensures.ok_part ∙ ap result_ok c.in_ok-end.was) in
     reached a.frame.now a.place a.ticks (le-ltb _ _ c.if-place-gt-LAST_PLACE.false) free found.0 c.if-ticks.false
 
@@ -72,11 +72,11 @@ returns-then-place-gt-LAST_PLACE c =
     let p = turned _ _ _ _ _ _ _ _ (no_such_place a.frame.now a.place a.ticks (lt-ltb _ _ c.if-place-gt-LAST_PLACE.true)) refl in
     record { outcome = p.0; words = p.1.0; served = p.1.1 }
 
-pub returns-then-holds_from : goal.returns-then-holds_from
-returns-then-holds_from c =
+pub returns-then-is_taken : goal.returns-then-is_taken
+returns-then-is_taken c =
     let a = c.args in
     let there = le-ltb _ _ c.if-place-gt-LAST_PLACE.false in
-    let why = taken a.frame.now a.place a.ticks there (sym c.holds_from.ensures ∙ c.if-holds_from.true) in
+    let why = taken a.frame.now a.place a.ticks there (sym c.is_taken.ensures ∙ c.if-is_taken.true) in
     let p = turned _ _ _ _ _ _ _ _ why refl in
     record { outcome = p.0; words = p.1.0; served = p.1.1 }
 

@@ -17,7 +17,7 @@ there : (c : After-laid) → ltb 15 c.args.place ≡ false
 there c = le-ltb _ _ c.if-place-gt-LAST_PLACE.false
 
 held_there : (c : After-laid) → holds c.args.place (held c.args.frame.now) ≡ true
-held_there c = sym c.holds_from.ensures ∙ c.if-not-holds_from.false
+held_there c = sym c.is_taken.ensures ∙ c.if-not-is_taken.false
 
 -- After the look at the record the guest may go.
 well_formed_lem : (c : Else-is_none) → well_formed c.args.frame.now ≡ true
@@ -28,11 +28,11 @@ returns-then-place-gt-LAST_PLACE c =
     let a = c.args in
     sym (not_released a.frame.now a.place _ (no_such_guest a.frame.now a.place (lt-ltb _ _ c.if-place-gt-LAST_PLACE.true)))
 
-pub returns-then-not-holds_from : goal.returns-then-not-holds_from
-returns-then-not-holds_from c =
+pub returns-then-not-is_taken : goal.returns-then-not-is_taken
+returns-then-not-is_taken c =
     let a = c.args in
     let there = le-ltb _ _ c.if-place-gt-LAST_PLACE.false in
-    let free = sym c.holds_from.ensures ∙ c.if-not-holds_from.true in
+    let free = sym c.is_taken.ensures ∙ c.if-not-is_taken.true in
     sym (not_released a.frame.now a.place _ (not_taken a.frame.now a.place there free))
 
 pub returns-then-is_none : goal.returns-then-is_none
