@@ -8,11 +8,11 @@ ghost use Rattle.frame.specs.Calls as Calls;
 ghost use Rattle.frame.specs.Served.{ServedIf};
 ghost use Rattle.frame.specs.Lent.{slot_in, slots_in, frame_in, slot_numbers, numbers_of, numbers_after};
 
-use super::slots::NO_SLOT;
 use super::{admit, release};
 use checker::{Fault, Verdict};
 use frame::{Frame, PLACES, Refusal, Slot};
 use report::code_of;
+use std::array;
 
 // How many numbers a record is.
 pub const RECORD_NUMBERS: usize = 50;
@@ -40,11 +40,7 @@ fn slot_in(numbers: &[u32], i: usize) -> Slot
 fn slots_in(numbers: &[u32]) -> [Slot; PLACES]
     ensures { result ≡ slots_in numbers.now places }
 {
-    let mut slots = [NO_SLOT; PLACES];
-    for i in 0..PLACES {
-        slots[i] = slot_in(numbers, i);
-    }
-    slots
+    array::from_fn(|i| slot_in(numbers, i))
 }
 
 // How many of `count` slots so many numbers have in full.
@@ -93,6 +89,7 @@ fn put_frame(numbers: &mut [u32], frame: Frame)
 {
     numbers[0] = frame.length;
     numbers[1] = frame.count;
+    // By index: slot i has three numbers from 2 + 3 * i on, and `put_slot` says so.
     for i in 0..PLACES {
         put_slot(numbers, i, frame.slots[i]);
     }

@@ -36,7 +36,7 @@ fn held(frame: &Frame) -> &[Slot]
 }
 
 // Whether one of the slots is at this place.
-pub(crate) fn holds(slots: &[Slot], place: u32) -> bool
+fn holds(slots: &[Slot], place: u32) -> bool
     ensures { result ≡ holds place slots.now }
 {
     slots.iter().any(|slot| slot.place == place)

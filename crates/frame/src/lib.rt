@@ -1,5 +1,5 @@
 // What a core's frame holds, which calls are turned away, and what holds after any calls (specs/, proofs/). The crate `admission` has the
-// functions; here are the types.
+// functions; here are the types, and the fault of a refusal.
 #![tactic(auto)]
 
 ghost use Rattle.std.specs.Prelude.{◌≡◌};
@@ -19,7 +19,8 @@ pub struct Slot {
     pub length: u32,
 }
 
-// The record of a core: the length of its frame in ticks, and the slots in order of admission, of which the first `count` are held.
+// The record of a core: the length of its frame in ticks, and the slots in order of admission, of which the first `count` are held. A host
+// lends it as 50 numbers (`handover_admit`), and a count over 16 is answered with 102, so the count stands beside the slots.
 #[derive(Clone, Copy)]
 pub struct Frame {
     pub length: u32,
@@ -39,7 +40,7 @@ pub enum Refusal {
     NoRoom,
 }
 
-// The answer to a call, and the record after it.
+// The answer to a call, and the record after it: what the definitions of specs/ give for a call.
 #[derive(Clone, Copy)]
 pub struct Outcome {
     pub frame: Frame,
