@@ -8,8 +8,6 @@ use native.Mathlib.Omega.{arith}
 use borrow.Author.Tests.{ne_eqb}
 use lib.Dec.{eqb}
 use Rattle.pair.specs.Modes.{rows}
-use Rattle.search.specs.declared.Named.TheVariants.{Nothing}
-use Rattle.checker.specs.declared.Place.TheVariants.{Bit}
 use Rattle.checker.specs.declared.Fault.{Fault}
 use Rattle.checker.specs.declared.Verdict.TheVariants as Verdict
 use Rattle.checker.specs.Verdicts as Verdicts
@@ -20,7 +18,7 @@ use Rattle.frame.specs.declared.Frame.{Frame}
 use Rattle.frame.specs.declared.Refusal.TheVariants.{Check}
 use Rattle.frame.specs.declared.Outcome.{Outcome}
 use Rattle.std.specs.Prelude.{Ok, Err, is_ok}
-use Rattle.frame.specs.Calls.{Answer, as_verdict, admit, released}
+use Rattle.frame.specs.Calls.{Answer, at_bit0, as_verdict, admit, released}
 use Rattle.frame.specs.Served.{ServedIf}
 use Rattle.frame.proofs.Outcomes.{admitted_cases, released_cases}
 
@@ -33,7 +31,7 @@ unfolding code_of
 refused f small = (small, ne_eqb (code_of (Verdict.Refused f)) 0 (λ e. omega arith))
 
 -- The refusals that are not the check's.
-plain : (k : ℕ) → k ≤ 4 → Coded (Err (Check (record { number = 100 + k; place = Bit 0; states = Nothing })))
+plain : (k : ℕ) → k ≤ 4 → Coded (Err (Check (at_bit0 (100 + k))))
 unfolding index_of
 plain k few = refused _ (omega arith, omega arith, omega arith)
 
