@@ -1,46 +1,41 @@
 -- The answer as one number: nothing is cut off, so that it determines the answer but for the states, it is 0 exactly if the call was done,
 -- and then the record can be read from the numbers.
-use Rattle.std.specs.Prelude.{Err}
 use Prim.Native.Nat.{ℕ, ◌+◌, ◌≤◌}
+use mathlib.Core.Bool.{true}
 use mathlib.Core.List.{List}
 use mathlib.Core.Path.{◌≡◌, refl, sym, subst, ◌∙◌}
 use native.Mathlib.Omega.{arith}
 use borrow.Author.Tests.{ne_eqb}
 use lib.Dec.{eqb}
-use lib.ListN.{length}
 use Rattle.pair.specs.Modes.{rows}
-use Rattle.search.specs.declared.Named.TheVariants.{Nothing}
-use Rattle.checker.specs.declared.Place.TheVariants.{Bit}
 use Rattle.checker.specs.declared.Fault.{Fault}
+use Rattle.checker.specs.declared.Verdict.TheVariants as Verdict
 use Rattle.checker.specs.Verdicts as Verdicts
 use Rattle.checker.proofs.Bounds.{bounded}
 use Rattle.report.specs.Code.{index_of, code_of, Lossless}
 use Rattle.report.proofs.Decoding.{lossless}
 use Rattle.frame.specs.declared.Frame.{Frame}
-use Rattle.frame.specs.declared.Answer.{Answer}
-use Rattle.frame.specs.declared.Answer.TheVariants as Answer
+use Rattle.frame.specs.declared.Refusal.TheVariants.{Check}
 use Rattle.frame.specs.declared.Outcome.{Outcome}
-use Rattle.frame.specs.Slots.{places}
-use Rattle.frame.specs.Calls.{as_verdict, is_done, admit, released}
+use Rattle.std.specs.Prelude.{Ok, Err, is_ok}
+use Rattle.frame.specs.Calls.{Answer, at_bit0, as_verdict, admit, released}
 use Rattle.frame.specs.Served.{ServedIf}
-use Rattle.frame.specs.Lent.{frame_in, numbers_after}
 use Rattle.frame.proofs.Outcomes.{admitted_cases, released_cases}
-use Rattle.frame.proofs.Lent.{read_back}
 
 -- No bit of the answer is cut off, and its number is 0 exactly if the call was done.
 abbrev pub Coded : Answer → Type 0
-Coded a = Lossless (as_verdict a) × (eqb (code_of (as_verdict a)) 0 ≡ is_done a)
+Coded a = Lossless (as_verdict a) × (eqb (code_of (as_verdict a)) 0 ≡ is_ok a)
 
-refused : (f : Fault) → Lossless (Err f) → Coded (Answer.Refused f)
+refused : (f : Fault) → Lossless (Verdict.Refused f) → Coded (Err (Check f))
 unfolding code_of
-refused f small = (small, ne_eqb (code_of (Err f)) 0 (λ e. omega arith))
+refused f small = (small, ne_eqb (code_of (Verdict.Refused f)) 0 (λ e. omega arith))
 
 -- The refusals that are not the check's.
-plain : (k : ℕ) → k ≤ 4 → Coded (Answer.Refused (record { number = 100 + k; place = Bit 0; states = Nothing }))
+plain : (k : ℕ) → k ≤ 4 → Coded (Err (Check (at_bit0 (100 + k))))
 unfolding index_of
 plain k few = refused _ (omega arith, omega arith, omega arith)
 
-done : Coded Answer.Done
+done : Coded (Ok tt)
 unfolding code_of
 done = (omega arith, refl)
 
@@ -56,8 +51,7 @@ admit_coded f place hb pb ticks words =
     (λ fault e. refused fault (subst Lossless e (lossless v (bounded hb pb rows words)))) (λ k e over. plain 3 (omega arith)) (λ k e fits there free well. done)
 
 -- If the number is 0, the record that is read from the numbers is the call's.
-pub served_read : (o : Outcome) (hb pb : List ℕ) (ticks : ℕ) (numbers : List ℕ) → length o.frame.slots ≡ places → Coded o.answer
-    → ServedIf (is_done o.answer) hb pb ticks o.frame
-    → ServedIf (eqb (code_of (as_verdict o.answer)) 0) hb pb ticks (frame_in (numbers_after o numbers))
-served_read o hb pb ticks numbers long coded so =
-    record { served = λ zero. let done = sym coded.1 ∙ zero in rw (done, read_back o.frame long) (so.served done) }
+pub served_read : (o : Outcome) (hb pb : List ℕ) (ticks : ℕ) (f : Frame) → (is_ok o.answer ≡ true → f ≡ o.frame) → Coded o.answer
+    → ServedIf (is_ok o.answer) hb pb ticks o.frame → ServedIf (eqb (code_of (as_verdict o.answer)) 0) hb pb ticks f
+served_read o hb pb ticks f read coded so =
+    record { served = λ zero. let done = sym coded.1 ∙ zero in rw (read done) (so.served done) }

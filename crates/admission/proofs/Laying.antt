@@ -8,7 +8,7 @@ use mathlib.Core.List.{List, [], ◌∷◌, ◌++◌, append-nil}
 use mathlib.Core.Path.{◌≡◌, refl, sym, ap, ◌∙◌, subst}
 use lib.Dec.{eqb}
 use lib.ListN.{length, get_or, take, drop, length-append, length-take, take-append-drop}
-use lib.Seq.{take-suc, take-take}
+use lib.Seq.{take-suc}
 use Rattle.frame.specs.declared.Slot.{Slot}
 use Rattle.frame.specs.declared.Frame.{Frame}
 use Rattle.frame.specs.Slots.{places, held, total, holds, others, without, laid_from, no_slot, frame_of}
@@ -30,13 +30,11 @@ without_last place (x ∷ xs) s = by (eqb x.place place) (without_last place xs 
     by true e = e
     by false e = ap (λ ys. x ∷ ys) e
 
--- The first slots have no more ticks than more of them.
-total_front : (i k : ℕ) (slots : List Slot) → i ≤ k → total (take i slots) ≤ total (take k slots)
-total_front i k slots few =
-    let more = take k slots in
-    let split : total more ≡ total (take i slots) + total (drop i more) =
-    ap total (sym (take-append-drop i more)) ∙ total_append (take i more) (drop i more)
-    ∙ ap (λ l. total l + total (drop i more)) (take-take i k slots few) in
+-- The first slots have no more ticks than all.
+total_front : (i : ℕ) (slots : List Slot) → total (take i slots) ≤ total slots
+total_front i slots =
+    let split : total slots ≡ total (take i slots) + total (drop i slots) =
+    ap total (sym (take-append-drop i slots)) ∙ total_append (take i slots) (drop i slots) in
     omega arith
 
 module _ (place : ℕ) (slots : List Slot) (i : ℕ) (there : i < length slots) where
@@ -65,10 +63,9 @@ module _ (place : ℕ) (slots : List Slot) (i : ℕ) (there : i < length slots) 
       by true e = omega (arith, ap total e, total_append kept [])
       by false e = omega (arith, ap total e, total_append kept (slot ∷ []))
 
-  pub room_next : (count : ℕ) → i < count → total kept + slot.length ≤ total (take count slots)
+  pub room_next : total kept + slot.length ≤ total slots
   unfolding total
-  room_next count inside =
-      omega (arith, ap total take_next, total_append (take i slots) (slot ∷ []), total_less place (take i slots), total_front (i + 1) count slots (omega arith))
+  room_next = omega (arith, ap total take_next, total_append (take i slots) (slot ∷ []), total_less place (take i slots), total_front (i + 1) slots)
 
   -- The record with the slot, unless it is left out.
   pub laid_next : (n tick : ℕ) (f : Frame) → f ≡ frame_of n (laid_from 0 kept) → tick ≡ total kept → i < places

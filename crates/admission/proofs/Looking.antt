@@ -1,53 +1,39 @@
 -- The slots from an index on: what a look at one of them adds.
 use Prim.Native.Nat.{ℕ, ◌+◌, ◌-◌, ◌≤◌, ◌<◌, min}
-use native.Mathlib.Numerals.{add-one}
 use native.Mathlib.Omega.{arith}
 use mathlib.Core.Bool.{Bool, true, false, ◌&&◌, ◌||◌, true≢false}
 use mathlib.Core.List.{List, [], ◌∷◌}
-use mathlib.Core.Path.{◌≡◌, refl, sym, ap, ap₂, ◌∙◌}
-use borrow.Author.Tests.{ltb-true, ltb-false, eq-eqb, ne_eqb, leb-true, le-leb, lt-ltb, le-ltb}
+use mathlib.Core.Path.{◌≡◌, refl, sym, ap, ◌∙◌}
+use borrow.Author.Tests.{ltb-true, ltb-false, leb-true, le-leb, lt-ltb, le-ltb}
 use lib.Dec.{leb, ltb, eqb}
-use lib.ListN.{length, get_or, take, drop, length-take, drop_of_length-le}
-use lib.Seq.{take_all, drop-cons, get_or-take}
+use lib.ListN.{length, take}
+use lib.Seq.{take_all}
+use Rattle.std.specs.List.{list_any}
 use Rattle.states.proofs.Search.{and_left, and_right, and_both, or_none, bool_ext}
 use Rattle.frame.specs.declared.Slot.{Slot}
 use Rattle.frame.specs.declared.Frame.{Frame}
 use Rattle.frame.specs.Slots.{places, held, total, holds, end_to_end, apart, laid_within, well_formed}
-use Rattle.admission.specs.declared.slots.Extent.{Extent}
-use Rattle.admission.specs.declared.slots.Extent.TheVariants.{EndToEnd, Malformed}
+use Rattle.std.specs.Prelude.{Option, Some, is_some, unwrap_or}
 use Rattle.admission.specs.Refinement.{laid_found}
 use Rattle.frame.proofs.Places.{first_below, first_alone, rest_apart, apart_cons, or_neither}
 use Rattle.frame.proofs.Frames.{well}
 
--- The slots that a count of any size names are those of at most 16.
-pub take_shown : (slots : List Slot) (count : ℕ) → length slots ≡ places → take (min count places) slots ≡ take count slots
-take_shown slots count long = by (ltb count places) refl
+-- A count past the slots names all of them.
+pub take_shown : (slots : List Slot) (count : ℕ) → take (min (length slots) count) slots ≡ take count slots
+take_shown slots count = by (ltb count (length slots)) refl
   where
-    by : (b : Bool) → ltb count places ≡ b → take (min count places) slots ≡ take count slots
-    by true t = let h : min count places ≡ count = omega (arith, ltb-true count places t) in rw h refl
+    by : (b : Bool) → ltb count (length slots) ≡ b → take (min (length slots) count) slots ≡ take count slots
+    by true t = let h : min (length slots) count ≡ count = omega (arith, ltb-true count (length slots) t) in rw h refl
     by false t =
-        let most = ltb-false count places t in
-        let h : min count places ≡ places = omega arith in
-        ap (λ k. take k slots) h ∙ take_all places slots (omega arith) ∙ sym (take_all count slots (omega arith))
+        let most = ltb-false count (length slots) t in
+        let h : min (length slots) count ≡ length slots = omega arith in
+        ap (λ k. take k slots) h ∙ take_all (length slots) slots (omega arith) ∙ sym (take_all count slots (omega arith))
 
--- The next slot, and those after it.
-module _ (slots : List Slot) (count i : ℕ) (d : Slot) (inside : i < count) (there : i < length slots) where
-  pub next_slot : drop i (take count slots) ≡ get_or slots i d ∷ drop (i + 1) (take count slots)
-  next_slot =
-      drop-cons (take count slots) i d (omega (arith, length-take count slots))
-      ∙ ap₂ (λ s k. s ∷ drop k (take count slots)) (get_or-take count slots i d inside) (sym (add-one i))
-
-  pub holds_here : (place : ℕ) → (get_or slots i d).place ≡ place → holds place (drop i (take count slots)) ≡ true
-  unfolding holds
-  holds_here place e = ap (holds place) next_slot ∙ rw (eq-eqb (get_or slots i d).place place e) refl
-
-  pub holds_past : (place : ℕ) → ((get_or slots i d).place ≡ place → ⊥) → holds place (drop i (take count slots)) ≡ holds place (drop (i + 1) (take count slots))
-  unfolding holds
-  holds_past place e = ap (holds place) next_slot ∙ rw (ne_eqb (get_or slots i d).place place e) refl
-
--- There are none from the count on.
-pub none_left : (slots : List Slot) (count i : ℕ) → count ≤ i → drop i (take count slots) ≡ []
-none_left slots count i past = drop_of_length-le (take count slots) {i = i} (omega (arith, length-take count slots))
+-- A slot is at the place if any is.
+pub any_holds : (place : ℕ) (slots : List Slot) → list_any (λ s. eqb s.place place) slots ≡ holds place slots
+unfolding holds
+any_holds place [] = refl
+any_holds place (s ∷ rest) = ap (λ b. eqb s.place place || b) (any_holds place rest)
 
 -- A slot ends within the frame if its length is at most what is left of it.
 pub room_left : (tick long last : ℕ) → tick ≤ last → leb long (last - tick) ≡ leb (tick + long) last
@@ -125,21 +111,11 @@ module _ (f : Frame) where
       let h = or_neither (ltb f.length 1) (ltb 1000000 f.length) inside in
       rw (le-leb 1 f.length (ltb-false f.length 1 h.0), le-leb f.length 1000000 (ltb-false 1000000 f.length h.1), le-leb f.count places few) refl
 
--- What the look at a record found.
-malformed : Extent → Bool
-malformed (EndToEnd end) = false
-malformed Malformed = true
+-- What the look at a record found: an end, if it is well-formed, which is where the last slot ends.
+pub found_some : (b : Bool) (n : ℕ) (x : Option ℕ) → x ≡ laid_found b n → is_some x ≡ b
+found_some true n x is = ap is_some is
+found_some false n x is = ap is_some is
 
-end_of : Extent → ℕ
-end_of (EndToEnd end) = end
-end_of Malformed = 0
-
-pub found_malformed : (b : Bool) (n : ℕ) (x : Extent) → x ≡ laid_found b n → x ≡ Malformed → b ≡ false
-unfolding malformed
-found_malformed true n x is e = ap malformed (sym (sym is ∙ e))
-found_malformed false n x is e = refl
-
-pub found_end : (b : Bool) (n end : ℕ) (x : Extent) → x ≡ laid_found b n → x ≡ EndToEnd end → (b ≡ true) × (end ≡ n)
-unfolding malformed end_of
-found_end true n end x is e = (refl, ap end_of (sym e ∙ is))
-found_end false n end x is e = (ap malformed (sym (sym is ∙ e)), absurd (true≢false (ap malformed (sym is ∙ e))))
+pub found_end : (b : Bool) (n end : ℕ) (x : Option ℕ) → x ≡ laid_found b n → x ≡ Some end → (b ≡ true) × (end ≡ n)
+found_end true n end x is e = (refl, ap (λ o. unwrap_or o 0) (sym e ∙ is))
+found_end false n end x is e = absurd (true≢false (ap is_some (sym e ∙ is)))

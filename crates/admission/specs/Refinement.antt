@@ -1,12 +1,10 @@
 -- What the private functions ensure. No public contract uses this.
-use Rattle.std.specs.Prelude.{ℕ, ◌+◌, Bool, cond, set}
+use Rattle.std.specs.Prelude.{ℕ, ◌+◌, Bool, cond, set, Option, Some, None}
 use Rattle.frame.specs.declared.Slot.{Slot}
 use Rattle.frame.specs.declared.Frame.{Frame}
-use Rattle.admission.specs.declared.slots.Extent.{Extent}
-use Rattle.admission.specs.declared.slots.Extent.TheVariants.{EndToEnd, Malformed}
 
-abbrev pub laid_found : Bool → ℕ → Extent
-laid_found well end = cond well (EndToEnd end) Malformed
+abbrev pub laid_found : Bool → ℕ → Option ℕ
+laid_found well end = cond well (Some end) None
 
 -- A slot stored after those that are held.
 abbrev pub added_to : Frame → Slot → Frame

@@ -1,19 +1,18 @@
 // The record as 50 numbers that a host lends: the frame's length, the count of slots, and place, first tick and length of each slot.
-ghost use Rattle.std.specs.Prelude.{true, [], ◌∷◌, ◌≡◌, ◌+◌, ◌-◌, ◌*◌, ◌/◌, ◌<◌, min, eqb, length, get_or};
+ghost use Rattle.std.specs.Prelude.{true, [], ◌∷◌, ◌≡◌, ◌+◌, ◌-◌, ◌*◌, ◌/◌, ◌<◌, min, eqb, length, get_or, is_ok};
 ghost use Rattle.std.proofs.lemmas.List.Edits.{sets};
 ghost use Rattle.report.specs.Code.{code_of, without_states, decoded};
 ghost use Rattle.frame.specs.Slots.{places};
-ghost use Rattle.frame.specs.Calls.{at_bit0, as_verdict, is_done, released, work_after};
+ghost use Rattle.frame.specs.Calls.{as_verdict, released, work_after};
 ghost use Rattle.frame.specs.Calls as Calls;
 ghost use Rattle.frame.specs.Served.{ServedIf};
 ghost use Rattle.frame.specs.Lent.{slot_in, slots_in, frame_in, slot_numbers, numbers_of, numbers_after};
 
-use super::slots::NO_SLOT;
 use super::{admit, release};
-use checker::{Fault, Place, Verdict};
-use frame::{Answer, Frame, Outcome, PLACES, Slot};
+use checker::{Fault, Verdict};
+use frame::{Frame, PLACES, Refusal, Slot};
 use report::code_of;
-use search::Named;
+use std::array;
 
 // How many numbers a record is.
 pub const RECORD_NUMBERS: usize = 50;
@@ -22,7 +21,7 @@ pub const RECORD_NUMBERS: usize = 50;
 fn number_at(numbers: &[u32], i: usize) -> u32
     ensures { result ≡ get_or numbers.now i 0 }
 {
-    if i < numbers.len() { numbers[i] } else { 0 }
+    numbers.get(i).copied().unwrap_or(0)
 }
 
 // Slot i of the numbers.
@@ -41,26 +40,14 @@ fn slot_in(numbers: &[u32], i: usize) -> Slot
 fn slots_in(numbers: &[u32]) -> [Slot; PLACES]
     ensures { result ≡ slots_in numbers.now places }
 {
-    let mut slots = [NO_SLOT; PLACES];
-    for i in 0..PLACES {
-        slots[i] = slot_in(numbers, i);
-    }
-    slots
+    array::from_fn(|i| slot_in(numbers, i))
 }
 
 // How many of `count` slots so many numbers have in full.
 fn in_full(count: u32, len: usize) -> u32
     ensures { result ≡ min count ((len - 2) / 3) }
 {
-    if len < 2 {
-        return 0;
-    }
-    let full = (len - 2) / 3;
-    if (count as usize) < full {
-        count
-    } else {
-        full as u32
-    }
+    (count as usize).min(len.saturating_sub(2) / 3) as u32
 }
 
 // The record that numbers hold. One that is not 50 numbers has no frame, so that it is malformed.
@@ -97,66 +84,35 @@ fn put_slot(numbers: &mut [u32], i: usize, slot: Slot)
 // Writes a record over the 50 numbers.
 fn put_frame(numbers: &mut [u32], frame: Frame)
     requires { length numbers.old ≡ 50 }
-    ensures { numbers.new ≡ numbers_of frame }
+    ensures numbers { numbers.new ≡ numbers_of frame }
+    ensures read { frame_in numbers.new ≡ frame }
 {
     numbers[0] = frame.length;
     numbers[1] = frame.count;
+    // By index: slot i has three numbers from 2 + 3 * i on, and `put_slot` says so.
     for i in 0..PLACES {
         put_slot(numbers, i, frame.slots[i]);
     }
 }
 
-fn is_done(answer: Answer) -> bool
-    ensures { result ≡ is_done answer }
-{
-    match answer {
-        Answer::Done => true,
-        Answer::NoSuchPlace => false,
-        Answer::Taken => false,
-        Answer::NotTaken => false,
-        Answer::Malformed => false,
-        Answer::WrongTicks => false,
-        Answer::Refused(_fault) => false,
-        Answer::NoRoom => false,
-    }
-}
-
-// A refusal that has no place of its own.
-fn at_bit_0(number: u32) -> Verdict
-    ensures { result ≡ at_bit0 number }
-{
-    Err(Fault {
-        number,
-        place: Place::Bit(0),
-        states: Named::Nothing,
-    })
-}
-
 // The answer with its number.
-pub fn verdict_of(answer: Answer) -> Verdict
+pub fn verdict_of(answer: Result<(), Refusal>) -> Verdict
     ensures { result ≡ as_verdict answer }
 {
     match answer {
-        Answer::Done => Ok(0),
-        Answer::NoSuchPlace => at_bit_0(100),
-        Answer::Taken => at_bit_0(101),
-        Answer::NotTaken => at_bit_0(101),
-        Answer::Malformed => at_bit_0(102),
-        Answer::WrongTicks => at_bit_0(104),
-        Answer::Refused(fault) => Err(fault),
-        Answer::NoRoom => at_bit_0(103),
+        Ok(()) => Verdict::Accepted(0),
+        Err(refusal) => Verdict::Refused(Fault::from(refusal)),
     }
 }
 
 // Writes the record of a call that was done over the numbers, and returns the answer as one number.
-fn answered(numbers: &mut [u32], outcome: Outcome) -> u64
-    requires { is_done outcome.answer ≡ true → length numbers.old ≡ 50 }
-    ensures number { result ≡ code_of (as_verdict outcome.answer) }
-    ensures numbers { numbers.new ≡ numbers_after outcome numbers.old }
+fn answered(numbers: &mut [u32], frame: Frame, answer: Result<(), Refusal>) -> u64
+    requires { is_ok answer ≡ true → length numbers.old ≡ 50 }
+    ensures number { result ≡ code_of (as_verdict answer) }
+    ensures numbers { numbers.new ≡ numbers_after (record { frame = frame; answer = answer }) numbers.old }
+    ensures read { is_ok answer ≡ true → frame_in numbers.new ≡ frame }
 {
-    let answer = outcome.answer;
-    if is_done(answer) {
-        let frame = outcome.frame;
+    if answer.is_ok() {
         put_frame(numbers, frame);
     }
     code_of(verdict_of(answer))
@@ -178,9 +134,9 @@ pub fn admit_lent(
     ensures words { work.new ≡ work_after (frame_in numbers.old) place handler.now proof.now ticks work.old }
     ensures served { ServedIf (eqb result 0) handler.now proof.now ticks (frame_in numbers.new) }
 {
-    let frame = frame_in(numbers);
-    let outcome = admit(frame, place, handler, proof, ticks, work);
-    answered(numbers, outcome)
+    let mut frame = frame_in(numbers);
+    let answer = admit(&mut frame, place, handler, proof, ticks, work);
+    answered(numbers, frame, answer)
 }
 
 // A release from the record in the numbers, with the result as above.
@@ -189,7 +145,7 @@ pub fn release_lent(numbers: &mut [u32], place: u32) -> u64
     ensures answer { decoded result ≡ without_states (as_verdict (released (frame_in numbers.old) place).answer) }
     ensures record { numbers.new ≡ numbers_after (released (frame_in numbers.old) place) numbers.old }
 {
-    let frame = frame_in(numbers);
-    let outcome = release(frame, place);
-    answered(numbers, outcome)
+    let mut frame = frame_in(numbers);
+    let answer = release(&mut frame, place);
+    answered(numbers, frame, answer)
 }

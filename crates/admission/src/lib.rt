@@ -1,16 +1,16 @@
-// Admission of guests to a core (docs/ADMISSION.md). Each call takes the record and hands it back with the answer.
+// Admission of guests to a core (docs/ADMISSION.md). A call that is turned away leaves the record as it was.
 #![tactic(auto)]
 
-ghost use Rattle.std.specs.Prelude.{true, false, ◌≡◌, ◌<◌, length};
+ghost use Rattle.std.specs.Prelude.{true, false, ◌≡◌, ◌<◌, length, is_ok};
 ghost use Rattle.frame.specs.Slots.{places, held, total, holds, well_formed, last_slot, left_over};
 ghost use Rattle.frame.specs.Slots as Slots;
-ghost use Rattle.frame.specs.Calls.{is_done, turned_away, on_need, admit, released, work_after};
+ghost use Rattle.frame.specs.Calls.{on_need, admit, released, work_after};
 ghost use Rattle.frame.specs.Served.{ServedIf};
 
-use checker::check;
-use frame::{Answer, Frame, Outcome, PLACES, Slot};
+use checker::{Verdict, check};
+use frame::{Frame, PLACES, Refusal, Slot};
 use pair::rows;
-use slots::{Extent, NO_SLOT, added, holds_from, laid, laid_without, no_slots};
+use slots::{NO_SLOT, added, is_taken, laid, laid_without, no_slots};
 
 pub mod lent;
 mod slots;
@@ -31,104 +31,84 @@ pub fn bare(length: u32) -> Frame
 pub fn last_slot(frame: Frame) -> Slot
     ensures { result ≡ last_slot frame }
 {
-    let slots = frame.slots;
-    let count = frame.count as usize;
-    if count == 0 {
-        return slots[0];
-    }
-    if count > PLACES {
-        return NO_SLOT;
-    }
-    slots[count - 1]
+    let last = (frame.count as usize).saturating_sub(1);
+    frame.slots.get(last).copied().unwrap_or(NO_SLOT)
 }
 
 // The ticks after the last slot; a malformed record has none.
 pub fn left_over(frame: Frame) -> u32
     ensures { result ≡ left_over frame }
 {
-    match laid(frame) {
-        Extent::EndToEnd(end) => frame.length - end,
-        Extent::Malformed => 0,
+    match laid(&frame) {
+        Some(end) => frame.length - end,
+        None => 0,
     }
-}
-
-// A call that is turned away.
-fn turned_away(frame: Frame, answer: Answer) -> Outcome
-    ensures { result ≡ turned_away frame answer }
-{
-    Outcome { frame, answer }
 }
 
 // Gives a guest the slot from tick `end` on, where the last slot ends, if its need fits into the frame.
-fn grant(frame: Frame, place: u32, end: u32, need: u64) -> Outcome
-    requires { (well_formed frame ≡ true) × (holds place (held frame) ≡ false) × (place < places) × (end ≡ total (held frame)) }
-    ensures { result ≡ on_need frame place need }
+fn grant(frame: &mut Frame, place: u32, end: u32, need: u64) -> Result<(), Refusal>
+    requires { (well_formed frame.old ≡ true) × (holds place (held frame.old) ≡ false) × (place < places) × (end ≡ total (held frame.old)) }
+    ensures { record { frame = frame.new; answer = result } ≡ on_need frame.old place need }
 {
     let room = frame.length - end;
     if need > room as u64 {
-        return turned_away(frame, Answer::NoRoom);
+        return Err(Refusal::NoRoom);
     }
     let kept = laid_without(frame, place);
-    Outcome {
-        frame: added(
-            kept,
-            Slot {
-                place,
-                first: end,
-                length: need as u32,
-            },
-        ),
-        answer: Answer::Done,
-    }
+    *frame = added(
+        kept,
+        Slot {
+            place,
+            first: end,
+            length: need as u32,
+        },
+    );
+    Ok(())
 }
 
 // Admits the guest of two files at a place, with so many ticks per step. The work words end as the check leaves them, and are untouched if
 // it is not reached. `ServedIf` is what is promised of a guest that is admitted.
 pub fn admit(
-    frame: Frame,
+    frame: &mut Frame,
     place: u32,
     handler: &[u8],
     proof: &[u8],
     ticks: u32,
     work: &mut [u64],
-) -> Outcome
-    ensures outcome { result ≡ admit frame place handler.now proof.now ticks (length work.old) }
-    ensures words { work.new ≡ work_after frame place handler.now proof.now ticks work.old }
-    ensures served { ServedIf (is_done result.answer) handler.now proof.now ticks result.frame }
+) -> Result<(), Refusal>
+    ensures outcome { record { frame = frame.new; answer = result } ≡ admit frame.old place handler.now proof.now ticks (length work.old) }
+    ensures words { work.new ≡ work_after frame.old place handler.now proof.now ticks work.old }
+    ensures served { ServedIf (is_ok result) handler.now proof.now ticks frame.new }
 {
     if place > LAST_PLACE {
-        return turned_away(frame, Answer::NoSuchPlace);
+        return Err(Refusal::NoSuchPlace);
     }
-    if holds_from(frame, 0, place) {
-        return turned_away(frame, Answer::Taken);
+    if is_taken(frame, place) {
+        return Err(Refusal::Taken);
     }
-    let Extent::EndToEnd(end) = laid(frame) else {
-        return turned_away(frame, Answer::Malformed);
-    };
+    let end = laid(frame).ok_or(Refusal::Malformed)?;
     if (ticks < 1) | (ticks > MOST_TICKS) {
-        return turned_away(frame, Answer::WrongTicks);
+        return Err(Refusal::WrongTicks);
     }
     match check(handler, proof, rows(), work) {
-        Err(fault) => turned_away(frame, Answer::Refused(fault)),
-        Ok(steps) => grant(frame, place, end, steps as u64 * ticks as u64),
+        Verdict::Refused(fault) => Err(Refusal::Check(fault)),
+        Verdict::Accepted(steps) => grant(frame, place, end, steps as u64 * ticks as u64),
     }
 }
 
 // Releases the guest at a place, and closes the gap.
-pub fn release(frame: Frame, place: u32) -> Outcome
-    ensures { result ≡ released frame place }
+pub fn release(frame: &mut Frame, place: u32) -> Result<(), Refusal>
+    ensures { record { frame = frame.new; answer = result } ≡ released frame.old place }
 {
     if place > LAST_PLACE {
-        return turned_away(frame, Answer::NoSuchPlace);
+        return Err(Refusal::NoSuchPlace);
     }
-    if !holds_from(frame, 0, place) {
-        return turned_away(frame, Answer::NotTaken);
+    if !is_taken(frame, place) {
+        return Err(Refusal::NotTaken);
     }
-    let Extent::EndToEnd(_end) = laid(frame) else {
-        return turned_away(frame, Answer::Malformed);
-    };
-    Outcome {
-        frame: laid_without(frame, place),
-        answer: Answer::Done,
+    if laid(frame).is_none() {
+        return Err(Refusal::Malformed);
     }
+    *frame = laid_without(frame, place);
+    Ok(())
 }

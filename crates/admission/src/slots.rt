@@ -1,5 +1,5 @@
 // The slots of a record: whether one is at a place, whether they lie end to end, and how they are laid again when a guest goes.
-ghost use Rattle.std.specs.Prelude.{cond, ◌&&◌, ◌≡◌, ◌+◌, ◌^◌, ◌≤◌, ◌<◌, min, leb, ltb, eqb, drop};
+ghost use Rattle.std.specs.Prelude.{cond, ◌&&◌, ◌≡◌, ◌+◌, ◌^◌, ◌≤◌, ◌<◌, leb, ltb, eqb};
 ghost use Rattle.frame.specs.Slots.{places, held, total, holds, without, laid_from, laid_within, well_formed, frame_of, bare};
 ghost use Rattle.admission.specs.Refinement.{laid_found, added_to};
 
@@ -15,13 +15,6 @@ pub(crate) const NO_SLOT: Slot = Slot {
     length: 0,
 };
 
-// The first tick after slots that lie end to end from tick 0 within the frame, each at a place of its own; or that they do not.
-#[derive(Clone, Copy)]
-pub(crate) enum Extent {
-    EndToEnd(u32),
-    Malformed,
-}
-
 // A frame of this length that has no slots.
 pub(crate) fn no_slots(length: u32) -> Frame
     ensures { result ≡ bare length }
@@ -33,29 +26,27 @@ pub(crate) fn no_slots(length: u32) -> Frame
     }
 }
 
-// How many of the 16 slots a count names.
-fn shown(count: u32) -> u32
-    ensures { result ≡ min count places }
+// The slots that are held.
+#[tactic(auto, using(crate::proofs::Looking::take_shown))]
+fn held(frame: &Frame) -> &[Slot]
+    ensures { result.now ≡ held frame.now }
 {
-    if count < PLACES as u32 {
-        count
-    } else {
-        PLACES as u32
-    }
+    let slots: &[Slot] = &frame.slots;
+    &slots[..slots.len().min(frame.count as usize)]
 }
 
-// Whether one of the slots from index `from` on is at this place.
-pub(crate) fn holds_from(frame: Frame, from: u32, place: u32) -> bool
-    ensures { result ≡ holds place (drop from (held frame)) }
+// Whether one of the slots is at this place.
+fn holds(slots: &[Slot], place: u32) -> bool
+    ensures { result ≡ holds place slots.now }
 {
-    let slots = frame.slots;
-    let count = shown(frame.count);
-    for i in from..count {
-        if slots[i as usize].place == place {
-            return true;
-        }
-    }
-    false
+    slots.iter().any(|slot| slot.place == place)
+}
+
+// Whether a slot is held at this place.
+pub(crate) fn is_taken(frame: &Frame, place: u32) -> bool
+    ensures { result ≡ holds place (held frame.now) }
+{
+    holds(held(frame), place)
 }
 
 // Whether a slot begins at this tick, ends within the frame and is at a place that there is.
@@ -66,37 +57,36 @@ fn lies_at(slot: Slot, tick: u32, length: u32) -> bool
     (slot.first == tick) & (slot.length <= length - tick) & (slot.place < PLACES as u32)
 }
 
-// Whether the slots lie end to end, by one look at each, with the places of those after it.
-fn laid_slots(frame: Frame) -> Extent
-    requires { frame.count ≤ places }
-    ensures { result ≡ laid_found (laid_within frame.length 0 (held frame)) (total (held frame)) }
+// The first tick after slots that lie end to end from tick 0 by the frame's end, each at a place of its own; none if they do not. One look at
+// each slot, with the places of those after it.
+fn laid_slots(slots: &[Slot], length: u32) -> Option<u32>
+    ensures { result ≡ laid_found (laid_within length 0 slots.now) (total slots.now) }
 {
-    let slots = frame.slots;
     let mut tick = 0;
-    for i in 0..frame.count {
-        let slot = slots[i as usize];
-        if !lies_at(slot, tick, frame.length) {
-            return Extent::Malformed;
+    for i in 0..slots.len() {
+        let slot = slots[i];
+        if !lies_at(slot, tick, length) {
+            return None;
         }
-        if holds_from(frame, i + 1, slot.place) {
-            return Extent::Malformed;
+        if holds(&slots[i + 1..], slot.place) {
+            return None;
         }
         tick += slot.length;
     }
-    Extent::EndToEnd(tick)
+    Some(tick)
 }
 
 // The same, if the frame's length and the count are in range.
-pub(crate) fn laid(frame: Frame) -> Extent
-    ensures { result ≡ laid_found (well_formed frame) (total (held frame)) }
+pub(crate) fn laid(frame: &Frame) -> Option<u32>
+    ensures { result ≡ laid_found (well_formed frame.now) (total (held frame.now)) }
 {
     if (frame.length < 1) | (frame.length > MOST_LENGTH) {
-        return Extent::Malformed;
+        return None;
     }
     if frame.count > PLACES as u32 {
-        return Extent::Malformed;
+        return None;
     }
-    laid_slots(frame)
+    laid_slots(held(frame), frame.length)
 }
 
 // The record with one slot more.
@@ -141,17 +131,16 @@ fn tick_after(slot: Slot, place: u32, tick: u32) -> u32
 }
 
 // The slots of all places but one, laid end to end from tick 0.
-pub(crate) fn laid_without(frame: Frame, place: u32) -> Frame
-    requires { (frame.count ≤ places) × (total (held frame) ≤ frame.length) }
-    ensures { result ≡ frame_of frame.length (laid_from 0 (without place (held frame))) }
+pub(crate) fn laid_without(frame: &Frame, place: u32) -> Frame
+    requires { (frame.now.count ≤ places) × (total (held frame.now) ≤ frame.now.length) }
+    ensures { result ≡ frame_of frame.now.length (laid_from 0 (without place (held frame.now))) }
 {
-    let slots = frame.slots;
+    let slots = held(frame);
     let mut laid = no_slots(frame.length);
     let mut tick = 0;
-    for i in 0..frame.count {
-        let slot = slots[i as usize];
-        laid = with_other(laid, slot, place, tick);
-        tick = tick_after(slot, place, tick);
+    for slot in slots {
+        laid = with_other(laid, *slot, place, tick);
+        tick = tick_after(*slot, place, tick);
     }
     laid
 }

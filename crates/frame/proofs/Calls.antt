@@ -1,5 +1,4 @@
 -- What each call answers and leaves, case by case, and that a guest that is admitted is served.
-use Rattle.std.specs.Prelude.{Ok, Err}
 use Prim.Native.Nat.{ℕ, ◌+◌, ◌*◌, ◌≤◌, ◌<◌}
 use native.Mathlib.Nat.{mul-le-mul_right}
 use mathlib.Core.Bool.{Bool, true, false, cond, ◌||◌, true≢false}
@@ -11,15 +10,17 @@ use lib.Dec.{ltb}
 use lib.ListN.{length}
 use Rattle.semantics.specs.Runs.{steps_made}
 use Rattle.pair.specs.Modes.{rows}
-use Rattle.checker.specs.Verdicts.{Verdict, AcceptedIsSound, answer}
+use Rattle.checker.specs.declared.Verdict.{Verdict}
+use Rattle.checker.specs.Verdicts.{AcceptedIsSound, answer}
 use Rattle.checker.specs.Verdicts as Verdicts
 use Rattle.frame.specs.declared.Slot.{Slot}
 use Rattle.frame.specs.declared.Frame.{Frame}
-use Rattle.frame.specs.declared.Answer.{Answer}
-use Rattle.frame.specs.declared.Answer.TheVariants.{Done, NoSuchPlace, Taken, NotTaken, Malformed, WrongTicks, NoRoom}
+use Rattle.frame.specs.declared.Refusal.{Refusal}
+use Rattle.frame.specs.declared.Refusal.TheVariants.{NoSuchPlace, Taken, NotTaken, Malformed, WrongTicks, NoRoom}
 use Rattle.frame.specs.declared.Outcome.{Outcome}
 use Rattle.frame.specs.Slots.{held, total, holds, without, laid_from, well_formed, frame_of}
-use Rattle.frame.specs.Calls.{is_done, first_of, turned_away, unless, before_check, on_need, on_verdict, admitted, before_release, released, admit, if_reached, work_after}
+use Rattle.std.specs.Prelude.{Ok, is_ok}
+use Rattle.frame.specs.Calls.{first_of, turned_away, unless, before_check, on_need, on_verdict, admitted, before_release, released, admit, if_reached, work_after}
 use Rattle.frame.specs.Served.{Served, ServedIf}
 use Rattle.frame.proofs.Frames.{last_of}
 
@@ -72,23 +73,23 @@ module _ (f : Frame) (place : ℕ) where
 
     pub has_room : total (held f) + need ≤ f.length
         → on_need f place need
-        ≡ record { frame = frame_of f.length (held f ++ (record { place = place; first = total (held f); length = need } ∷ [])); answer = Done }
+        ≡ record { frame = frame_of f.length (held f ++ (record { place = place; first = total (held f); length = need } ∷ [])); answer = Ok tt }
     unfolding on_need
     has_room fits = rw (le-ltb f.length (total (held f) + need) fits) refl
 
 -- What a release leaves.
 module _ (f : Frame) (place : ℕ) where
-  pub not_released : (a : Answer) → before_release f place ≡ some a → released f place ≡ turned_away f a
+  pub not_released : (a : Refusal) → before_release f place ≡ some a → released f place ≡ turned_away f a
   unfolding released
   not_released a why = rw why refl
 
   pub gap_closed : before_release f place ≡ none
-      → released f place ≡ record { frame = frame_of f.length (laid_from 0 (without place (held f))); answer = Done }
+      → released f place ≡ record { frame = frame_of f.length (laid_from 0 (without place (held f))); answer = Ok tt }
   unfolding released
   gap_closed free = rw free refl
 
 -- A slot of k times the ticks serves a guest whose pair is accepted with k.
-pub serves : (hb pb : List ℕ) (ticks k : ℕ) (slot : Slot) → AcceptedIsSound hb pb rows (Ok k) → slot.length ≡ k * ticks → Served hb pb ticks slot
+pub serves : (hb pb : List ℕ) (ticks k : ℕ) (slot : Slot) → AcceptedIsSound hb pb rows (Verdict.Accepted k) → slot.length ≡ k * ticks → Served hb pb ticks slot
 serves hb pb ticks k slot sound filled =
     let s = sound.sound k refl in
     record {
@@ -104,23 +105,23 @@ serves hb pb ticks k slot sound filled =
 -- What an admission promises: the answer and the record, the work words, and that the guest is served.
 abbrev pub Promised : Frame → ℕ → List ℕ → List ℕ → ℕ → List ℕ → Outcome → List ℕ → Type 0
 Promised f place hb pb ticks work o after =
-    (o ≡ admit f place hb pb ticks (length work)) × ((after ≡ work_after f place hb pb ticks work) × ServedIf (is_done o.answer) hb pb ticks o.frame)
+    (o ≡ admit f place hb pb ticks (length work)) × ((after ≡ work_after f place hb pb ticks work) × ServedIf (is_ok o.answer) hb pb ticks o.frame)
 
 module _ (f : Frame) (place : ℕ) (hb pb : List ℕ) (ticks : ℕ) (work : List ℕ) where
-  pub turned : (a : Answer) (o : Outcome) → is_done a ≡ false → before_check f place ticks ≡ some a → o ≡ turned_away f a
+  pub turned : (a : Refusal) (o : Outcome) → before_check f place ticks ≡ some a → o ≡ turned_away f a
       → Promised f place hb pb ticks work o work
   unfolding admit admitted work_after
-  turned a o not_done why is = (
+  turned a o why is = (
     is ∙ ap (λ x. unless f x (on_verdict f place ticks (answer hb pb rows (length work)).verdict)) (sym why),
     (
       ap (λ x. if_reached x (Verdicts.work_after hb pb rows work) work) (sym why),
-      record { served = λ d. absurd (true≢false (sym d ∙ ap (λ x. is_done x.answer) is ∙ not_done)) },
+      record { served = λ d. absurd (true≢false (sym d ∙ ap (λ x. is_ok x.answer) is)) },
     ),
   )
 
   -- A need that fits has its slot at the end.
-  need_served : (k : ℕ) → AcceptedIsSound hb pb rows (Ok k)
-      → ServedIf (is_done (on_need f place (k * ticks)).answer) hb pb ticks (on_need f place (k * ticks)).frame
+  need_served : (k : ℕ) → AcceptedIsSound hb pb rows (Verdict.Accepted k)
+      → ServedIf (is_ok (on_need f place (k * ticks)).answer) hb pb ticks (on_need f place (k * ticks)).frame
   unfolding on_need
   need_served k sound = by (ltb f.length (total (held f) + k * ticks))
     where
@@ -128,8 +129,8 @@ module _ (f : Frame) (place : ℕ) (hb pb : List ℕ) (ticks : ℕ) (work : List
       slot = record { place = place; first = total (held f); length = k * ticks }
 
       by : (b : Bool)
-          → let o : Outcome = cond b (turned_away f NoRoom) (record { frame = frame_of f.length (held f ++ (slot ∷ [])); answer = Done }) in
-          ServedIf (is_done o.answer) hb pb ticks o.frame
+          → let o : Outcome = cond b (turned_away f NoRoom) (record { frame = frame_of f.length (held f ++ (slot ∷ [])); answer = Ok tt }) in
+          ServedIf (is_ok o.answer) hb pb ticks o.frame
       by true = record { served = λ d. absurd (true≢false (sym d)) }
       by false = record { served = λ d. subst (Served hb pb ticks) (sym (last_of f.length (held f) slot)) (serves hb pb ticks k slot sound refl) }
 
@@ -140,10 +141,10 @@ module _ (f : Frame) (place : ℕ) (hb pb : List ℕ) (ticks : ℕ) (work : List
     is ∙ ap (on_verdict f place ticks) verdict ∙ ap (λ x. unless f x (on_verdict f place ticks (answer hb pb rows (length work)).verdict)) (sym free),
     (
       words ∙ ap (λ x. if_reached x (Verdicts.work_after hb pb rows work) work) (sym free),
-      subst (λ x. ServedIf (is_done x.answer) hb pb ticks x.frame) (sym is) (by v sound),
+      subst (λ x. ServedIf (is_ok x.answer) hb pb ticks x.frame) (sym is) (by v sound),
     ),
   )
     where
-      by : (v : Verdict) → AcceptedIsSound hb pb rows v → ServedIf (is_done (on_verdict f place ticks v).answer) hb pb ticks (on_verdict f place ticks v).frame
-      by (Ok k) s = need_served k s
-      by (Err fault) s = record { served = λ d. absurd (true≢false (sym d)) }
+      by : (v : Verdict) → AcceptedIsSound hb pb rows v → ServedIf (is_ok (on_verdict f place ticks v).answer) hb pb ticks (on_verdict f place ticks v).frame
+      by (Verdict.Accepted k) s = need_served k s
+      by (Verdict.Refused fault) s = record { served = λ d. absurd (true≢false (sym d)) }

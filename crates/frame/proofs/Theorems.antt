@@ -13,11 +13,11 @@ use Rattle.checker.specs.Verdicts.{Verdict, AcceptedIsSound}
 use Rattle.checker.specs.Verdicts as Verdicts
 use Rattle.checker.proofs.Promised.{accepted_is_sound}
 use Rattle.frame.specs.declared.Slot.{Slot}
-use Rattle.frame.specs.declared.Answer.{Answer}
-use Rattle.frame.specs.declared.Answer.TheVariants.{Done, NoSuchPlace, Taken, NotTaken, Malformed, WrongTicks, Refused, NoRoom}
+use Rattle.frame.specs.declared.Refusal.TheVariants.{NoSuchPlace, Taken, NotTaken, Malformed, WrongTicks, Check, NoRoom}
 use Rattle.frame.specs.declared.Outcome.{Outcome}
 use Rattle.frame.specs.Slots.{places, held, total, holds, others, without, laid_from, apart, well_formed, frame_of, bare}
-use Rattle.frame.specs.Calls.{admitted, admit, released}
+use Rattle.std.specs.Prelude.{Ok, Err}
+use Rattle.frame.specs.Calls.{Answer, admitted, admit, released}
 use Rattle.frame.specs.Served.{Served}
 use Rattle.frame.specs.Lent.{frame_in, numbers_of}
 use Rattle.frame.specs.History.{Admission, Call, admission, release, stated, steps_of, need, outcome, guests_after, Core, next, after, after_calls, slot_of, layout, needs, Paired, empty, also, Kept}
@@ -72,14 +72,14 @@ all_others {P = P} place (g ∷ gs) (more p rest) =
 
 -- Which answer is 103.
 abbrev for_room : Answer → Bool
-for_room Done = false
-for_room NoSuchPlace = false
-for_room Taken = false
-for_room NotTaken = false
-for_room Malformed = false
-for_room WrongTicks = false
-for_room (Refused fault) = false
-for_room NoRoom = true
+for_room (Ok x) = false
+for_room (Err NoSuchPlace) = false
+for_room (Err Taken) = false
+for_room (Err NotTaken) = false
+for_room (Err Malformed) = false
+for_room (Err WrongTicks) = false
+for_room (Err (Check fault)) = false
+for_room (Err NoRoom) = true
 
 -- One call.
 module _ (n : ℕ) (c : Core) (k : Inv n c) where
@@ -145,15 +145,16 @@ module _ (n : ℕ) (c : Core) (k : Inv n c) where
   inv_next (release place) = releases place
 
   -- Only 103 is 103, and it is given only where the need does not fit.
-  no_room : (a : Admission) → (outcome c.frame (admission a)).answer ≡ NoRoom → n < needs c.guests + need a
+  no_room : (a : Admission) → (outcome c.frame (admission a)).answer ≡ Err NoRoom → n < needs c.guests + need a
   unfolding outcome admit layout
   no_room a =
-      admitted_cases (λ o. o.answer ≡ NoRoom → n < needs c.guests + need a) c.frame a.place
-      (other NoSuchPlace refl) (other Malformed refl) a.ticks (other Taken refl) (other WrongTicks refl) _ (λ fault e. other (Refused fault) refl)
+      admitted_cases (λ o. o.answer ≡ Err NoRoom → n < needs c.guests + need a) c.frame a.place
+      (other (Err NoSuchPlace) refl) (other (Err Malformed) refl) a.ticks (other (Err Taken) refl) (other (Err WrongTicks) refl) _
+      (λ fault e. other (Err (Check fault)) refl)
       (λ s e over is. omega (arith, total_is, total_laid 0 asks, length_is, ap (λ v. stated v * a.ticks) e))
-      (λ s e fits there free well. other Done refl)
+      (λ s e fits there free well. other (Ok tt) refl)
     where
-      other : (x : Answer) → for_room x ≡ false → x ≡ NoRoom → n < needs c.guests + need a
+      other : (x : Answer) → for_room x ≡ false → x ≡ Err NoRoom → n < needs c.guests + need a
       other x is e = absurd (true≢false (sym (ap for_room e) ∙ is))
 
 -- From a bare frame, after any calls.

@@ -1,64 +1,63 @@
 -- docs/ADMISSION.md, "What is turned away": 100, 101, 102, 104, the checker's own numbers, 103; and what each call leaves.
-use Rattle.std.specs.Prelude.{ℕ, ◌+◌, ◌*◌, Bool, true, false, not, cond, ◌||◌, List, [], ◌∷◌, ◌++◌, ltb, Ok, Err}
+use Rattle.std.specs.Prelude.{ℕ, ◌+◌, ◌*◌, Bool, not, cond, ◌||◌, List, [], ◌∷◌, ◌++◌, ltb, Result, Ok, Err}
 use Rattle.std.proofs.Math.Option.{Option, none, some}
 use Rattle.pair.specs.Modes.{rows}
+use Rattle.search.specs.declared.Named.TheVariants.{Nothing}
+use Rattle.checker.specs.declared.Fault.{Fault}
 use Rattle.checker.specs.declared.Place.TheVariants.{Bit}
-use Rattle.checker.specs.Verdicts.{Verdict}
+use Rattle.checker.specs.declared.Verdict.{Verdict}
 use Rattle.checker.specs.Verdicts as Verdicts
 use Rattle.frame.specs.declared.Frame.{Frame}
-use Rattle.frame.specs.declared.Answer.{Answer}
-use Rattle.frame.specs.declared.Answer.TheVariants.{Done, NoSuchPlace, Taken, NotTaken, Malformed, WrongTicks, Refused, NoRoom}
+use Rattle.frame.specs.declared.Refusal.{Refusal}
+use Rattle.frame.specs.declared.Refusal.TheVariants.{NoSuchPlace, Taken, NotTaken, Malformed, WrongTicks, Check, NoRoom}
 use Rattle.frame.specs.declared.Outcome.{Outcome}
 use Rattle.frame.specs.Slots.{held, total, holds, without, laid_from, well_formed, frame_of}
 
--- The numbers of the answers. Those without a place of their own are at bit 0.
-abbrev pub at_bit0 : ℕ → Verdict
-at_bit0 k = Verdicts.refused_at k (Bit 0)
+-- The answer to a call: that it was done, or why it is turned away.
+abbrev pub Answer : Type 0
+Answer = Result (Unit {0}) Refusal
+
+-- The numbers of the refusals. Those without a place of their own are at bit 0.
+abbrev pub at_bit0 : ℕ → Fault
+at_bit0 k = record { number = k; place = Bit 0; states = Nothing }
+
+abbrev pub fault_of : Refusal → Fault
+fault_of NoSuchPlace = at_bit0 100
+fault_of Taken = at_bit0 101
+fault_of NotTaken = at_bit0 101
+fault_of Malformed = at_bit0 102
+fault_of WrongTicks = at_bit0 104
+fault_of (Check fault) = fault
+fault_of NoRoom = at_bit0 103
 
 abbrev pub as_verdict : Answer → Verdict
-as_verdict Done = Ok 0
-as_verdict NoSuchPlace = at_bit0 100
-as_verdict Taken = at_bit0 101
-as_verdict NotTaken = at_bit0 101
-as_verdict Malformed = at_bit0 102
-as_verdict WrongTicks = at_bit0 104
-as_verdict (Refused fault) = Err fault
-as_verdict NoRoom = at_bit0 103
+as_verdict (Ok x) = Verdict.Accepted 0
+as_verdict (Err why) = Verdict.Refused (fault_of why)
 
-abbrev pub is_done : Answer → Bool
-is_done Done = true
-is_done NoSuchPlace = false
-is_done Taken = false
-is_done NotTaken = false
-is_done Malformed = false
-is_done WrongTicks = false
-is_done (Refused fault) = false
-is_done NoRoom = false
-
--- A reason to turn a call away: whether it is there, and its answer. The first that is there is given.
+-- A reason to turn a call away: whether it is there, and its refusal. The first that is there is given.
 pub record Reason : Type 0 where
   pub there : Bool
-  pub answer : Answer
+  pub refusal : Refusal
 
-abbrev pub reason : Bool → Answer → Reason
-reason b a = record { there = b; answer = a }
+abbrev pub reason : Bool → Refusal → Reason
+reason b why = record { there = b; refusal = why }
 
-unfoldable pub first_of : List Reason → Option Answer
+unfoldable pub first_of : List Reason → Option Refusal
 first_of [] = none
-first_of (r ∷ rest) = cond r.there (some r.answer) (first_of rest)
+first_of (r ∷ rest) = cond r.there (some r.refusal) (first_of rest)
 
 -- A call that is turned away leaves the record unchanged.
-abbrev pub turned_away : Frame → Answer → Outcome
-turned_away f a = record { frame = f; answer = a }
+abbrev pub turned_away : Frame → Refusal → Outcome
+turned_away f why = record { frame = f; answer = Err why }
 
-abbrev pub unless : Frame → Option Answer → Outcome → Outcome
+abbrev pub unless : Frame → Option Refusal → Outcome → Outcome
 unless f none next = next
-unless f (some a) next = turned_away f a
+unless f (some why) next = turned_away f why
 
 -- Over a record and a guest's place.
 module _ (f : Frame) (place : ℕ) where
   -- What is asked before the check, with so many ticks per step.
-  unfoldable pub before_check : ℕ → Option Answer
+  unfoldable pub before_check : ℕ → Option Refusal
   before_check ticks =
       first_of (
       reason (ltb 15 place) NoSuchPlace
@@ -73,20 +72,20 @@ module _ (f : Frame) (place : ℕ) where
       cond (ltb f.length (total (held f) + need)) (turned_away f NoRoom)
       (record {
         frame = frame_of f.length (held f ++ (record { place = place; first = total (held f); length = need } ∷ []));
-        answer = Done;
+        answer = Ok tt;
       })
 
   -- The need is the step number times the ticks per step.
   abbrev pub on_verdict : ℕ → Verdict → Outcome
-  on_verdict ticks (Err fault) = turned_away f (Refused fault)
-  on_verdict ticks (Ok k) = on_need (k * ticks)
+  on_verdict ticks (Verdict.Refused fault) = turned_away f (Check fault)
+  on_verdict ticks (Verdict.Accepted k) = on_need (k * ticks)
 
   -- What an admission does, with the verdict of the check.
   unfoldable pub admitted : ℕ → Verdict → Outcome
   admitted ticks v = unless f (before_check ticks) (on_verdict ticks v)
 
   -- What is asked before a release.
-  unfoldable pub before_release : Option Answer
+  unfoldable pub before_release : Option Refusal
   before_release =
       first_of (
       reason (ltb 15 place) NoSuchPlace
@@ -97,16 +96,16 @@ module _ (f : Frame) (place : ℕ) where
   -- A release closes the gap.
   unfoldable pub released : Outcome
   released =
-      unless f before_release (record { frame = frame_of f.length (laid_from 0 (without place (held f))); answer = Done })
+      unless f before_release (record { frame = frame_of f.length (laid_from 0 (without place (held f))); answer = Ok tt })
 
 -- An admission of two files with so many work words.
 unfoldable pub admit : Frame → ℕ → List ℕ → List ℕ → ℕ → ℕ → Outcome
 admit f place hb pb ticks words = admitted f place ticks (Verdicts.answer hb pb rows words).verdict
 
 -- The work words at exit: as the check leaves them, and untouched if it is not reached.
-abbrev pub if_reached : Option Answer → List ℕ → List ℕ → List ℕ
+abbrev pub if_reached : Option Refusal → List ℕ → List ℕ → List ℕ
 if_reached none after before = after
-if_reached (some a) after before = before
+if_reached (some why) after before = before
 
 unfoldable pub work_after : Frame → ℕ → List ℕ → List ℕ → ℕ → List ℕ → List ℕ
 work_after f place hb pb ticks work = if_reached (before_check f place ticks) (Verdicts.work_after hb pb rows work) work

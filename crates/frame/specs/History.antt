@@ -1,16 +1,15 @@
 -- docs/ADMISSION.md, "What is promised": any list of calls from a bare frame, and the guests that are present after it.
-use Rattle.std.specs.Prelude.{ℕ, ◌+◌, ◌*◌, ◌≤◌, ◌<◌, true, cond, List, [], ◌∷◌, ◌++◌, map, ◌≡◌, Ok, Err}
+use Rattle.std.specs.Prelude.{ℕ, ◌+◌, ◌*◌, ◌≤◌, ◌<◌, true, cond, List, [], ◌∷◌, ◌++◌, map, ◌≡◌, Err, is_ok}
 use Rattle.pair.specs.Modes.{rows}
-use Rattle.checker.specs.Verdicts.{Verdict}
+use Rattle.checker.specs.declared.Verdict.{Verdict}
 use Rattle.checker.specs.Verdicts as Verdicts
 use Rattle.frame.specs.declared.Slot.{Slot}
 use Rattle.frame.specs.declared.Frame.{Frame}
-use Rattle.frame.specs.declared.Answer.{Answer}
-use Rattle.frame.specs.declared.Answer.TheVariants.{NoRoom}
+use Rattle.frame.specs.declared.Refusal.TheVariants.{NoRoom}
 use Rattle.frame.specs.declared.Outcome.{Outcome}
 use Rattle.frame.specs.Slots.{places, held, total, others, laid_from, apart, well_formed, frame_of, bare}
 use Rattle.frame.specs.Served.{Served}
-use Rattle.frame.specs.Calls.{is_done, admit, released}
+use Rattle.frame.specs.Calls.{Answer, admit, released}
 
 -- An admission: the guest's place, its two files, its ticks per step and how many work words are lent.
 pub record Admission : Type 0 where
@@ -26,8 +25,8 @@ pub data Call : Type 0 where
 
 -- The step number of an accepted pair; a refused one has none.
 abbrev pub stated : Verdict → ℕ
-stated (Ok k) = k
-stated (Err fault) = 0
+stated (Verdict.Accepted k) = k
+stated (Verdict.Refused fault) = 0
 
 abbrev pub steps_of : Admission → ℕ
 steps_of a = stated (Verdicts.answer a.handler a.proof rows a.words).verdict
@@ -48,7 +47,7 @@ when_done (admission a) guests = guests ++ (a ∷ [])
 when_done (release place) guests = others (λ g. g.place) place guests
 
 abbrev pub guests_after : Answer → Call → List Admission → List Admission
-guests_after answer call guests = cond (is_done answer) (when_done call guests) guests
+guests_after answer call guests = cond (is_ok answer) (when_done call guests) guests
 
 -- A core: its record, and the guests that are present by the answers so far.
 pub record Core : Type 0 where
@@ -94,6 +93,6 @@ pub record Kept (n : ℕ) (c : Core) : Type 0 where
   -- so no call from here is turned away with 102
   pub is_well_formed : well_formed c.frame ≡ true
   -- a guest is refused for room only if the needs admitted and its own add up to more than the frame
-  pub room : (a : Admission) → (outcome c.frame (admission a)).answer ≡ NoRoom → n < needs c.guests + need a
+  pub room : (a : Admission) → (outcome c.frame (admission a)).answer ≡ Err NoRoom → n < needs c.guests + need a
   -- each guest keeps its promise, and takes no more steps than its slot has ticks for
   pub served : Paired (λ g s. Served g.handler g.proof g.ticks s) c.guests (held c.frame)

@@ -1,10 +1,9 @@
 -- docs/ADMISSION.md, "For hosts": the record as 50 numbers, the frame's length, the count of slots, and three for each slot.
-use Rattle.std.specs.Prelude.{ℕ, zero, suc, ◌+◌, ◌-◌, ◌*◌, ◌/◌, min, cond, List, [], ◌∷◌, ◌++◌, eqb, length, get_or}
+use Rattle.std.specs.Prelude.{ℕ, zero, suc, ◌+◌, ◌-◌, ◌*◌, ◌/◌, min, cond, List, [], ◌∷◌, ◌++◌, eqb, length, get_or, is_ok}
 use Rattle.frame.specs.declared.Slot.{Slot}
 use Rattle.frame.specs.declared.Frame.{Frame}
 use Rattle.frame.specs.declared.Outcome.{Outcome}
 use Rattle.frame.specs.Slots.{places}
-use Rattle.frame.specs.Calls.{is_done}
 
 -- Slot i of the numbers: its place, its first tick and its length; 0 where there is no number.
 abbrev pub slot_in : List ℕ → ℕ → Slot
@@ -40,4 +39,4 @@ numbers_of f = f.length ∷ f.count ∷ slot_numbers f.slots
 
 -- The numbers after a call: those of its record if it was done, and else as they were.
 abbrev pub numbers_after : Outcome → List ℕ → List ℕ
-numbers_after o numbers = cond (is_done o.answer) (numbers_of o.frame) numbers
+numbers_after o numbers = cond (is_ok o.answer) (numbers_of o.frame) numbers

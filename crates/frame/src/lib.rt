@@ -1,8 +1,12 @@
 // What a core's frame holds, which calls are turned away, and what holds after any calls (specs/, proofs/). The crate `admission` has the
-// functions; here are the types.
+// functions; here are the types, and the fault of a refusal.
 #![tactic(auto)]
 
-use checker::Fault;
+ghost use Rattle.std.specs.Prelude.{◌≡◌};
+ghost use Rattle.frame.specs.Calls.{fault_of};
+
+use checker::{Fault, Place};
+use search::Named;
 
 // How many guest places a core has.
 pub const PLACES: usize = 16;
@@ -15,7 +19,8 @@ pub struct Slot {
     pub length: u32,
 }
 
-// The record of a core: the length of its frame in ticks, and the slots in order of admission, of which the first `count` are held.
+// The record of a core: the length of its frame in ticks, and the slots in order of admission, of which the first `count` are held. A host
+// lends it as 50 numbers (`handover_admit`), and a count over 16 is answered with 102, so the count stands beside the slots.
 #[derive(Clone, Copy)]
 pub struct Frame {
     pub length: u32,
@@ -23,22 +28,43 @@ pub struct Frame {
     pub slots: [Slot; PLACES],
 }
 
-// The answer to a call. docs/ADMISSION.md has the number of each refusal.
+// Why a call is turned away. docs/ADMISSION.md has the number of each refusal.
 #[derive(Clone, Copy)]
-pub enum Answer {
-    Done,
+pub enum Refusal {
     NoSuchPlace,
     Taken,
     NotTaken,
     Malformed,
     WrongTicks,
-    Refused(Fault),
+    Check(Fault),
     NoRoom,
 }
 
-// The answer to a call, and the record after it.
+// The answer to a call, and the record after it: what the definitions of specs/ give for a call.
 #[derive(Clone, Copy)]
 pub struct Outcome {
     pub frame: Frame,
-    pub answer: Answer,
+    pub answer: Result<(), Refusal>,
+}
+
+// The refusal with its number. Those that are not the check's have no place of their own, and are at bit 0.
+impl From<Refusal> for Fault {
+    ghost from_gives = { λ refusal fault. fault ≡ fault_of refusal };
+
+    fn from(refusal: Refusal) -> Fault {
+        let number = match refusal {
+            Refusal::NoSuchPlace => 100,
+            Refusal::Taken => 101,
+            Refusal::NotTaken => 101,
+            Refusal::Malformed => 102,
+            Refusal::WrongTicks => 104,
+            Refusal::Check(fault) => return fault,
+            Refusal::NoRoom => 103,
+        };
+        Fault {
+            number,
+            place: Place::Bit(0),
+            states: Named::Nothing,
+        }
+    }
 }

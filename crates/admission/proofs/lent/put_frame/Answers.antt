@@ -1,14 +1,13 @@
 -- After i turns the numbers up to slot i are the record's; `numbers_next` adds the three of slot i.
-use Prim.Native.Nat.{◌+◌, ◌*◌}
 use mathlib.Core.List.{[], ◌∷◌}
-use mathlib.Core.Path.{◌≡◌, sym, ◌∙◌}
+use mathlib.Core.Path.{◌≡◌, sym, ap, ◌∙◌}
 use native.Mathlib.Omega.{arith}
 use borrow.Author.Rules.{rules}
-use lib.ListN.{length, take, length-set}
+use lib.ListN.{length, length-set}
 use lib.Seq.{take_all}
 use Rattle.frame.specs.Slots.{places}
-use Rattle.frame.specs.Lent.{slot_numbers, numbers_of}
-use Rattle.frame.proofs.Lent.{take_sets, numbers_next}
+use Rattle.frame.specs.Lent.{frame_in, slot_numbers, numbers_of}
+use Rattle.frame.proofs.Lent.{take_sets, numbers_next, read_back}
 use Rattle.admission.proofs.Arrays.{length_of_mapped}
 use Rattle.admission.proofs.lent.put_frame.Goals.{At-loop-i}
 use Rattle.admission.proofs.lent.put_frame.Goals as goal
@@ -42,4 +41,6 @@ returns c =
     let l = c.loop-i in
     let all : l.i ≡ places = omega arith in
     let full = all_slots (goal.at.returns c).At-loop-i in
-    sym (take_all 50 l.numbers (omega arith)) ∙ (rw all at l.invariant.written) ∙ rw (take_all 16 c.args.frame.slots (omega arith))
+    let written : l.numbers ≡ numbers_of c.args.frame =
+    sym (take_all 50 l.numbers (omega arith)) ∙ (rw all at l.invariant.written) ∙ rw (take_all 16 c.args.frame.slots (omega arith)) in
+    record { numbers = written; read = ap frame_in written ∙ read_back c.args.frame full }

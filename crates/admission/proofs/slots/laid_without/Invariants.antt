@@ -4,8 +4,8 @@ use lib.ListN.{take}
 use Rattle.frame.specs.Slots.{total, without, laid_from, frame_of}
 use Rattle.admission.proofs.slots.laid_without.Given as goal
 
-abbrev pub invariant-loop-i : goal.invariant-loop-i
-invariant-loop-i l = record {
-  laid : l.laid ≡ frame_of l.initial.laid.length (laid_from 0 (without l.place (take l.i l.slots)));
-  ends : l.tick ≡ total (without l.place (take l.i l.slots));
+abbrev pub invariant-loop-slot : goal.invariant-loop-slot
+invariant-loop-slot l = record {
+  laid : l.laid ≡ frame_of l.initial.laid.length (laid_from 0 (without l.place (take l.slot-index l.slots)));
+  ends : l.tick ≡ total (without l.place (take l.slot-index l.slots));
 }
