@@ -9,7 +9,6 @@ use borrow.Author.Tests.{ne_eqb}
 use lib.Dec.{eqb}
 use Rattle.pair.specs.Modes.{rows}
 use Rattle.checker.specs.declared.Fault.{Fault}
-use Rattle.checker.specs.declared.Verdict.TheVariants as Verdict
 use Rattle.checker.specs.Verdicts as Verdicts
 use Rattle.checker.proofs.Bounds.{bounded}
 use Rattle.report.specs.Code.{index_of, code_of, Lossless}
@@ -26,9 +25,9 @@ use Rattle.frame.proofs.Outcomes.{admitted_cases, released_cases}
 abbrev pub Coded : Answer → Type 0
 Coded a = Lossless (as_verdict a) × (eqb (code_of (as_verdict a)) 0 ≡ is_ok a)
 
-refused : (f : Fault) → Lossless (Verdict.Refused f) → Coded (Err (Check f))
+refused : (f : Fault) → Lossless (Err f) → Coded (Err (Check f))
 unfolding code_of
-refused f small = (small, ne_eqb (code_of (Verdict.Refused f)) 0 (λ e. omega arith))
+refused f small = (small, ne_eqb (code_of (Err f)) 0 (λ e. omega arith))
 
 -- The refusals that are not the check's.
 plain : (k : ℕ) → k ≤ 4 → Coded (Err (Check (at_bit0 (100 + k))))

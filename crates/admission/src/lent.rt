@@ -100,8 +100,8 @@ pub fn verdict_of(answer: Result<(), Refusal>) -> Verdict
     ensures { result ≡ as_verdict answer }
 {
     match answer {
-        Ok(()) => Verdict::Accepted(0),
-        Err(refusal) => Verdict::Refused(Fault::from(refusal)),
+        Ok(()) => Ok(0),
+        Err(refusal) => Err(Fault::from(refusal)),
     }
 }
 

@@ -7,7 +7,7 @@ ghost use Rattle.frame.specs.Slots as Slots;
 ghost use Rattle.frame.specs.Calls.{on_need, admit, released, work_after};
 ghost use Rattle.frame.specs.Served.{ServedIf};
 
-use checker::{Verdict, check};
+use checker::check;
 use frame::{Frame, PLACES, Refusal, Slot};
 use pair::rows;
 use slots::{NO_SLOT, added, is_taken, laid, laid_without, no_slots};
@@ -91,8 +91,8 @@ pub fn admit(
         return Err(Refusal::WrongTicks);
     }
     match check(handler, proof, rows(), work) {
-        Verdict::Refused(fault) => Err(Refusal::Check(fault)),
-        Verdict::Accepted(steps) => grant(frame, place, end, steps as u64 * ticks as u64),
+        Err(fault) => Err(Refusal::Check(fault)),
+        Ok(steps) => grant(frame, place, end, steps as u64 * ticks as u64),
     }
 }
 

@@ -15,7 +15,6 @@ use Rattle.pair.specs.Modes.{rows}
 use Rattle.checker.specs.declared.Place.{Place}
 use Rattle.checker.specs.declared.Place.TheVariants.{Bit, Node}
 use Rattle.checker.specs.declared.Fault.{Fault}
-use Rattle.checker.specs.declared.Verdict.TheVariants.{Refused}
 use Rattle.checker.specs.Verdicts.{answer}
 use Rattle.checker.proofs.Bounds.{Bounded, bounded}
 use Rattle.report.specs.Code.{place_kind, index_of, code_of}
@@ -28,9 +27,9 @@ use Rattle.joint.proofs.Outcomes.{Success, Refusal, few_words, first_long, secon
 use Rattle.joint.proofs.Theorems.{limits}
 
 -- A fault of the check is small.
-own_small : (h p : List ℕ) (words pair : ℕ) → pair ≤ 2 → (f : Fault) → (answer h p rows words).verdict ≡ Refused f → Small (Err (turned pair f))
+own_small : (h p : List ℕ) (words pair : ℕ) → pair ≤ 2 → (f : Fault) → (answer h p rows words).verdict ≡ Err f → Small (Err (turned pair f))
 own_small h p words pair few f e =
-    let b : Bounded (Refused f) = subst Bounded e (bounded h p rows words) in (few, b.0, omega arith, place_small f.place b.2)
+    let b : Bounded (Err f) = subst Bounded e (bounded h p rows words) in (few, b.0, omega arith, place_small f.place b.2)
 
 plain_small : (pair k : ℕ) → pair ≤ 2 → 0 < k → k ≤ 95 → Small (Err (turned pair (plain k)))
 unfolding index_of
@@ -118,7 +117,7 @@ number_promised h p h' p' work hout pout c H P e so =
     rw (e, number_decoded h p h' p' work hout pout) (promised_alike _ H P (subst (λ r. MadeIsAccepted r H P) e so))
 
 -- The code of a small fault leaves the bits from 48 on free.
-pub fault_below : (f : Fault) → f.number ≤ 95 → code_of (Refused f) < 2 ^ 48
+pub fault_below : (f : Fault) → f.number ≤ 95 → code_of (Err f) < 2 ^ 48
 unfolding code_of place_kind
 fault_below f n = by f.place
   where

@@ -3,7 +3,6 @@ use Rattle.std.specs.Prelude.{ℕ, ◌≤◌, List, ◌≡◌, length, take, Res
 use Rattle.derivation.specs.Tables.{work_words}
 use Rattle.pair.specs.Modes.{rows}
 use Rattle.checker.specs.declared.Fault.{Fault}
-use Rattle.checker.specs.declared.Verdict.TheVariants.{Accepted}
 use Rattle.checker.specs.Verdicts.{answer}
 use Rattle.joint.specs.Composing.{Composition, made, refused}
 use Rattle.composition.specs.declared.Made.{Made}
@@ -25,4 +24,4 @@ composed (made k handler proof) = Ok (record { steps = k; handler = length handl
 -- What is promised of files that were written: the check accepts them, with any 1,040 work words or more, and with this step number.
 pub record MadeIsAccepted (answered : Composed) (hout pout : List ℕ) : Type 0 where
   pub always : (m : Made) → answered ≡ Ok m → (words : ℕ) → work_words ≤ words
-      → (answer (take m.handler hout) (take m.proof pout) rows words).verdict ≡ Accepted m.steps
+      → (answer (take m.handler hout) (take m.proof pout) rows words).verdict ≡ Ok m.steps

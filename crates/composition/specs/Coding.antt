@@ -2,7 +2,6 @@
 use Rattle.std.specs.Prelude.{ℕ, ◌+◌, ◌*◌, ◌/◌, ◌%◌, ◌^◌, cond, ltb, eqb, Ok, Err}
 use Rattle.search.specs.declared.Named.TheVariants.{Nothing}
 use Rattle.checker.specs.declared.Place.TheVariants.{Bit, Node}
-use Rattle.checker.specs.declared.Verdict.TheVariants.{Refused}
 use Rattle.report.specs.Code.{code_of}
 use Rattle.composition.specs.Answers.{Composed, turned}
 
@@ -10,7 +9,7 @@ use Rattle.composition.specs.Answers.{Composed, turned}
 -- file. It is 1 for a refusal: the pair from bit 48 on, and below it the fault as the check codes it.
 unfoldable pub number_of : Composed → ℕ
 number_of (Ok m) = m.steps + 2 ^ 32 * m.handler + 2 ^ 47 * m.proof
-number_of (Err t) = 2 ^ 63 + 2 ^ 48 * t.pair + code_of (Refused t.fault)
+number_of (Err t) = 2 ^ 63 + 2 ^ 48 * t.pair + code_of (Err t.fault)
 
 -- The number does not carry the states that a pair's own fault names.
 unfoldable pub without_states : Composed → Composed

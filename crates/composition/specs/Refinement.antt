@@ -19,7 +19,6 @@ use Rattle.derivation.specs.NodeTable.{node_table}
 use Rattle.pair.specs.Limits.{most_handler_bytes, most_proof_bytes}
 use Rattle.pair.specs.Modes.{rows}
 use Rattle.rules.specs.Words.{word_set, word_relation, word_spec}
-use Rattle.checker.specs.declared.Verdict.TheVariants.{Accepted}
 use Rattle.checker.specs.Verdicts.{answer}
 use Rattle.report.specs.Code.{index_of}
 use Rattle.form.specs.Members.{node_by, set_where, relation_where}
@@ -91,7 +90,7 @@ pub record Merged (before xs after : List ℕ) (count : ℕ) (names : List ℕ) 
 pub record WasAccepted (hb pb : List ℕ) : Type 0 where
   pub words : ℕ
   pub steps : ℕ
-  pub accepted : (answer hb pb rows words).verdict ≡ Accepted steps
+  pub accepted : (answer hb pb rows words).verdict ≡ Ok steps
 
 -- What is taken from a pair of files over n states, as its proof file's one form holds it, with the tables in words.
 pub record Formed (n : ℕ) (side : Side) (words : List ℕ) (f : Form) : Type 0 where

@@ -9,7 +9,7 @@ ghost use Rattle.joint.specs.Composing.{plain, compose_into, work_after, handler
 ghost use Rattle.composition.specs.Answers.{turned, composed, MadeIsAccepted};
 ghost use Rattle.composition.specs.Refinement.{Small};
 
-use checker::{Fault, Place, Verdict, WORK_WORDS, check};
+use checker::{Fault, Place, WORK_WORDS, check};
 use derivation::words::clear;
 use pair::{rows, too_long};
 use pairs::compose_accepted;
@@ -92,10 +92,10 @@ fn compose_checked(
 {
     let mode = rows();
     match check(h1, p1, mode, work) {
-        Verdict::Refused(fault) => Err(Turned { pair: 1, fault }),
-        Verdict::Accepted(steps) => match check(h2, p2, mode, work) {
-            Verdict::Refused(fault) => Err(Turned { pair: 2, fault }),
-            Verdict::Accepted(more) => compose_accepted(h1, p1, steps, h2, p2, more, hout, pout),
+        Err(fault) => Err(Turned { pair: 1, fault }),
+        Ok(steps) => match check(h2, p2, mode, work) {
+            Err(fault) => Err(Turned { pair: 2, fault }),
+            Ok(more) => compose_accepted(h1, p1, steps, h2, p2, more, hout, pout),
         },
     }
 }
@@ -153,7 +153,7 @@ fn number_of(answer: Composed) -> u64
         Ok(made) => made.steps as u64 + HANDLERS * made.handler as u64 + PROOFS * made.proof as u64,
         Err(turned) => REFUSED
             + PAIRS * turned.pair as u64
-            + code_of(Verdict::Refused(turned.fault)),
+            + code_of(Err(turned.fault)),
     }
 }
 

@@ -10,8 +10,7 @@ use lib.Dec.{ltb}
 use lib.ListN.{length}
 use Rattle.semantics.specs.Runs.{steps_made}
 use Rattle.pair.specs.Modes.{rows}
-use Rattle.checker.specs.declared.Verdict.{Verdict}
-use Rattle.checker.specs.Verdicts.{AcceptedIsSound, answer}
+use Rattle.checker.specs.Verdicts.{Verdict, AcceptedIsSound, answer}
 use Rattle.checker.specs.Verdicts as Verdicts
 use Rattle.frame.specs.declared.Slot.{Slot}
 use Rattle.frame.specs.declared.Frame.{Frame}
@@ -19,7 +18,7 @@ use Rattle.frame.specs.declared.Refusal.{Refusal}
 use Rattle.frame.specs.declared.Refusal.TheVariants.{NoSuchPlace, Taken, NotTaken, Malformed, WrongTicks, NoRoom}
 use Rattle.frame.specs.declared.Outcome.{Outcome}
 use Rattle.frame.specs.Slots.{held, total, holds, without, laid_from, well_formed, frame_of}
-use Rattle.std.specs.Prelude.{Ok, is_ok}
+use Rattle.std.specs.Prelude.{Ok, is_ok, Err}
 use Rattle.frame.specs.Calls.{first_of, turned_away, unless, before_check, on_need, on_verdict, admitted, before_release, released, admit, if_reached, work_after}
 use Rattle.frame.specs.Served.{Served, ServedIf}
 use Rattle.frame.proofs.Frames.{last_of}
@@ -89,7 +88,7 @@ module _ (f : Frame) (place : ℕ) where
   gap_closed free = rw free refl
 
 -- A slot of k times the ticks serves a guest whose pair is accepted with k.
-pub serves : (hb pb : List ℕ) (ticks k : ℕ) (slot : Slot) → AcceptedIsSound hb pb rows (Verdict.Accepted k) → slot.length ≡ k * ticks → Served hb pb ticks slot
+pub serves : (hb pb : List ℕ) (ticks k : ℕ) (slot : Slot) → AcceptedIsSound hb pb rows (Ok k) → slot.length ≡ k * ticks → Served hb pb ticks slot
 serves hb pb ticks k slot sound filled =
     let s = sound.sound k refl in
     record {
@@ -120,7 +119,7 @@ module _ (f : Frame) (place : ℕ) (hb pb : List ℕ) (ticks : ℕ) (work : List
   )
 
   -- A need that fits has its slot at the end.
-  need_served : (k : ℕ) → AcceptedIsSound hb pb rows (Verdict.Accepted k)
+  need_served : (k : ℕ) → AcceptedIsSound hb pb rows (Ok k)
       → ServedIf (is_ok (on_need f place (k * ticks)).answer) hb pb ticks (on_need f place (k * ticks)).frame
   unfolding on_need
   need_served k sound = by (ltb f.length (total (held f) + k * ticks))
@@ -146,5 +145,5 @@ module _ (f : Frame) (place : ℕ) (hb pb : List ℕ) (ticks : ℕ) (work : List
   )
     where
       by : (v : Verdict) → AcceptedIsSound hb pb rows v → ServedIf (is_ok (on_verdict f place ticks v).answer) hb pb ticks (on_verdict f place ticks v).frame
-      by (Verdict.Accepted k) s = need_served k s
-      by (Verdict.Refused fault) s = record { served = λ d. absurd (true≢false (sym d)) }
+      by (Ok k) s = need_served k s
+      by (Err fault) s = record { served = λ d. absurd (true≢false (sym d)) }

@@ -10,14 +10,14 @@ use borrow.Author.Tests.{eqb-true, ltb-true, ltb-false, not-false}
 use lib.Dec.{ltb, eqb}
 use lib.ListN.{length, get_or}
 use Rattle.checker.specs.declared.Fault.{Fault}
-use Rattle.checker.specs.declared.Verdict.{Verdict}
+use Rattle.checker.specs.Verdicts.{Verdict}
 use Rattle.frame.specs.declared.Slot.{Slot}
 use Rattle.frame.specs.declared.Frame.{Frame}
 use Rattle.frame.specs.declared.Refusal.{Refusal}
 use Rattle.frame.specs.declared.Refusal.TheVariants.{NoSuchPlace, Taken, NotTaken, Malformed, WrongTicks, Check, NoRoom}
 use Rattle.frame.specs.declared.Outcome.{Outcome}
 use Rattle.frame.specs.Slots.{places, held, total, holds, without, laid_from, well_formed, frame_of}
-use Rattle.std.specs.Prelude.{Ok, is_ok}
+use Rattle.std.specs.Prelude.{Ok, is_ok, Err}
 use Rattle.frame.specs.Calls.{first_of, turned_away, unless, before_check, on_need, on_verdict, admitted, before_release, released}
 use Rattle.frame.specs.Lent.{frame_in}
 use Rattle.frame.proofs.Frames.{well}
@@ -56,9 +56,9 @@ module _ (P : Outcome → Type 0) (f : Frame) where
         either _ (not (well_formed f)) Malformed _ (λ ill. malformed) (λ well. done (not-false _ well))))
 
     module _ (ticks : ℕ) (taken : P (turned_away f Taken)) (wrong : P (turned_away f WrongTicks)) where
-      pub admitted_cases : (v : Verdict) → ((fault : Fault) → v ≡ Verdict.Refused fault → P (turned_away f (Check fault)))
-          → ((k : ℕ) → v ≡ Verdict.Accepted k → f.length < total (held f) + k * ticks → P (turned_away f NoRoom))
-          → ((k : ℕ) → v ≡ Verdict.Accepted k → total (held f) + k * ticks ≤ f.length
+      pub admitted_cases : (v : Verdict) → ((fault : Fault) → v ≡ Err fault → P (turned_away f (Check fault)))
+          → ((k : ℕ) → v ≡ Ok k → f.length < total (held f) + k * ticks → P (turned_away f NoRoom))
+          → ((k : ℕ) → v ≡ Ok k → total (held f) + k * ticks ≤ f.length
           → place < places → holds place (held f) ≡ false → well_formed f ≡ true → P (leaving f (held f ++ (new_slot f place (k * ticks) ∷ []))))
           → P (admitted f place ticks v)
       unfolding admitted before_check first_of
@@ -69,12 +69,12 @@ module _ (P : Outcome → Type 0) (f : Frame) where
           either _ (ltb ticks 1 || ltb 1000 ticks) WrongTicks _ (λ e. wrong) (λ e.
           by v refused full (λ k is fits. done k is fits (omega (arith, ltb-false 15 place there)) free (not-false _ well))))))
         where
-          by : (v : Verdict) → ((fault : Fault) → v ≡ Verdict.Refused fault → P (turned_away f (Check fault)))
-              → ((k : ℕ) → v ≡ Verdict.Accepted k → f.length < total (held f) + k * ticks → P (turned_away f NoRoom))
-              → ((k : ℕ) → v ≡ Verdict.Accepted k → total (held f) + k * ticks ≤ f.length → P (leaving f (held f ++ (new_slot f place (k * ticks) ∷ []))))
+          by : (v : Verdict) → ((fault : Fault) → v ≡ Err fault → P (turned_away f (Check fault)))
+              → ((k : ℕ) → v ≡ Ok k → f.length < total (held f) + k * ticks → P (turned_away f NoRoom))
+              → ((k : ℕ) → v ≡ Ok k → total (held f) + k * ticks ≤ f.length → P (leaving f (held f ++ (new_slot f place (k * ticks) ∷ []))))
               → P (on_verdict f place ticks v)
-          by (Verdict.Refused fault) refused full done = refused fault refl
-          by (Verdict.Accepted k) refused full done = need_cases place (k * ticks) (full k refl) (done k refl)
+          by (Err fault) refused full done = refused fault refl
+          by (Ok k) refused full done = need_cases place (k * ticks) (full k refl) (done k refl)
 
 -- A call that was done had a well-formed record.
 module _ (f : Frame) (place : ℕ) where

@@ -5,7 +5,7 @@ use Rattle.pair.specs.Modes.{rows}
 use Rattle.search.specs.declared.Named.TheVariants.{Nothing}
 use Rattle.checker.specs.declared.Fault.{Fault}
 use Rattle.checker.specs.declared.Place.TheVariants.{Bit}
-use Rattle.checker.specs.declared.Verdict.{Verdict}
+use Rattle.checker.specs.Verdicts.{Verdict}
 use Rattle.checker.specs.Verdicts as Verdicts
 use Rattle.frame.specs.declared.Frame.{Frame}
 use Rattle.frame.specs.declared.Refusal.{Refusal}
@@ -31,8 +31,8 @@ fault_of (Check fault) = fault
 fault_of NoRoom = at_bit0 103
 
 abbrev pub as_verdict : Answer → Verdict
-as_verdict (Ok x) = Verdict.Accepted 0
-as_verdict (Err why) = Verdict.Refused (fault_of why)
+as_verdict (Ok x) = Ok 0
+as_verdict (Err why) = Err (fault_of why)
 
 -- A reason to turn a call away: whether it is there, and its refusal. The first that is there is given.
 pub record Reason : Type 0 where
@@ -77,8 +77,8 @@ module _ (f : Frame) (place : ℕ) where
 
   -- The need is the step number times the ticks per step.
   abbrev pub on_verdict : ℕ → Verdict → Outcome
-  on_verdict ticks (Verdict.Refused fault) = turned_away f (Check fault)
-  on_verdict ticks (Verdict.Accepted k) = on_need (k * ticks)
+  on_verdict ticks (Err fault) = turned_away f (Check fault)
+  on_verdict ticks (Ok k) = on_need (k * ticks)
 
   -- What an admission does, with the verdict of the check.
   unfoldable pub admitted : ℕ → Verdict → Outcome

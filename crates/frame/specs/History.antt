@@ -1,7 +1,7 @@
 -- docs/ADMISSION.md, "What is promised": any list of calls from a bare frame, and the guests that are present after it.
-use Rattle.std.specs.Prelude.{ℕ, ◌+◌, ◌*◌, ◌≤◌, ◌<◌, true, cond, List, [], ◌∷◌, ◌++◌, map, ◌≡◌, Err, is_ok}
+use Rattle.std.specs.Prelude.{ℕ, ◌+◌, ◌*◌, ◌≤◌, ◌<◌, true, cond, List, [], ◌∷◌, ◌++◌, map, ◌≡◌, Err, is_ok, Ok}
 use Rattle.pair.specs.Modes.{rows}
-use Rattle.checker.specs.declared.Verdict.{Verdict}
+use Rattle.checker.specs.Verdicts.{Verdict}
 use Rattle.checker.specs.Verdicts as Verdicts
 use Rattle.frame.specs.declared.Slot.{Slot}
 use Rattle.frame.specs.declared.Frame.{Frame}
@@ -25,8 +25,8 @@ pub data Call : Type 0 where
 
 -- The step number of an accepted pair; a refused one has none.
 abbrev pub stated : Verdict → ℕ
-stated (Verdict.Accepted k) = k
-stated (Verdict.Refused fault) = 0
+stated (Ok k) = k
+stated (Err fault) = 0
 
 abbrev pub steps_of : Admission → ℕ
 steps_of a = stated (Verdicts.answer a.handler a.proof rows a.words).verdict

@@ -6,8 +6,8 @@ ghost use Rattle.std.specs.Prelude.{◌≤◌, length, IfSome};
 
 use super::number::number_in;
 use super::{ARGUMENT_BYTES, HANDLER_BYTES, PROOF_BYTES, argument, print, read_argument, save};
-use checker::{Verdict, WORK_WORDS};
-use frame::{Frame, Outcome, PLACES};
+use checker::{Fault, WORK_WORDS};
+use frame::{Frame, PLACES, Refusal};
 
 // The argument that is the frame's length, and the first of the guests', which have three each.
 const FRAME_LENGTH: usize = 2;
@@ -73,7 +73,7 @@ fn read_guest<'a>(
 }
 
 // Tries a guest with work words of its own.
-fn try_guest(frame: Frame, place: u32, guest: Guest<'_>) -> Outcome {
+fn try_guest(frame: &mut Frame, place: u32, guest: Guest<'_>) -> Result<(), Refusal> {
     let mut work = [0u64; WORK_WORDS];
     admission::admit(
         frame,
@@ -87,18 +87,15 @@ fn try_guest(frame: Frame, place: u32, guest: Guest<'_>) -> Outcome {
 
 // Writes the line of a guest that was tried: its slot, which is the last one, or the refusal.
 #[tactic(auto, using(report::proofs::Lines::line_within))]
-fn write_outcome(place: u32, outcome: Outcome, out: &mut [u8]) -> usize
+fn write_outcome(place: u32, frame: Frame, answer: Result<(), Refusal>, out: &mut [u8]) -> usize
     ensures { result ≤ length out.old }
 {
-    let answer = outcome.answer;
-    let v = admission::lent::verdict_of(answer);
-    match v {
-        Verdict::Accepted(_) => {
-            let frame = outcome.frame;
+    match answer {
+        Ok(()) => {
             let slot = admission::last_slot(frame);
             report::write_slot(place, slot.first, slot.length, out)
         }
-        Verdict::Refused(_) => report::write_turned(place, v, out),
+        Err(refusal) => report::write_turned(place, Err(Fault::from(refusal)), out),
     }
 }
 
@@ -121,9 +118,8 @@ fn write_table(
         let mut handler = [0u8; HANDLER_BYTES];
         let mut proof = [0u8; PROOF_BYTES];
         let guest = read_guest(rt, first, &mut handler, &mut proof)?;
-        let outcome = try_guest(frame, place, guest);
-        end += write_outcome(place, outcome, &mut table[end..]);
-        frame = outcome.frame;
+        let answer = try_guest(&mut frame, place, guest);
+        end += write_outcome(place, frame, answer, &mut table[end..]);
     }
     end += report::write_left(admission::left_over(frame), &mut table[end..]);
     Some(end)

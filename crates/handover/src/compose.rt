@@ -2,7 +2,6 @@
 use super::save::save_both;
 use super::{ARGUMENT_BYTES, HANDLER_BYTES, PROOF_BYTES, argument, print_written, read_argument};
 use checker::{Verdict, WORK_WORDS};
-use composition::Composed;
 use pair::{MOST_HANDLER_BYTES, MOST_PROOF_BYTES};
 
 // The arguments that name the first of the files to be read and of those to be written.
@@ -38,15 +37,14 @@ fn compose_files(rt: &HostRuntime, h1: &[u8], p1: &[u8], h2: &[u8], p2: &[u8]) -
     let mut work = [0u64; WORK_WORDS];
     let mut handler = [0u8; MOST_HANDLER_BYTES];
     let mut proof = [0u8; MOST_PROOF_BYTES];
-    let composed = composition::compose(h1, p1, h2, p2, &mut work, &mut handler, &mut proof);
-    match composed {
-        Composed::Made(made) => {
+    match composition::compose(h1, p1, h2, p2, &mut work, &mut handler, &mut proof) {
+        Ok(made) => {
             let handler = &handler[..made.handler as usize];
             let proof = &proof[..made.proof as usize];
             save_arguments(rt, handler, proof)?;
             print_composed(rt, made.steps)
         }
-        Composed::Refused(pair, fault) => print_pair(rt, Verdict::Refused(fault), pair),
+        Err(turned) => print_pair(rt, Err(turned.fault), turned.pair),
     }
 }
 

@@ -18,7 +18,7 @@ mod save;
 
 ghost use Rattle.std.specs.Prelude.{ℕ, ◌≤◌, ◌<◌, length, IfOk, IfSome};
 
-use canonical::{MOST_FORM_BYTES, Outcome};
+use canonical::MOST_FORM_BYTES;
 use checker::{Fault, Verdict, WORK_WORDS};
 use failure::{or_fail, write_error};
 use pair::{MOST_HANDLER_BYTES, MOST_PROOF_BYTES};
@@ -156,8 +156,8 @@ fn explain(rt: &HostRuntime, handler: Given<'_>, proof: Given<'_>) -> Option<()>
     let v = checker::check(handler.bytes, proof.bytes, pair::rows(), &mut work);
     print_line(rt, v)?;
     match v {
-        Verdict::Accepted(_) => explain_accepted(rt, handler.bytes, proof.bytes, &work),
-        Verdict::Refused(fault) => explain_refusal(rt, handler, proof, fault),
+        Ok(_) => explain_accepted(rt, handler.bytes, proof.bytes, &work),
+        Err(fault) => explain_refusal(rt, handler, proof, fault),
     }
 }
 
@@ -167,14 +167,14 @@ fn write_form(rt: &HostRuntime, handler: Given<'_>, proof: Given<'_>) -> Option<
     let mut form = [0u8; MOST_FORM_BYTES];
     let outcome = canonical::write_form(handler.bytes, proof.bytes, &mut form);
     match outcome {
-        Outcome::Written(length) => {
+        Ok(length) => {
             let mut out = [0u8; ARGUMENT_BYTES];
             let out = argument(rt, 4, &mut out);
             let form = &form[..length as usize];
             save::save(rt, out, form)?;
             print_length(rt, length)
         }
-        Outcome::Refused(fault) => print_line(rt, Verdict::Refused(fault)),
+        Err(fault) => print_line(rt, Err(fault)),
     }
 }
 

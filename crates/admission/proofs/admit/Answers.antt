@@ -12,7 +12,6 @@ use lib.ListN.{length}
 use Rattle.std.specs.Prelude.{Result, Ok, Err, is_some, ok_or}
 use Rattle.std.specs.Result.{result_ok}
 use Rattle.std.proofs.lemmas.Result.{err_from_is_err_and}
-use Rattle.checker.specs.declared.Verdict.{Verdict}
 use Rattle.checker.specs.Verdicts as Check
 use Rattle.frame.specs.declared.Outcome.{Outcome}
 use Rattle.frame.specs.Slots.{held, total, holds, well_formed}
@@ -23,6 +22,7 @@ use Rattle.frame.proofs.Calls.{no_such_place, taken, malformed, wrong_ticks, rea
 use Rattle.admission.proofs.Looking.{found_some, found_end}
 use Rattle.admission.proofs.admit.Goals.{After-check, After-laid, In_ok-end}
 use Rattle.admission.proofs.admit.Goals as goal
+use Rattle.checker.specs.Verdicts.{Verdict}
 
 -- What a `?` returns of a result without its value.
 turned_away : Result ℕ Refusal → Answer
@@ -102,7 +102,7 @@ returns-then-ticks c =
 
 pub overflow_mul-steps : goal.overflow_mul-steps
 overflow_mul-steps c =
-    let few : c.in-Accepted.steps < 2 ^ 32 = search rules in
+    let few : c.in-Ok.steps < 2 ^ 32 = search rules in
     let ticks : c.args.ticks < 2 ^ 32 = search rules in
     omega (arith, product_fits few ticks)
 
@@ -111,12 +111,12 @@ grant-requires c =
     let known = found (goal.at.grant-requires c).In_ok-end in
     (known.0, free (goal.at.grant-requires c).After-laid, omega (arith, c.if-place-gt-LAST_PLACE.false), known.1)
 
-pub returns-in-Refused : goal.returns-in-Refused
-returns-in-Refused c =
-    let p = decided (goal.at.returns-in-Refused c).After-check _ _ c.in-Refused.is refl in
+pub returns-in-Err : goal.returns-in-Err
+returns-in-Err c =
+    let p = decided (goal.at.returns-in-Err c).After-check _ _ c.in-Err.is refl in
     record { outcome = p.0; words = p.1.0; served = p.1.1 }
 
-pub returns-in-Accepted : goal.returns-in-Accepted
-returns-in-Accepted c =
-    let p = decided (goal.at.returns-in-Accepted c).After-check _ _ c.in-Accepted.is c.grant.ensures in
+pub returns-in-Ok : goal.returns-in-Ok
+returns-in-Ok c =
+    let p = decided (goal.at.returns-in-Ok c).After-check _ _ c.in-Ok.is c.grant.ensures in
     record { outcome = p.0; words = p.1.0; served = p.1.1 }
