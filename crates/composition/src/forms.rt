@@ -22,36 +22,19 @@ pub(crate) struct Form {
     pub nodes: [u64; MOST_NODES],
 }
 
-// The head of a file that is not read.
-fn no_proof() -> ProofHead {
-    ProofHead {
-        sets: 0,
-        relations: 0,
-        nodes: 0,
-        levels: 0,
-        root: 0,
-    }
-}
-
-// Loads a proof file over n states. Of one that is not read the form has no meaning.
+// Loads a proof file over n states, which is read without fault.
 fn load_file(file: &[u8], n: u32, words: &mut [u64]) -> Form
+    requires { IsProof (read_proof file.now n) }
     ensures answer { (sets relations root : ℕ) (d : Derivation) → read_proof file.now n ≡ proof sets relations root d
         → result ≡ form_read sets relations root d }
     ensures tables { words.new ≡ written (loaded_word file.now n (read_proof file.now n)) words.old }
 {
-    let loaded = load(file, n, words);
-    let nodes = loaded.nodes;
-    let root = node_at(&nodes, 0);
-    let names = root.names;
-    let found = loaded.found;
-    match found {
-        ProofFound::Fault(_number, _place) => Form {
-            head: no_proof(),
-            names,
-            nodes,
-        },
-        ProofFound::Proof(head) => Form { head, names, nodes },
-    }
+    let Ok(file) = load(file, n, words) else {
+        unreachable!()
+    };
+    let ProofFile { head, nodes } = file;
+    let names = node_at(&nodes, 0).names;
+    Form { head, names, nodes }
 }
 
 // How many bytes were written.

@@ -1,7 +1,6 @@
 // Two accepted pairs: they are read again, their proof files are brought into their one form, and what both are asked together is tested.
-ghost use Rattle.std.specs.Prelude.{◌≡◌, ◌+◌, length};
-ghost use Rattle.pair.specs.declared.PairSummary.{PairSummary};
-ghost use Rattle.pair.specs.declared.PairFound.TheVariants.{Pair};
+ghost use Rattle.std.specs.Prelude.{◌≡◌, ◌+◌, length, Ok};
+ghost use Rattle.pair.specs.Reading.{read_pair, pair_file};
 ghost use Rattle.joint.specs.Composing.{side_of, composition, handler_after, proof_after, with_room};
 ghost use Rattle.composition.specs.Answers.{composed};
 ghost use Rattle.composition.specs.Refinement.{WasAccepted, SameStates, met_of};
@@ -11,32 +10,20 @@ use crate::forms::load_form;
 use crate::joining::{Handlers, join};
 use crate::{Composed, refusal};
 use checker::WORK_WORDS;
-use handler::HandlerSummary;
-use pair::{PairFound, read_pair};
+use pair::{PairFile, read_pair};
 
 // The sizes differ.
 const OTHER_SIZES: u32 = 90;
 
-// The summary of a handler file that is not read.
-fn no_summary() -> HandlerSummary {
-    HandlerSummary {
-        at: 0,
-        end: 0,
-        statements: 0,
-        levels: 0,
-        steps: 0,
-    }
-}
-
-// What was read of the handler file of a pair that has no fault.
-fn summary_of(found: PairFound) -> HandlerSummary
-    ensures { (w : PairSummary) → found ≡ Pair w → result ≡ w.handler }
+// Reads a pair that was accepted once more: it has no fault.
+fn read_accepted(handler: &[u8], proof: &[u8]) -> PairFile
+    requires { WasAccepted handler.now proof.now }
+    ensures { Ok result ≡ pair_file (read_pair handler.now proof.now) }
 {
-    match found {
-        PairFound::Pair(read) => read.handler,
-        PairFound::Fault(_number, _place) => no_summary(),
-        PairFound::TooLong => no_summary(),
-    }
+    let Ok(file) = read_pair(handler, proof) else {
+        unreachable!()
+    };
+    file
 }
 
 // Over the same variables: 91 to 93, and then the files.
@@ -99,19 +86,15 @@ pub(crate) fn compose_accepted(
     ensures proof { pout.new ≡ proof_after (with_room (composition h1.now h2.now (side_of h1.now p1.now)
         (side_of h2.now p2.now) (steps + more + 1)) (length hout.old) (length pout.old)) pout.old }
 {
-    let one = read_pair(h1, p1);
-    let two = read_pair(h2, p2);
-    let first = one.head;
-    let second = two.head;
-    let found = one.found;
-    let others = two.found;
-    if same_sizes(first, second) {
+    let one = read_accepted(h1, p1);
+    let two = read_accepted(h2, p2);
+    if same_sizes(one.head, two.head) {
         let both = Handlers {
-            first: summary_of(found),
-            second: summary_of(others),
+            first: one.read.handler,
+            second: two.read.handler,
             steps: steps as u64 + more as u64 + 1,
         };
-        compose_sides(first.states, h1, p1, h2, p2, both, hout, pout)
+        compose_sides(one.head.states, h1, p1, h2, p2, both, hout, pout)
     } else {
         Err(refusal(0, OTHER_SIZES))
     }
