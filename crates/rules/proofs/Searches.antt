@@ -8,7 +8,13 @@ use mathlib.Core.Logic.{◌⊎◌, inl, inr}
 use mathlib.Core.Bool.{Bool, true, false, ◌&&◌, true≢false}
 use lib.Dec.{ltb}
 use borrow.Author.Tests.{lt-ltb}
+use denote.Param.Members.{Mut}
+use Rattle.std.specs.declared.ops.Range.{Range}
+use Rattle.std.proofs.iter.Yields.{nat_range_steps}
+use Rattle.std.specs.Fn.{Called}
+use Rattle.std.specs.Iterator.{ChecksAll}
 use Rattle.states.specs.Search.{implies, all, any, Search, must, given, named, each, holds}
+use Rattle.states.proofs.Ranges.{all_of_range}
 use Rattle.states.proofs.Search.{and_left, and_right, and_both, implies_intro, implies_at, implies_false, bool_ext, beq_refl, true_or_false, all_intro, all_at, all_cong, any_intro, any_true, any_at, holds_must, holds_given, holds_named, holds_or_else, holds_each, each_cong}
 use Rattle.states.specs.Sets.{capacity, has}
 use Rattle.states.specs.declared.StateSet.{StateSet}
@@ -23,6 +29,12 @@ none_held f = refl
 pub holds_next : (s : ℕ) (f : ℕ → Search) → (holds (each s f) && holds (f s)) ≡ holds (each (s + 1) f)
 unfolding each
 holds_next s f = rw add-one (sym (holds_or_else (each s f) (named s (f s)) ∙ ap (λ b. holds (each s f) && b) (holds_named s (f s))))
+
+-- `all` over a range whose closure says at each number whether a search finds nothing there.
+pub each_of_range : {F : Type 0} {g : Mut F (ℕ × Unit {0}) Bool} {c : F} (n : ℕ) (f : ℕ → Search) (u : Range ℕ) (r : Bool)
+    → ChecksAll nat_range_steps g (record { start = 0; end = n }) c r u
+    → ((x : ℕ) (b : Bool) (q : F) → Called g c (x, tt) b q → (q ≡ c) × (b ≡ holds (f x))) → r ≡ holds (each n f)
+each_of_range n f u r d k = all_of_range n (λ s. holds (f s)) u r d k ∙ sym (holds_each n f)
 
 pub each_done : (s n : ℕ) (f : ℕ → Search) → s ≤ n → n ≤ s → holds (each s f) ≡ holds (each n f)
 each_done s n f up down = ap (λ k. holds (each k f)) (le_antisymm up down)

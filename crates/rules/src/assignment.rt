@@ -11,7 +11,7 @@ ghost use Rattle.handler.specs.Terms.{expr_in};
 ghost use Rattle.semantics.specs.Checking.{assignment_obligations};
 
 use crate::tables::{row_at, rows_of, set_at};
-use crate::{ask, common_reading, common_states};
+use crate::{common_reading, common_states, require};
 use evaluation::successors;
 use handler::head::{Head, states_in};
 use search::pairs::with_same;
@@ -51,6 +51,7 @@ pub fn store_in_guarantee(n: u32, work: &[u64], own: Names, after: &[u64]) -> bo
     held
 }
 
+#[tactic(auto, using(crate::proofs::Stores::store_in_post_42, crate::proofs::Stores::store_in_guarantee_43), unfolding(crate::specs::Asking::asked, semantics::specs::Conditions::c41))]
 pub fn assignment_fault(
     exprs: &[u32],
     head: Head,
@@ -64,10 +65,10 @@ pub fn assignment_fault(
         (expr_in exprs.now expr)) }
 {
     let n = states_in(head);
+    common_reading(exprs, head, work, own, fits, 41, expr)?;
     let after = successors(exprs, head, v, expr);
-    let found = common_reading(exprs, head, work, own, fits, 41, expr);
-    let found = ask(found, 42, store_in_post(n, work, own, &after));
-    ask(found, 43, store_in_guarantee(n, work, own, &after))
+    require(42, store_in_post(n, work, own, &after))?;
+    require(43, store_in_guarantee(n, work, own, &after))
 }
 
 // The states that the condition with this number names: s, s' for 42 and 43.
