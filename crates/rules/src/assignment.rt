@@ -10,8 +10,9 @@ ghost use Rattle.handler.specs.Header.{machine_in};
 ghost use Rattle.handler.specs.Terms.{expr_in};
 ghost use Rattle.semantics.specs.Checking.{assignment_obligations};
 
+use crate::moving::common_reading;
 use crate::tables::{row_at, rows_of, set_at};
-use crate::{common_reading, common_states, require};
+use crate::{common_states, require};
 use evaluation::successors;
 use handler::head::{Head, states_in};
 use search::pairs::with_same;

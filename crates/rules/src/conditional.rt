@@ -11,8 +11,9 @@ ghost use Rattle.handler.specs.Header.{machine_in};
 ghost use Rattle.handler.specs.Terms.{expr_in};
 ghost use Rattle.semantics.specs.Checking.{body_tables, if_obligations};
 
+use crate::moving::common_reading;
 use crate::tables::{rows_of, same_relation, same_set, set_at, stays};
-use crate::{common_reading, common_states, require};
+use crate::{common_states, require};
 use evaluation::truths_at;
 use handler::head::{Head, states_in};
 use search::pairs::diagonal;

@@ -3,14 +3,10 @@
 // accepted pair does not pay for them.
 #![tactic(auto)]
 
-ghost use Rattle.std.specs.Prelude.{◌≡◌, Bool, cond, [], ◌∷◌, Ok, Err};
+ghost use Rattle.std.specs.Prelude.{◌≡◌, Bool, cond, Ok, Err};
 ghost use Rattle.rules.specs.Words.{word_spec};
-ghost use Rattle.states.specs.Search.{must};
-ghost use Rattle.semantics.specs.Conditions;
 ghost use Rattle.semantics.specs.Checking;
-ghost use Rattle.semantics.specs.Checking.{numbered, first_broken, common_reading};
-ghost use Rattle.handler.specs.Header.{machine_in};
-ghost use Rattle.handler.specs.Terms.{expr_in};
+ghost use Rattle.semantics.specs.Checking.{first_broken};
 ghost use Rattle.rules.specs.Asking.{asked, asked_all, states_for, fault_of};
 ghost use Rattle.search.specs.Named.{naming};
 ghost use Rattle.rules.specs.Obligations.{obligations_in};
@@ -21,7 +17,6 @@ use derivation::{ASSIGNMENT, IF, Node, PARALLEL, SEQUENCE, SKIP, WHILE};
 use handler::head::{Head, states_in};
 use handler::table::Statement;
 use iteration::{while_fault, while_states};
-use moving::{moved, unmoved};
 use parallel::{parallel_fault, parallel_states};
 use search::pairs::all_into;
 use search::{Named, least_chain, least_pair};
@@ -68,28 +63,7 @@ pub fn require_stability(n: u32, work: &[u64], own: Names) -> Result<(), u32>
     require(33, held.after)
 }
 
-// How assignment and if begin: 30, then 41 or 45 by its number (R moves no variable of the expression), then 31 to 33.
-#[tactic(auto, using(crate::proofs::Movement::unmoved_41_45, states::proofs::Search::holds_must), unfolding(crate::specs::Asking::asked))]
-pub fn common_reading(
-    exprs: &[u32],
-    head: Head,
-    work: &[u64],
-    own: Names,
-    fits: bool,
-    number: u32,
-    expr: u32,
-) -> Result<(), u32>
-    ensures { result ≡ asked_all (Ok tt) (common_reading (machine_in head).states fits
-        (numbered number (must (Conditions.unmoved (machine_in head) (word_spec (machine_in head).states work.now own)
-        (expr_in exprs.now expr))) ∷ [])
-        (word_spec (machine_in head).states work.now own)) }
-{
-    require(30, fits)?;
-    require(number, unmoved(exprs, moved(head, work, own), expr))?;
-    require_stability(states_in(head), work, own)
-}
-
-// How every other rule begins: 30 to 33.
+// How every rule but assignment and if begins: 30 to 33.
 #[tactic(auto, using(states::proofs::Search::holds_must), unfolding(crate::specs::Asking::asked))]
 pub fn common(n: u32, work: &[u64], own: Names, fits: bool) -> Result<(), u32>
     ensures { result ≡ asked_all (Ok tt) (Checking.common n fits (word_spec n work.now own)) }
