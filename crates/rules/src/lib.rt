@@ -89,6 +89,7 @@ pub fn common_states(n: u32, work: &[u64], own: Names, number: u32) -> Named
 
 // The verdict of a node's conditions over a statement, by the node's rule. `first` and `second` are its children, as far as the rule
 // has them; a weaken fits every statement.
+#[tactic(auto, unfolding(crate::specs::Obligations::obligations_in))]
 fn node_verdict(
     exprs: &[u32],
     head: Head,
@@ -140,6 +141,7 @@ fn node_verdict(
 
 // The states that the condition with this number names, where it is the first of a node's conditions that failed; by the node's rule, as
 // above. A weaken names none of its own.
+#[tactic(auto, unfolding(crate::specs::Obligations::obligations_in))]
 fn node_states(
     exprs: &[u32],
     head: Head,

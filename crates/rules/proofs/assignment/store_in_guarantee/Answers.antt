@@ -10,10 +10,9 @@ use Rattle.std.proofs.lemmas.Bool.{not_from_false, not_from_true}
 use Rattle.rules.proofs.assignment.store_in_guarantee.Goals as goal
 
 one : (c : After-without_least-rest)
-    → let d = c in LeastTaken d.loop-own.rest c.without_least-rest.result d.least-first.result
+    → LeastTaken c.loop-own.rest c.without_least-rest.result c.least-first.result
 one c =
-    let d = c in
-    take_least _ _ d.is_empty.ensures (not_from_false _ d.loop-own-test.true) _ d.least-first.ensures _ c.without_least-rest.ensures
+    take_least _ _ c.is_empty.ensures (not_from_false _ c.loop-own-test.true) _ c.least-first.ensures _ c.without_least-rest.ensures
 
 pub loop-own-init : goal.loop-own-init
 loop-own-init c = let a = c.args in passed_none _ _ _
@@ -23,11 +22,11 @@ pub loop-own-smaller : goal.loop-own-smaller
 loop-own-smaller c = (one c).less
 
 pub loop-own-preserved : goal.loop-own-preserved
-loop-own-preserved c = let l = c in
-    let a = l.args in
+loop-own-preserved c =
+    let a = c.args in
     passed_more a.n (λ s. holds (guaranteed a.n a.work.now a.own.g a.after.now s)) _ _ _ _ _ _ (one c).taken
-    c.guaranteed_at-held.ensures l.loop-own.invariant
+    c.guaranteed_at-held.ensures c.loop-own.invariant
 
 pub returns : goal.returns
-returns c = let l = c in passed_search _ _ _ _ _ _ (none_left _ _ c.is_empty.ensures (not_from_true _ c.loop-own-test.false))
-    (λ s k. l.set_at-rest.ensures s) l.loop-own.invariant
+returns c = passed_search _ _ _ _ _ _ (none_left _ _ c.is_empty.ensures (not_from_true _ c.loop-own-test.false))
+    (λ s k. c.set_at-rest.ensures s) c.loop-own.invariant

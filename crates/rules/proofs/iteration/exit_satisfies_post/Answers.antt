@@ -20,10 +20,9 @@ small : (c : After-set_at-p) → StatesOnly c.args.n (has c.set_at-p.result)
 small c s e = let a = c.args in set_small a.n a.work.now a.own.p s (sym (c.set_at-p.ensures s) ∙ e)
 
 one : (c : After-without_least-rest)
-    → let d = c in LeastTaken d.loop-own.rest c.without_least-rest.result d.least-first.result
+    → LeastTaken c.loop-own.rest c.without_least-rest.result c.least-first.result
 one c =
-    let d = c in
-    take_least _ _ d.is_empty.ensures (not_from_false _ d.loop-own-test.true) _ d.least-first.ensures _ c.without_least-rest.ensures
+    take_least _ _ c.is_empty.ensures (not_from_false _ c.loop-own-test.true) _ c.least-first.ensures _ c.without_least-rest.ensures
 
 pub loop-own-init : goal.loop-own-init
 unfolding c56
@@ -35,19 +34,19 @@ loop-own-smaller c = (one c).less
 
 pub loop-own-preserved : goal.loop-own-preserved
 unfolding c56
-loop-own-preserved c = let l = c in
-    let a = l.args in
-    let p = has l.set_at-p.result in
+loop-own-preserved c =
+    let a = c.args in
+    let p = has c.set_at-p.result in
     let s = c.least-first.result in
     passed_more a.n (λ s. holds (exits a.n a.work.now a.w a.own.q p (has a.falsity) s)) _ _ _ _ _ _ (one c).taken
     (c.exit_satisfies_post_at-held.ensures
     ∙ small_within a.n _ _ (λ t h. small (goal.at.loop-own-preserved c).After-set_at-p t (and_right (eqb t s || word_relation a.n a.work.now a.w s t) (p t) (and_left _ (has a.falsity t) h))))
-    l.loop-own.invariant
+    c.loop-own.invariant
 
 pub returns : goal.returns
 unfolding c56
-returns c = let l = c in
-    let a = l.args in
-    passed_search _ _ _ _ _ _ (none_left _ _ c.is_empty.ensures (not_from_true _ c.loop-own-test.false)) (λ s k. l.set_at-p.ensures s) l.loop-own.invariant
+returns c =
+    let a = c.args in
+    passed_search _ _ _ _ _ _ (none_left _ _ c.is_empty.ensures (not_from_true _ c.loop-own-test.false)) (λ s k. c.set_at-p.ensures s) c.loop-own.invariant
     ∙ ap (λ p. holds (in_set a.n (word_set a.n a.work.now a.own.p) (exits a.n a.work.now a.w a.own.q p (has a.falsity))))
-    (fun_ext l.set_at-p.ensures)
+    (fun_ext c.set_at-p.ensures)

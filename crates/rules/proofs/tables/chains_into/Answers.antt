@@ -17,10 +17,9 @@ start : (c : After-meet-rest) → let a = c.args in
 start c s = c.meet-rest.ensures s ∙ ap (λ b. has c.args.from s && b) (c.below.ensures s)
 
 one : (c : After-without_least-rest)
-    → let d = c in LeastTaken d.loop-through.rest c.without_least-rest.result d.least-first.result
+    → LeastTaken c.loop-through.rest c.without_least-rest.result c.least-first.result
 one c =
-    let d = c in
-    take_least _ _ d.is_empty.ensures (not_from_false _ d.loop-through-test.true) _ d.least-first.ensures _ c.without_least-rest.ensures
+    take_least _ _ c.is_empty.ensures (not_from_false _ c.loop-through-test.true) _ c.least-first.ensures _ c.without_least-rest.ensures
 
 pub loop-through-init : goal.loop-through-init
 loop-through-init c = passed_none _ _ _ (start_below _ c.args.from _ (start c))
@@ -32,6 +31,6 @@ pub loop-through-preserved : goal.loop-through-preserved
 loop-through-preserved c = passed_more _ _ _ _ _ _ _ _ (one c).taken c.row_chains_into-held.ensures c.loop-through.invariant
 
 pub returns : goal.returns
-returns c = let l = c in
+returns c =
     passed_search _ _ _ _ _ _ (none_left _ _ c.is_empty.ensures (not_from_true _ c.loop-through-test.false))
-    (start_same _ l.args.from _ (start (goal.at.returns c).After-meet-rest)) l.loop-through.invariant
+    (start_same _ c.args.from _ (start (goal.at.returns c).After-meet-rest)) c.loop-through.invariant
