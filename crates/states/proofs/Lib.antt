@@ -12,3 +12,4 @@ pub mod EntryLaws
 pub mod Ranges
 pub mod Rows
 pub mod Members
+pub mod Taking

@@ -7,6 +7,7 @@ use mathlib.Core.Logic.{◌⊎◌, ⊎_elim, inl, inr, ◌↔◌}
 use mathlib.Core.Bool.{Bool, true, false, cond, ◌&&◌, ◌||◌}
 use lib.Dec.{eqb}
 use Rattle.states.specs.Search.{implies, all, any}
+pub use Rattle.states.specs.Search.{count}
 use Rattle.states.specs.Relations.{Reached, here, more, within, reach}
 use Rattle.states.proofs.Search.{and_left, and_right, and_both, or_left, or_right, or_cases, implies_at, implies_false, true_or_false, below_cases, all_at, all_false, any_intro, any_true, any_cong}
 
@@ -39,11 +40,6 @@ Final n r p = (t : ℕ) → round n r p t ≡ true → p t ≡ true
 -- A state that a round from p adds.
 abbrev Added : ℕ → (ℕ → ℕ → Bool) → (ℕ → Bool) → Type 0
 Added n r p = (t : ℕ) × (t < n) × (p t ≡ false) × (round n r p t ≡ true)
-
--- How many of the states below n are in p.
-pub count : ℕ → (ℕ → Bool) → ℕ
-count zero p = 0
-count (suc n) p = count n p + cond (p n) 1 0
 
 digit_mono : (a b : Bool) → (a ≡ true → b ≡ true) → cond {A = ℕ} a 1 0 ≤ cond b 1 0
 digit_mono true b h = rw (h refl) (omega arith)

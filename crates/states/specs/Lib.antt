@@ -2,3 +2,4 @@
 pub mod Search
 pub mod Sets
 pub mod Relations
+pub mod Taking

@@ -1,5 +1,5 @@
 -- Bounded quantifiers over the states 0 to n − 1, and the search for the least states that break a condition.
-use Rattle.std.specs.Prelude.{ℕ, zero, suc, Bool, true, false, cond, not, ◌&&◌, ◌||◌, List, [], ◌∷◌}
+use Rattle.std.specs.Prelude.{ℕ, zero, suc, ◌+◌, Bool, true, false, cond, not, ◌&&◌, ◌||◌, List, [], ◌∷◌}
 use Rattle.std.proofs.Math.Option.{Option, none, some}
 
 unfoldable pub implies : Bool → Bool → Bool
@@ -14,6 +14,11 @@ all (suc n) p = all n p && p n
 unfoldable pub any : ℕ → (ℕ → Bool) → Bool
 any zero p = false
 any (suc n) p = any n p || p n
+
+-- How many states below n p holds at.
+unfoldable pub count : ℕ → (ℕ → Bool) → ℕ
+count zero p = 0
+count (suc n) p = count n p + cond (p n) 1 0
 
 -- The least state below n at which p holds; n if there is none.
 unfoldable pub least_where : ℕ → (ℕ → Bool) → ℕ

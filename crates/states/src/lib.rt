@@ -7,9 +7,11 @@ ghost use Rattle.std.specs.Bool.{beq};
 ghost use Rattle.states.specs.Search.{implies, all, any, least_where};
 ghost use Rattle.states.specs.Sets.{capacity, words_in, has, bits_where};
 
+use crate::iteration::States;
 use crate::reversal::reversed;
 
 pub mod entries;
+pub mod iteration;
 pub mod relations;
 pub mod reversal;
 
@@ -108,6 +110,13 @@ impl StateSet {
                 bits: self.bits & (self.bits - 1),
             }
         }
+    }
+
+    // The states of the set one after the other, the least first.
+    pub fn states(self) -> States
+        ensures { result.rest ≡ self }
+    {
+        States { rest: self }
     }
 
     pub fn holds_state(self, s: u32) -> bool

@@ -34,19 +34,15 @@ fn rows_there(n: u32, rows: &[u64]) -> u32
     rows.len().min(rows_held(n) as usize) as u32
 }
 
-// The ends of the pairs that start in the set. Its states that have a row are taken out one by one, the least first. The rows are joined
-// unmasked, and states that are not below n are removed once at the end.
+// The ends of the pairs that start in the set, from the states that have a row. The rows are joined unmasked, and states that are not below n are removed once at the end.
 pub fn image(n: u32, set: StateSet, rows: &[u64]) -> StateSet
     ensures { (t : ℕ) → has result t ≡ any n (λ s. has set s && rel n rows.now s t) }
 {
     let there = rows_there(n, rows);
-    let mut rest = set.meet(StateSet::below(there));
     let mut ends = StateSet::empty();
-    while !rest.is_empty() {
-        let first = rest.least();
-        let bits = rows[first as usize];
+    for s in set.meet(StateSet::below(there)).states() {
+        let bits = rows[s as usize];
         ends = ends.join(StateSet { bits });
-        rest = rest.without_least();
     }
     ends.meet(StateSet::below(n))
 }

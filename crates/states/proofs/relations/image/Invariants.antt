@@ -1,11 +1,6 @@
--- The ends found so far and the rows of the states left are those of all states of the set that have a row. `take_least` takes one out.
-use Rattle.states.specs.Sets.{capacity, has}
-use Rattle.states.proofs.Reach.{count}
+-- The ends found so far and the rows of the states left are those of all states of the set that have a row.
 use Rattle.states.proofs.Members.{Gathered}
 use Rattle.states.proofs.relations.image.Given as goal
 
-abbrev pub invariant-loop-rest : goal.invariant-loop-rest
-invariant-loop-rest l = Gathered l.there l.rows l.initial.rest l.rest l.ends
-
-abbrev pub decreases-loop-rest : goal.decreases-loop-rest
-decreases-loop-rest l = count capacity (has l.rest)
+abbrev pub invariant-loop-s : goal.invariant-loop-s
+invariant-loop-s l = Gathered l.there l.rows l.initial.s-iterator.rest l.s-iterator.rest l.ends
