@@ -42,14 +42,9 @@ pub fn store_in_guarantee(n: u32, work: &[u64], own: Names, after: &[u64]) -> bo
     ensures { result ≡ holds (in_set n (word_set n work.now own.p) (λ s. in_set n (rel n after.now s)
         (λ t. must (eqb t s || word_relation n work.now own.g s t)))) }
 {
-    let mut rest = set_at(n, work, own.p);
-    let mut held = true;
-    while !rest.is_empty() {
-        let first = rest.least();
-        held = held & guaranteed_at(n, work, own, after, first);
-        rest = rest.without_least();
-    }
-    held
+    set_at(n, work, own.p)
+        .states()
+        .all(|s| guaranteed_at(n, work, own, after, s))
 }
 
 #[tactic(auto, using(crate::proofs::Stores::store_in_post_42, crate::proofs::Stores::store_in_guarantee_43), unfolding(crate::specs::Asking::asked, semantics::specs::Conditions::c41))]

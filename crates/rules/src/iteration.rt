@@ -125,19 +125,13 @@ fn exit_satisfies_post_at(
         .included(row_at(n, work, own.q, s))
 }
 
-// 56: s in P, t = s or (s,t) in W, t in P, test false at t: (s,t) in Q. The states of P are taken out one by one, the least first.
+// 56: s in P, t = s or (s,t) in W, t in P, test false at t: (s,t) in Q.
 pub fn exit_satisfies_post(n: u32, work: &[u64], own: Names, w: u32, falsity: StateSet) -> bool
     ensures { result ≡ holds (c56 n (word_spec n work.now own) (has falsity) (word_relation n work.now w)) }
 {
     let p = set_at(n, work, own.p);
-    let mut rest = p;
-    let mut held = true;
-    while !rest.is_empty() {
-        let first = rest.least();
-        held = held & exit_satisfies_post_at(n, work, own, w, p, falsity, first);
-        rest = rest.without_least();
-    }
-    held
+    p.states()
+        .all(|s| exit_satisfies_post_at(n, work, own, w, p, falsity, s))
 }
 
 // The pairs (s,t) with t = s or (s,t) in the order, and t in the set.

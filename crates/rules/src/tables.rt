@@ -75,14 +75,9 @@ pub fn chains_into(
     ensures { result ≡ holds (in_set n (has from) (λ s. in_set n (λ t. word_relation n work.now a s t && has through t)
         (λ t. in_set n (word_relation n work.now b t) (λ u. must (word_relation n work.now whole s u))))) }
 {
-    let mut rest = from.meet(StateSet::below(n));
-    let mut held = true;
-    while !rest.is_empty() {
-        let first = rest.least();
-        held = held & row_chains_into(n, work, a, through, b, whole, first);
-        rest = rest.without_least();
-    }
-    held
+    from.meet(StateSet::below(n))
+        .states()
+        .all(|s| row_chains_into(n, work, a, through, b, whole, s))
 }
 
 fn stays_at(n: u32, work: &[u64], from: StateSet, r: u32, s: u32) -> bool
