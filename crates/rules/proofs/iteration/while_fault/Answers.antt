@@ -28,8 +28,8 @@ returns c =
     (then_held 50 _
     (ap (λ found. asked_all found tables) (sym c.in_ok-common.ensures) ∙ sym c.in_ok-while_tables.ensures)
     c.in_ok-require.ensures once)
-    c.in_ok-require-2.ensures c.is_apart.ensures)
-    c.in_ok-require-3.ensures c.is_transitive.ensures)
+    c.in_ok-require-2.ensures c.order_of-order.ensures.apart)
+    c.in_ok-require-3.ensures c.order_of-order.ensures.transitive)
     c.in_ok-require-4.ensures c.enters_k.ensures)
     c.in_ok-require-5.ensures c.keeps_k.ensures)
     c.in_ok-require-6.ensures c.stays_false.ensures)
