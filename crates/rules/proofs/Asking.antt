@@ -1,7 +1,7 @@
 -- A node's answer, condition by condition, in the order in which they are checked.
 use Prim.Native.Nat.{ℕ}
-use mathlib.Core.Path.{◌≡◌, refl, sym, ◌∙◌, ap, ap₂}
-use mathlib.Core.Bool.{Bool, true, false}
+use mathlib.Core.Path.{◌≡◌, refl, sym, ◌∙◌, ap}
+use mathlib.Core.Bool.{Bool, true, false, cond}
 use mathlib.Core.List.{List, [], ◌∷◌}
 use mathlib.Core.Option.{Option, none, some}
 use native.Mathlib.Omega.{arith}
@@ -14,10 +14,15 @@ use Rattle.rules.specs.declared.Broken.{Broken}
 use Rattle.search.specs.Named.{naming}
 use Rattle.rules.specs.Asking.{asked, asked_all, verdict_of, or_states, states_for, fault_of}
 
--- One more condition that the code has checked, after those before it.
-pub asked_then : (number : ℕ) (s : Search) {held : Bool} {r found found' : Result Unit ℕ} → found ≡ found' → r ≡ asked found number held → held ≡ holds s
-    → r ≡ asked found' number (holds s)
-asked_then number s before e looked = e ∙ ap₂ (λ o b. asked o number b) before looked
+-- One more condition that the code has checked, after those before it held; and where it held too.
+pub then_asked : (number : ℕ) (s : Search) {held : Bool} {r found : Result Unit ℕ} → found ≡ Ok tt → r ≡ cond held (Ok tt) (Err number)
+    → held ≡ holds s → r ≡ asked found number (holds s)
+unfolding asked
+then_asked number s before made looked = rw before (made ∙ ap (λ b. cond b (Ok tt) (Err number)) looked)
+
+pub then_held : (number : ℕ) (s : Search) {held : Bool} {found : Result Unit ℕ} → found ≡ Ok tt → ◌≡◌ {A = Result Unit ℕ} (Ok tt) (cond held (Ok tt) (Err number))
+    → held ≡ holds s → asked found number (holds s) ≡ Ok tt
+then_held number s before ok looked = sym (then_asked number s before ok looked)
 
 -- The answer for a list is its first broken condition.
 kept : (k : ℕ) (cs : List Condition) → asked_all (Err k) cs ≡ Err k

@@ -8,11 +8,20 @@ use mathlib.Core.Logic.{◌⊎◌, inl, inr}
 use mathlib.Core.Bool.{Bool, true, false, ◌&&◌, true≢false}
 use lib.Dec.{ltb}
 use borrow.Author.Tests.{lt-ltb}
+use denote.Param.Members.{Mut}
+use Rattle.std.specs.declared.ops.Range.{Range}
+use Rattle.std.proofs.iter.Yields.{nat_range_steps}
+use Rattle.std.specs.Fn.{Called}
+use Rattle.std.specs.Iterator.{ChecksAll}
 use Rattle.states.specs.Search.{implies, all, any, Search, must, given, named, each, holds}
+use Rattle.states.specs.Taking.{TakesLeast}
+use Rattle.states.specs.declared.iteration.States.{States}
+use Rattle.states.proofs.Taking.{all_of_states}
+use Rattle.states.proofs.Ranges.{all_of_range}
 use Rattle.states.proofs.Search.{and_left, and_right, and_both, implies_intro, implies_at, implies_false, bool_ext, beq_refl, true_or_false, all_intro, all_at, all_cong, any_intro, any_true, any_at, holds_must, holds_given, holds_named, holds_or_else, holds_each, each_cong}
 use Rattle.states.specs.Sets.{capacity, has}
 use Rattle.states.specs.declared.StateSet.{StateSet}
-use Rattle.states.proofs.Members.{Passed, passed_all}
+use Rattle.states.proofs.Members.{has_below}
 use Rattle.semantics.specs.Conditions.{in_set, same_set, same_relation, set_lies_in, relation_lies_in}
 
 -- The start, the step and the end of a loop that counts the states up.
@@ -23,6 +32,12 @@ none_held f = refl
 pub holds_next : (s : ℕ) (f : ℕ → Search) → (holds (each s f) && holds (f s)) ≡ holds (each (s + 1) f)
 unfolding each
 holds_next s f = rw add-one (sym (holds_or_else (each s f) (named s (f s)) ∙ ap (λ b. holds (each s f) && b) (holds_named s (f s))))
+
+-- `all` over a range whose closure says at each number whether a search finds nothing there.
+pub each_of_range : {F : Type 0} {g : Mut F (ℕ × Unit {0}) Bool} {c : F} (n : ℕ) (f : ℕ → Search) (u : Range ℕ) (r : Bool)
+    → ChecksAll nat_range_steps g (record { start = 0; end = n }) c r u
+    → ((x : ℕ) (b : Bool) (q : F) → Called g c (x, tt) b q → (q ≡ c) × (b ≡ holds (f x))) → r ≡ holds (each n f)
+each_of_range n f u r d k = all_of_range n (λ s. holds (f s)) u r d k ∙ sym (holds_each n f)
 
 pub each_done : (s n : ℕ) (f : ℕ → Search) → s ≤ n → n ≤ s → holds (each s f) ≡ holds (each n f)
 each_done s n f up down = ap (λ k. holds (each k f)) (le_antisymm up down)
@@ -52,12 +67,6 @@ module _ (n : ℕ) (p : ℕ → Bool) (f : ℕ → Search) where
 pub in_set_same : (n : ℕ) (p q : ℕ → Bool) (f g : ℕ → Search) → ((s : ℕ) → p s ≡ q s) → ((s : ℕ) → holds (f s) ≡ holds (g s))
     → holds (in_set n p f) ≡ holds (in_set n q g)
 in_set_same n p q f g members each = holds_in_set n p f ∙ all_cong n _ _ (λ s l. ap₂ implies (members s) (each s)) ∙ sym (holds_in_set n q g)
-
--- The end of a loop over the members of a set: each was checked.
-pub passed_search : (n : ℕ) (f : ℕ → Search) (p : ℕ → Bool) (from rest : StateSet) (held : Bool) → ((s : ℕ) → has rest s ≡ false) → ((s : ℕ) → s < n → has from s ≡ p s)
-    → Passed n (λ s. holds (f s)) from rest held → held ≡ holds (in_set n p f)
-passed_search n f p from rest held e members done =
-    passed_all n _ from rest held e done ∙ all_cong n _ _ (λ s l. ap (λ b. implies b (holds (f s))) (members s l)) ∙ sym (holds_in_set n p f)
 
 -- Every member is a state below n that a set can hold.
 abbrev pub StatesOnly : ℕ → (ℕ → Bool) → Type 0
@@ -127,6 +136,15 @@ full_within n p r q small full =
 -- So a comparison over all states that a set can hold is the same as over the n states.
 pub small_all : (n : ℕ) (p q : ℕ → Bool) → StatesOnly n p → all capacity (λ t. implies (p t) (q t)) ≡ all n (λ t. implies (p t) (q t))
 small_all n p q small = all_bounds capacity n _ (λ t e. small t (implies_false (p t) (q t) e).0)
+
+-- A test of all states of a set, whose closure says at each whether a search finds nothing there.
+pub search_of_states : {F : Type 0} {g : Mut F (ℕ × Unit {0}) Bool} {c : F} (n : ℕ) (p : ℕ → Bool) (f : ℕ → Search) (set : StateSet) (i u : States) (r : Bool)
+    → i.rest ≡ set → ((s : ℕ) → has set s ≡ true → s < n) → ((s : ℕ) → s < n → has set s ≡ p s) → ChecksAll TakesLeast g i c r u
+    → ((x : ℕ) (b : Bool) (q : F) → Called g c (x, tt) b q → (q ≡ c) × (b ≡ holds (f x))) → r ≡ holds (in_set n p f)
+search_of_states n p f set i u r is low same d k =
+    all_of_states (λ s. holds (f s)) k i u r d ∙ ap (λ (v : StateSet). all capacity (λ s. implies (has v s) (holds (f s)))) is
+    ∙ small_all n (has set) _ (λ s h. (has_below set s h, low s h))
+    ∙ all_cong n _ _ (λ s l. ap (λ b. implies b (holds (f s))) (same s l)) ∙ sym (holds_in_set n p f)
 
 pub small_within : (n : ℕ) (p q : ℕ → Bool) → StatesOnly n p
     → all capacity (λ t. implies (p t) (q t)) ≡ holds (in_set n p (λ t. must (q t)))

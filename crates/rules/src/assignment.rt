@@ -10,8 +10,9 @@ ghost use Rattle.handler.specs.Header.{machine_in};
 ghost use Rattle.handler.specs.Terms.{expr_in};
 ghost use Rattle.semantics.specs.Checking.{assignment_obligations};
 
+use crate::moving::common_reading;
 use crate::tables::{row_at, rows_of, set_at};
-use crate::{ask, common_reading, common_states};
+use crate::{common_states, require};
 use evaluation::successors;
 use handler::head::{Head, states_in};
 use search::pairs::with_same;
@@ -41,16 +42,12 @@ pub fn store_in_guarantee(n: u32, work: &[u64], own: Names, after: &[u64]) -> bo
     ensures { result ≡ holds (in_set n (word_set n work.now own.p) (λ s. in_set n (rel n after.now s)
         (λ t. must (eqb t s || word_relation n work.now own.g s t)))) }
 {
-    let mut rest = set_at(n, work, own.p);
-    let mut held = true;
-    while !rest.is_empty() {
-        let first = rest.least();
-        held = held & guaranteed_at(n, work, own, after, first);
-        rest = rest.without_least();
-    }
-    held
+    set_at(n, work, own.p)
+        .states()
+        .all(|s| guaranteed_at(n, work, own, after, s))
 }
 
+#[tactic(auto, using(crate::proofs::Stores::store_in_post_42, crate::proofs::Stores::store_in_guarantee_43), unfolding(crate::specs::Asking::asked, semantics::specs::Conditions::c41))]
 pub fn assignment_fault(
     exprs: &[u32],
     head: Head,
@@ -64,10 +61,10 @@ pub fn assignment_fault(
         (expr_in exprs.now expr)) }
 {
     let n = states_in(head);
+    common_reading(exprs, head, work, own, fits, 41, expr)?;
     let after = successors(exprs, head, v, expr);
-    let found = common_reading(exprs, head, work, own, fits, 41, expr);
-    let found = ask(found, 42, store_in_post(n, work, own, &after));
-    ask(found, 43, store_in_guarantee(n, work, own, &after))
+    require(42, store_in_post(n, work, own, &after))?;
+    require(43, store_in_guarantee(n, work, own, &after))
 }
 
 // The states that the condition with this number names: s, s' for 42 and 43.

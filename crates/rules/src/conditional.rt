@@ -11,8 +11,9 @@ ghost use Rattle.handler.specs.Header.{machine_in};
 ghost use Rattle.handler.specs.Terms.{expr_in};
 ghost use Rattle.semantics.specs.Checking.{body_tables, if_obligations};
 
+use crate::moving::common_reading;
 use crate::tables::{rows_of, same_relation, same_set, set_at, stays};
-use crate::{ask, common_reading, common_states};
+use crate::{common_states, require};
 use evaluation::truths_at;
 use handler::head::{Head, states_in};
 use search::pairs::diagonal;
@@ -21,21 +22,15 @@ use semantics::Names;
 use states::StateSet;
 
 // 34 and 36 to 38: P and the test true; same R, G, Q. The states where the test is true are given.
-fn if_tables(
-    found: Result<(), u32>,
-    n: u32,
-    work: &[u64],
-    own: Names,
-    truth: StateSet,
-    child: Names,
-) -> Result<(), u32>
-    ensures { result ≡ asked_all found (body_tables n (under_test (word_spec n work.now own) (has truth)) (word_spec n work.now child)) }
+#[tactic(auto, using(states::proofs::Search::holds_must, crate::proofs::Words::same_cong), unfolding(crate::specs::Asking::asked, semantics::specs::Conditions::c34, semantics::specs::Conditions::c36, semantics::specs::Conditions::c37, semantics::specs::Conditions::c38))]
+fn if_tables(n: u32, work: &[u64], own: Names, truth: StateSet, child: Names) -> Result<(), u32>
+    ensures { result ≡ asked_all (Ok tt) (body_tables n (under_test (word_spec n work.now own) (has truth)) (word_spec n work.now child)) }
 {
     let asked = set_at(n, work, own.p).meet(truth);
-    let found = ask(found, 34, same_set(n, set_at(n, work, child.p), asked));
-    let found = ask(found, 36, same_relation(n, work, child.r, own.r));
-    let found = ask(found, 37, same_relation(n, work, child.g, own.g));
-    ask(found, 38, same_relation(n, work, child.q, own.q))
+    require(34, same_set(n, set_at(n, work, child.p), asked))?;
+    require(36, same_relation(n, work, child.r, own.r))?;
+    require(37, same_relation(n, work, child.g, own.g))?;
+    require(38, same_relation(n, work, child.q, own.q))
 }
 
 // 46: s in P, test false: (s,s) in Q.
@@ -45,6 +40,7 @@ pub fn skip_satisfies_post(n: u32, work: &[u64], own: Names, falsity: StateSet) 
     stays(n, work, set_at(n, work, own.p).meet(falsity), own.q)
 }
 
+#[tactic(auto, unfolding(crate::specs::Asking::asked, semantics::specs::Conditions::c45))]
 pub fn if_fault(
     exprs: &[u32],
     head: Head,
@@ -58,12 +54,10 @@ pub fn if_fault(
         (expr_in exprs.now expr) (word_spec (machine_in head).states work.now child)) }
 {
     let n = states_in(head);
+    common_reading(exprs, head, work, own, fits, 45, expr)?;
     let test = truths_at(exprs, head, expr);
-    let truth = test.holds;
-    let falsity = test.fails;
-    let found = common_reading(exprs, head, work, own, fits, 45, expr);
-    let found = if_tables(found, n, work, own, truth, child);
-    ask(found, 46, skip_satisfies_post(n, work, own, falsity))
+    if_tables(n, work, own, test.holds, child)?;
+    require(46, skip_satisfies_post(n, work, own, test.fails))
 }
 
 // The states that the condition with this number names: s for 46.

@@ -14,7 +14,7 @@ ghost use Rattle.semantics.specs.Checking.{body_tables, while_obligations};
 
 use crate::moving::{moved, read_once};
 use crate::tables::{is_ending_in, leads_into, row_at, rows_of, same_relation, same_set, set_at};
-use crate::{ask, common, common_states};
+use crate::{common, common_states, require};
 use evaluation::truths_at;
 use handler::head::{Head, states_in};
 use search::pairs::{all_into, diagonal, ending_in, with_same};
@@ -23,23 +23,16 @@ use semantics::Names;
 use states::{RELATION_WORDS, StateSet};
 
 // 34 and 36 to 38: P met with K; same R, G; Q the pairs of W that end in P.
-fn while_tables(
-    found: Result<(), u32>,
-    n: u32,
-    work: &[u64],
-    own: Names,
-    k: u32,
-    w: u32,
-    child: Names,
-) -> Result<(), u32>
-    ensures { result ≡ asked_all found (body_tables n (in_round (word_spec n work.now own) (word_set n work.now k)
+#[tactic(auto, using(states::proofs::Search::holds_must, crate::proofs::Words::same_cong), unfolding(crate::specs::Asking::asked, semantics::specs::Conditions::c34, semantics::specs::Conditions::c36, semantics::specs::Conditions::c37, semantics::specs::Conditions::c38))]
+fn while_tables(n: u32, work: &[u64], own: Names, k: u32, w: u32, child: Names) -> Result<(), u32>
+    ensures { result ≡ asked_all (Ok tt) (body_tables n (in_round (word_spec n work.now own) (word_set n work.now k)
         (word_relation n work.now w)) (word_spec n work.now child)) }
 {
     let asked = set_at(n, work, own.p).meet(set_at(n, work, k));
-    let found = ask(found, 34, same_set(n, set_at(n, work, child.p), asked));
-    let found = ask(found, 36, same_relation(n, work, child.r, own.r));
-    let found = ask(found, 37, same_relation(n, work, child.g, own.g));
-    ask(found, 38, is_ending_in(n, work, child.q, w, own.p))
+    require(34, same_set(n, set_at(n, work, child.p), asked))?;
+    require(36, same_relation(n, work, child.r, own.r))?;
+    require(37, same_relation(n, work, child.g, own.g))?;
+    require(38, is_ending_in(n, work, child.q, w, own.p))
 }
 
 // Whether W is a strict order: it has no (s,s) (51), and it is transitive (57).
@@ -49,7 +42,8 @@ pub struct Order {
     pub transitive: bool,
 }
 
-// 51: W has no (s,s). 57: (s,t) in W, (t,u) in W: (s,u) in W. Each row is looked at once for both.
+// 51: W has no (s,s). 57: (s,t) in W, (t,u) in W: (s,u) in W. Each row is looked at once for both: a test of
+// all for each cost 4.3 % more instructions (docs/DECISIONS.md, 75), so one loop keeps both.
 pub fn order_of(n: u32, work: &[u64], w: u32) -> Order
     ensures apart { result.apart ≡ holds (c51 n (word_relation n work.now w)) }
     ensures transitive { result.transitive ≡ holds (c57 n (word_relation n work.now w)) }
@@ -109,11 +103,7 @@ fn rely_descends_at(n: u32, work: &[u64], p: u32, r: u32, w: u32, s: u32) -> boo
 pub fn rely_descends(n: u32, work: &[u64], own: Names, w: u32) -> bool
     ensures { result ≡ holds (c55 n (word_spec n work.now own) (word_relation n work.now w)) }
 {
-    let mut held = true;
-    for s in 0..n {
-        held = held & rely_descends_at(n, work, own.p, own.r, w, s);
-    }
-    held
+    (0..n).all(|s| rely_descends_at(n, work, own.p, own.r, w, s))
 }
 
 // Whether (s,t) is in Q for each t in p, with the test false, that is s or an end of w from s.
@@ -136,19 +126,13 @@ fn exit_satisfies_post_at(
         .included(row_at(n, work, own.q, s))
 }
 
-// 56: s in P, t = s or (s,t) in W, t in P, test false at t: (s,t) in Q. The states of P are taken out one by one, the least first.
+// 56: s in P, t = s or (s,t) in W, t in P, test false at t: (s,t) in Q.
 pub fn exit_satisfies_post(n: u32, work: &[u64], own: Names, w: u32, falsity: StateSet) -> bool
     ensures { result ≡ holds (c56 n (word_spec n work.now own) (has falsity) (word_relation n work.now w)) }
 {
     let p = set_at(n, work, own.p);
-    let mut rest = p;
-    let mut held = true;
-    while !rest.is_empty() {
-        let first = rest.least();
-        held = held & exit_satisfies_post_at(n, work, own, w, p, falsity, first);
-        rest = rest.without_least();
-    }
-    held
+    p.states()
+        .all(|s| exit_satisfies_post_at(n, work, own, w, p, falsity, s))
 }
 
 // The pairs (s,t) with t = s or (s,t) in the order, and t in the set.
@@ -159,6 +143,7 @@ fn exits(n: u32, order: &[u64], into: StateSet) -> [u64; RELATION_WORDS]
     ending_in(n, &rounds, into)
 }
 
+#[tactic(auto, using(crate::proofs::Movement::read_once_50), unfolding(crate::specs::Asking::asked))]
 pub fn while_fault(
     exprs: &[u32],
     head: Head,
@@ -175,20 +160,18 @@ pub fn while_fault(
         (word_relation (machine_in head).states work.now w) (word_spec (machine_in head).states work.now child)) }
 {
     let n = states_in(head);
+    common(n, work, own, fits)?;
     let test = truths_at(exprs, head, expr);
-    let truth = test.holds;
-    let falsity = test.fails;
-    let found = common(n, work, own, fits);
-    let found = while_tables(found, n, work, own, k, w, child);
-    let found = ask(found, 50, read_once(exprs, moved(head, work, own), expr));
+    while_tables(n, work, own, k, w, child)?;
+    require(50, read_once(exprs, moved(head, work, own), expr))?;
     let order = order_of(n, work, w);
-    let found = ask(found, 51, order.apart);
-    let found = ask(found, 57, order.transitive);
-    let found = ask(found, 52, enters_k(n, work, own, k, truth));
-    let found = ask(found, 53, keeps_k(n, work, own, k));
-    let found = ask(found, 54, stays_false(n, work, own, falsity));
-    let found = ask(found, 55, rely_descends(n, work, own, w));
-    ask(found, 56, exit_satisfies_post(n, work, own, w, falsity))
+    require(51, order.apart)?;
+    require(57, order.transitive)?;
+    require(52, enters_k(n, work, own, k, test.holds))?;
+    require(53, keeps_k(n, work, own, k))?;
+    require(54, stays_false(n, work, own, test.fails))?;
+    require(55, rely_descends(n, work, own, w))?;
+    require(56, exit_satisfies_post(n, work, own, w, test.fails))
 }
 
 // The states that the condition with this number names: s for 51 and 52; s, t for 53 to 56; s, t, u for 57.

@@ -1,15 +1,12 @@
-// The conditions of each rule, on the tables in the work words, each equal to its definition. A rule checks its conditions in their order
-// and keeps the number of the first that failed; all are checked, because an accepted pair needs them all. The states that a failed
-// condition names are looked for afterwards, by its number, so an accepted pair does not pay for them.
+// The conditions of each rule, on the tables in the work words, each equal to its definition. A rule checks its conditions in their order,
+// and the first that fails ends the check with its number. The states that it names are looked for afterwards, by the number, so an
+// accepted pair does not pay for them.
 #![tactic(auto)]
 
-ghost use Rattle.std.specs.Prelude.{◌≡◌, Bool, [], ◌∷◌, Ok};
+ghost use Rattle.std.specs.Prelude.{◌≡◌, Bool, cond, Ok, Err};
 ghost use Rattle.rules.specs.Words.{word_spec};
-ghost use Rattle.states.specs.Search.{must};
-ghost use Rattle.semantics.specs.Conditions.{unmoved as movesNothing};
-ghost use Rattle.semantics.specs.Checking.{numbered, first_broken, stability as stabilityObligations, common as commonObligations, common_reading};
-ghost use Rattle.handler.specs.Header.{machine_in};
-ghost use Rattle.handler.specs.Terms.{expr_in};
+ghost use Rattle.semantics.specs.Checking;
+ghost use Rattle.semantics.specs.Checking.{first_broken};
 ghost use Rattle.rules.specs.Asking.{asked, asked_all, states_for, fault_of};
 ghost use Rattle.search.specs.Named.{naming};
 ghost use Rattle.rules.specs.Obligations.{obligations_in};
@@ -20,7 +17,6 @@ use derivation::{ASSIGNMENT, IF, Node, PARALLEL, SEQUENCE, SKIP, WHILE};
 use handler::head::{Head, states_in};
 use handler::table::Statement;
 use iteration::{while_fault, while_states};
-use moving::{moved, unmoved};
 use parallel::{parallel_fault, parallel_states};
 use search::pairs::all_into;
 use search::{Named, least_chain, least_pair};
@@ -49,55 +45,36 @@ pub struct Broken {
     pub states: Named,
 }
 
-// One more condition, by its number and whether it holds, after those before it.
-#[tactic(auto, unfolding(crate::specs::Asking::asked))]
-pub fn ask(found: Result<(), u32>, number: u32, held: bool) -> Result<(), u32>
-    ensures { result ≡ asked found number held }
+// One condition, by its number and whether it holds.
+pub fn require(number: u32, held: bool) -> Result<(), u32>
+    ensures { result ≡ cond held (Ok tt) (Err number) }
 {
-    found?;
     if held { Ok(()) } else { Err(number) }
 }
 
 // 31 to 33, which are checked at every node.
-pub fn ask_stability(found: Result<(), u32>, n: u32, work: &[u64], own: Names) -> Result<(), u32>
-    ensures { result ≡ asked_all found (stabilityObligations n (word_spec n work.now own)) }
+#[tactic(auto, unfolding(crate::specs::Asking::asked))]
+pub fn require_stability(n: u32, work: &[u64], own: Names) -> Result<(), u32>
+    ensures { result ≡ asked_all (Ok tt) (Checking.stability n (word_spec n work.now own)) }
 {
     let held = stable_under_rely(n, work, own);
-    let found = ask(found, 31, held.pre);
-    let found = ask(found, 32, held.before);
-    ask(found, 33, held.after)
+    require(31, held.pre)?;
+    require(32, held.before)?;
+    require(33, held.after)
 }
 
-// How assignment and if begin: 30, then 41 or 45 by its number (R moves no variable of the expression), then 31 to 33.
-pub fn common_reading(
-    exprs: &[u32],
-    head: Head,
-    work: &[u64],
-    own: Names,
-    fits: bool,
-    number: u32,
-    expr: u32,
-) -> Result<(), u32>
-    ensures { result ≡ asked_all (Ok tt) (common_reading (machine_in head).states fits
-        (numbered number (must (movesNothing (machine_in head) (word_spec (machine_in head).states work.now own)
-        (expr_in exprs.now expr))) ∷ [])
-        (word_spec (machine_in head).states work.now own)) }
-{
-    let found = ask(Ok(()), 30, fits);
-    let still = unmoved(exprs, moved(head, work, own), expr);
-    ask_stability(ask(found, number, still), states_in(head), work, own)
-}
-
-// How every other rule begins: 30 to 33.
+// How every rule but assignment and if begins: 30 to 33.
+#[tactic(auto, using(states::proofs::Search::holds_must), unfolding(crate::specs::Asking::asked))]
 pub fn common(n: u32, work: &[u64], own: Names, fits: bool) -> Result<(), u32>
-    ensures { result ≡ asked_all (Ok tt) (commonObligations n fits (word_spec n work.now own)) }
+    ensures { result ≡ asked_all (Ok tt) (Checking.common n fits (word_spec n work.now own)) }
 {
-    ask_stability(ask(Ok(()), 30, fits), n, work, own)
+    require(30, fits)?;
+    require_stability(n, work, own)
 }
 
 // The states that 31, 32 or 33 names, by its number. No other number has states here.
 pub fn common_states(n: u32, work: &[u64], own: Names, number: u32) -> Named
-    ensures { (fits : Bool) → result ≡ naming (states_for number (commonObligations n fits (word_spec n work.now own))) }
+    ensures { (fits : Bool) → result ≡ naming (states_for number (Checking.common n fits (word_spec n work.now own))) }
 {
     let p = set_at(n, work, own.p);
     let r = rows_of(work, own.r);
@@ -112,6 +89,7 @@ pub fn common_states(n: u32, work: &[u64], own: Names, number: u32) -> Named
 
 // The verdict of a node's conditions over a statement, by the node's rule. `first` and `second` are its children, as far as the rule
 // has them; a weaken fits every statement.
+#[tactic(auto, unfolding(crate::specs::Obligations::obligations_in))]
 fn node_verdict(
     exprs: &[u32],
     head: Head,
@@ -163,6 +141,7 @@ fn node_verdict(
 
 // The states that the condition with this number names, where it is the first of a node's conditions that failed; by the node's rule, as
 // above. A weaken names none of its own.
+#[tactic(auto, unfolding(crate::specs::Obligations::obligations_in))]
 fn node_states(
     exprs: &[u32],
     head: Head,

@@ -1,14 +1,17 @@
 // The variables that R moves, and how often an expression reads one of them (41, 45 and 50).
-ghost use Rattle.std.specs.Prelude.{◌≡◌, not, ◌&&◌, ◌||◌, ℕ, ◌<◌, eqb, leb};
-ghost use Rattle.states.specs.Search.{any};
+ghost use Rattle.std.specs.Prelude.{◌≡◌, not, ◌&&◌, ◌||◌, ℕ, ◌<◌, eqb, leb, [], ◌∷◌, Ok};
+ghost use Rattle.states.specs.Search.{must, any};
 ghost use Rattle.states.specs.Sets.{has};
-ghost use Rattle.semantics.specs.Conditions.{occurrences, moves};
+ghost use Rattle.semantics.specs.Conditions.{occurrences, moves, unmoved as moves_nothing};
+ghost use Rattle.semantics.specs.Checking.{numbered, common_reading};
+ghost use Rattle.rules.specs.Asking.{asked_all};
 ghost use Rattle.handler.specs.Header.{machine_in};
 ghost use Rattle.evaluation.specs.Values.{in_mask, agree};
 ghost use Rattle.handler.specs.Terms.{expr_in};
 ghost use Rattle.rules.specs.Words.{word_relation, word_spec};
 
 use crate::tables::{leads_into, rows_of, set_at};
+use crate::{require, require_stability};
 use evaluation::{agreeing, occurrences_at, variable_of};
 use handler::head::{Head, states_in};
 use semantics::Names;
@@ -70,6 +73,27 @@ pub fn unmoved(exprs: &[u32], mask: u32, expr: u32) -> bool
     ensures { result ≡ eqb (occurrences (in_mask mask) (expr_in exprs.now expr)) 0 }
 {
     occurrences_at(exprs, mask, expr) == 0
+}
+
+// How assignment and if begin: 30, then 41 or 45 by its number (R moves no variable of the expression), then 31 to 33.
+#[tactic(auto, using(crate::proofs::Movement::unmoved_41_45, states::proofs::Search::holds_must), unfolding(crate::specs::Asking::asked))]
+pub fn common_reading(
+    exprs: &[u32],
+    head: Head,
+    work: &[u64],
+    own: Names,
+    fits: bool,
+    number: u32,
+    expr: u32,
+) -> Result<(), u32>
+    ensures { result ≡ asked_all (Ok tt) (common_reading (machine_in head).states fits
+        (numbered number (must (moves_nothing (machine_in head) (word_spec (machine_in head).states work.now own)
+        (expr_in exprs.now expr))) ∷ [])
+        (word_spec (machine_in head).states work.now own)) }
+{
+    require(30, fits)?;
+    require(number, unmoved(exprs, moved(head, work, own), expr))?;
+    require_stability(states_in(head), work, own)
 }
 
 // 50, from the same mask: at most one variable occurrence in the test is of one of them.

@@ -10,7 +10,7 @@ ghost use Rattle.rules.specs.Asking.{asked_all, states_for};
 ghost use Rattle.search.specs.Named.{naming};
 
 use crate::tables::{is_join, lies_in, row_at, rows_of, same_pre, set_at};
-use crate::{ask, common, common_states};
+use crate::{common, common_states, require};
 use search::{Named, least_pair};
 use semantics::Names;
 use states::entries::put_entry;
@@ -18,21 +18,15 @@ use states::relations::{reach, union_of};
 use states::{CAPACITY, RELATION_WORDS, StateSet};
 
 // 34 and 36: both P; left's R is R joined with right's G, right's R is R joined with left's G.
-fn parallel_tables(
-    found: Result<(), u32>,
-    n: u32,
-    work: &[u64],
-    own: Names,
-    left: Names,
-    right: Names,
-) -> Result<(), u32>
-    ensures { result ≡ asked_all found (parallel_tables n (word_spec n work.now own) (word_spec n work.now left)
+#[tactic(auto, using(states::proofs::Search::holds_must), unfolding(crate::specs::Asking::asked, semantics::specs::Conditions::c36))]
+fn parallel_tables(n: u32, work: &[u64], own: Names, left: Names, right: Names) -> Result<(), u32>
+    ensures { result ≡ asked_all (Ok tt) (parallel_tables n (word_spec n work.now own) (word_spec n work.now left)
         (word_spec n work.now right)) }
 {
-    let found = ask(found, 34, same_pre(n, work, own, left));
-    let found = ask(found, 36, is_join(n, work, left.r, own.r, right.g));
-    let found = ask(found, 34, same_pre(n, work, own, right));
-    ask(found, 36, is_join(n, work, right.r, own.r, left.g))
+    require(34, same_pre(n, work, own, left))?;
+    require(36, is_join(n, work, left.r, own.r, right.g))?;
+    require(34, same_pre(n, work, own, right))?;
+    require(36, is_join(n, work, right.r, own.r, left.g))
 }
 
 // 65: both children's G lie in G.
@@ -87,13 +81,10 @@ pub fn parallel_post(n: u32, work: &[u64], own: Names, left: Names, right: Names
         (word_spec n work.now right)) }
 {
     let moves = changes(n, work, own.r, left.g, right.g);
-    let mut held = true;
-    for s in 0..n {
-        held = held & joint_post_at(n, work, own.p, left.q, right.q, &moves, own.q, s);
-    }
-    held
+    (0..n).all(|s| joint_post_at(n, work, own.p, left.q, right.q, &moves, own.q, s))
 }
 
+#[tactic(auto, unfolding(crate::specs::Asking::asked))]
 pub fn parallel_fault(
     n: u32,
     work: &[u64],
@@ -105,10 +96,10 @@ pub fn parallel_fault(
     ensures { result ≡ asked_all (Ok tt) (parallel_obligations n fits (word_spec n work.now own) (word_spec n work.now left)
         (word_spec n work.now right)) }
 {
-    let found = common(n, work, own, fits);
-    let found = parallel_tables(found, n, work, own, left, right);
-    let found = ask(found, 65, guarantees_within(n, work, own, left, right));
-    ask(found, 66, parallel_post(n, work, own, left, right))
+    common(n, work, own, fits)?;
+    parallel_tables(n, work, own, left, right)?;
+    require(65, guarantees_within(n, work, own, left, right))?;
+    require(66, parallel_post(n, work, own, left, right))
 }
 
 // The ends of both children's Q at s that are reached from s by the moves.

@@ -8,29 +8,23 @@ ghost use Rattle.rules.specs.Asking.{asked_all, states_for};
 ghost use Rattle.search.specs.Named.{naming};
 
 use crate::tables::{chains_into, leads_into, rows_of, same_pre, same_relation, set_at};
-use crate::{ask, common, common_states};
+use crate::{common, common_states, require};
 use search::pairs::all_into;
 use search::{Named, least_chain, least_pair};
 use semantics::Names;
 use states::StateSet;
 
 // 34, 36 and 37: left has the same P, R, G, right the same R, G.
-fn sequence_tables(
-    found: Result<(), u32>,
-    n: u32,
-    work: &[u64],
-    own: Names,
-    left: Names,
-    right: Names,
-) -> Result<(), u32>
-    ensures { result ≡ asked_all found (sequence_tables n (word_spec n work.now own) (word_spec n work.now left)
+#[tactic(auto, using(states::proofs::Search::holds_must), unfolding(crate::specs::Asking::asked, semantics::specs::Conditions::c36, semantics::specs::Conditions::c37))]
+fn sequence_tables(n: u32, work: &[u64], own: Names, left: Names, right: Names) -> Result<(), u32>
+    ensures { result ≡ asked_all (Ok tt) (sequence_tables n (word_spec n work.now own) (word_spec n work.now left)
         (word_spec n work.now right)) }
 {
-    let found = ask(found, 34, same_pre(n, work, own, left));
-    let found = ask(found, 36, same_relation(n, work, left.r, own.r));
-    let found = ask(found, 37, same_relation(n, work, left.g, own.g));
-    let found = ask(found, 36, same_relation(n, work, right.r, own.r));
-    ask(found, 37, same_relation(n, work, right.g, own.g))
+    require(34, same_pre(n, work, own, left))?;
+    require(36, same_relation(n, work, left.r, own.r))?;
+    require(37, same_relation(n, work, left.g, own.g))?;
+    require(36, same_relation(n, work, right.r, own.r))?;
+    require(37, same_relation(n, work, right.g, own.g))
 }
 
 // 60: s in P, (s,t) in left Q: t in right P.
@@ -56,6 +50,7 @@ pub fn sequence_post(n: u32, work: &[u64], own: Names, left: Names, right: Names
     chains_into(n, work, p, left.q, StateSet::below(n), right.q, own.q)
 }
 
+#[tactic(auto, unfolding(crate::specs::Asking::asked))]
 pub fn sequence_fault(
     n: u32,
     work: &[u64],
@@ -67,10 +62,10 @@ pub fn sequence_fault(
     ensures { result ≡ asked_all (Ok tt) (sequence_obligations n fits (word_spec n work.now own) (word_spec n work.now left)
         (word_spec n work.now right)) }
 {
-    let found = common(n, work, own, fits);
-    let found = sequence_tables(found, n, work, own, left, right);
-    let found = ask(found, 60, left_meets_right(n, work, own, left, right));
-    ask(found, 61, sequence_post(n, work, own, left, right))
+    common(n, work, own, fits)?;
+    sequence_tables(n, work, own, left, right)?;
+    require(60, left_meets_right(n, work, own, left, right))?;
+    require(61, sequence_post(n, work, own, left, right))
 }
 
 // The states that the condition with this number names: s, t for 60; s, t, u for 61.

@@ -8,7 +8,7 @@ ghost use Rattle.rules.specs.Asking.{asked_all, states_for};
 ghost use Rattle.search.specs.Named.{naming};
 
 use crate::tables::{rows_of, set_at, stays};
-use crate::{ask, common, common_states};
+use crate::{common, common_states, require};
 use search::pairs::diagonal;
 use search::{Named, least_state};
 use semantics::Names;
@@ -20,11 +20,12 @@ pub fn reflexive(n: u32, work: &[u64], own: Names) -> bool
     stays(n, work, set_at(n, work, own.p), own.q)
 }
 
+#[tactic(auto, unfolding(crate::specs::Asking::asked))]
 pub fn skip_fault(n: u32, work: &[u64], own: Names, fits: bool) -> Result<(), u32>
     ensures { result ≡ asked_all (Ok tt) (skip_obligations n fits (word_spec n work.now own)) }
 {
-    let found = common(n, work, own, fits);
-    ask(found, 35, reflexive(n, work, own))
+    common(n, work, own, fits)?;
+    require(35, reflexive(n, work, own))
 }
 
 // The states that the condition with this number names: s for 35.

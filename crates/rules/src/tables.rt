@@ -75,14 +75,9 @@ pub fn chains_into(
     ensures { result ≡ holds (in_set n (has from) (λ s. in_set n (λ t. word_relation n work.now a s t && has through t)
         (λ t. in_set n (word_relation n work.now b t) (λ u. must (word_relation n work.now whole s u))))) }
 {
-    let mut rest = from.meet(StateSet::below(n));
-    let mut held = true;
-    while !rest.is_empty() {
-        let first = rest.least();
-        held = held & row_chains_into(n, work, a, through, b, whole, first);
-        rest = rest.without_least();
-    }
-    held
+    from.meet(StateSet::below(n))
+        .states()
+        .all(|s| row_chains_into(n, work, a, through, b, whole, s))
 }
 
 fn stays_at(n: u32, work: &[u64], from: StateSet, r: u32, s: u32) -> bool
@@ -99,11 +94,7 @@ fn stays_at(n: u32, work: &[u64], from: StateSet, r: u32, s: u32) -> bool
 pub fn stays(n: u32, work: &[u64], from: StateSet, r: u32) -> bool
     ensures { result ≡ holds (in_set n (has from) (λ s. must (word_relation n work.now r s s))) }
 {
-    let mut held = true;
-    for s in 0..n {
-        held = held & stays_at(n, work, from, r, s);
-    }
-    held
+    (0..n).all(|s| stays_at(n, work, from, r, s))
 }
 
 fn row_lies_in(n: u32, work: &[u64], a: u32, b: u32, s: u32) -> bool
@@ -116,14 +107,7 @@ fn row_lies_in(n: u32, work: &[u64], a: u32, b: u32, s: u32) -> bool
 pub fn lies_in(n: u32, work: &[u64], a: u32, b: u32) -> bool
     ensures { result ≡ relation_lies_in n (word_relation n work.now a) (word_relation n work.now b) }
 {
-    if a == b {
-        return true;
-    }
-    let mut held = true;
-    for s in 0..n {
-        held = held & row_lies_in(n, work, a, b, s);
-    }
-    held
+    a == b || (0..n).all(|s| row_lies_in(n, work, a, b, s))
 }
 
 // "Same" compares members, those below n.
@@ -164,11 +148,7 @@ pub fn is_join(n: u32, work: &[u64], whole: u32, a: u32, b: u32) -> bool
     ensures { result ≡ same_relation n (word_relation n work.now whole)
         (λ s t. word_relation n work.now a s t || word_relation n work.now b s t) }
 {
-    let mut held = true;
-    for s in 0..n {
-        held = held & row_is_join(n, work, whole, a, b, s);
-    }
-    held
+    (0..n).all(|s| row_is_join(n, work, whole, a, b, s))
 }
 
 fn row_ends_in(n: u32, work: &[u64], part: u32, a: u32, p: u32, s: u32) -> bool
@@ -187,9 +167,5 @@ pub fn is_ending_in(n: u32, work: &[u64], part: u32, a: u32, p: u32) -> bool
     ensures { result ≡ same_relation n (word_relation n work.now part)
         (λ s t. word_relation n work.now a s t && word_set n work.now p t) }
 {
-    let mut held = true;
-    for s in 0..n {
-        held = held & row_ends_in(n, work, part, a, p, s);
-    }
-    held
+    (0..n).all(|s| row_ends_in(n, work, part, a, p, s))
 }

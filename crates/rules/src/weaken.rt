@@ -7,7 +7,7 @@ ghost use Rattle.semantics.specs.Checking.{weaken_obligations};
 ghost use Rattle.rules.specs.Asking.{asked_all};
 
 use crate::tables::{lies_in, set_at};
-use crate::{ask, common};
+use crate::{common, require};
 use semantics::Names;
 
 // 70: P lies in the child's P.
@@ -39,12 +39,13 @@ pub fn post_within(n: u32, work: &[u64], own: Names, child: Names) -> bool
 }
 
 // A weaken fits every statement.
+#[tactic(auto, unfolding(crate::specs::Asking::asked))]
 pub fn weaken_fault(n: u32, work: &[u64], own: Names, child: Names) -> Result<(), u32>
     ensures { result ≡ asked_all (Ok tt) (weaken_obligations n (word_spec n work.now own) (word_spec n work.now child)) }
 {
-    let found = common(n, work, own, true);
-    let found = ask(found, 70, pre_within(n, work, own, child));
-    let found = ask(found, 71, rely_within(n, work, own, child));
-    let found = ask(found, 72, guarantee_within(n, work, own, child));
-    ask(found, 73, post_within(n, work, own, child))
+    common(n, work, own, true)?;
+    require(70, pre_within(n, work, own, child))?;
+    require(71, rely_within(n, work, own, child))?;
+    require(72, guarantee_within(n, work, own, child))?;
+    require(73, post_within(n, work, own, child))
 }

@@ -15,7 +15,8 @@ use states::relations::row;
 
 pub mod pairs;
 
-// The states that a refusal names, in the order in which the condition names them.
+// The states that a refusal names, in the order in which the condition names them. One type for what all conditions
+// name: none to three states, which is no Option of one value.
 #[derive(Clone, Copy)]
 pub enum Named {
     Nothing,

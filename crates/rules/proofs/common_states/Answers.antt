@@ -17,22 +17,22 @@ returns-in_default c fits =
 
 pub returns-in-31 : goal.returns-in-31
 unfolding states_for given c31 word_relation c32 c33
-returns-in-31 c fits = let d = c in
-    let p = d.set_at-p.ensures in
-    rw d.in-31.is
+returns-in-31 c fits =
+    let p = c.set_at-p.ensures in
+    rw c.in-31.is
     (found_as _ _ c.least_pair.ensures
-    (into_same _ _ _ _ _ _ p p d.rows_of-r.ensures (c.all_into.ensures _)))
+    (into_same _ _ _ _ _ _ p p c.rows_of-r.ensures (c.all_into.ensures _)))
 
 pub returns-in-32 : goal.returns-in-32
 unfolding states_for given c31 word_relation c32 c33
-returns-in-32 c fits = let d = c in
-    let q = d.rows_of-q.ensures in
-    rw d.in-32.is (found_as _ _ c.least_chain.ensures
-    (chain_same _ _ _ d.set_at-p.ensures d.rows_of-r.ensures q q))
+returns-in-32 c fits =
+    let q = c.rows_of-q.ensures in
+    rw c.in-32.is (found_as _ _ c.least_chain.ensures
+    (chain_same _ _ _ c.set_at-p.ensures c.rows_of-r.ensures q q))
 
 pub returns-in-33 : goal.returns-in-33
 unfolding states_for given c31 word_relation c32 c33
-returns-in-33 c fits = let d = c in
-    let q = d.rows_of-q.ensures in
-    rw d.in-33.is (found_as _ _ c.least_chain-in-33.ensures
-    (chain_same _ _ _ d.set_at-p.ensures q d.rows_of-r.ensures q))
+returns-in-33 c fits =
+    let q = c.rows_of-q.ensures in
+    rw c.in-33.is (found_as _ _ c.least_chain-in-33.ensures
+    (chain_same _ _ _ c.set_at-p.ensures q c.rows_of-r.ensures q))

@@ -9,28 +9,20 @@ use Rattle.rules.specs.Obligations.{obligations_in}
 use Rattle.rules.proofs.Naming.{plain, done, before_silent}
 use Rattle.rules.proofs.node_states.Goals as goal
 
-pub returns-in-0 : goal.returns-in-0
-unfolding obligations_in c70 c71 c72 c73
-returns-in-0 c = rw c.in-0.is ((rw c.states_in-n.ensures at c.skip_states.ensures) _)
-
-pub returns-in-1 : goal.returns-in-1
-unfolding obligations_in c70 c71 c72 c73
-returns-in-1 c = rw c.in-1.is (c.assignment_states.ensures _)
-
 pub returns-in-2 : goal.returns-in-2
-unfolding obligations_in c70 c71 c72 c73
+unfolding obligations_in
 returns-in-2 c = rw c.in-2.is ((rw c.states_in-n.ensures at c.sequence_states.ensures) _)
 
 pub returns-in-3 : goal.returns-in-3
-unfolding obligations_in c70 c71 c72 c73
+unfolding obligations_in
 returns-in-3 c = rw c.in-3.is ((rw c.states_in-n.ensures at c.parallel_states.ensures) _)
 
 pub returns-in-4 : goal.returns-in-4
-unfolding obligations_in c70 c71 c72 c73
+unfolding obligations_in
 returns-in-4 c = rw c.in-4.is (c.if_states.ensures _ _)
 
 pub returns-in-5 : goal.returns-in-5
-unfolding obligations_in c70 c71 c72 c73
+unfolding obligations_in
 returns-in-5 c = rw c.in-5.is (c.while_states.ensures _ _)
 
 pub returns-in_default : goal.returns-in_default

@@ -21,16 +21,13 @@ start : (c : After-meet-rest) → let a = c.args in
     (s : ℕ) → has c.meet-rest.result s ≡ (has a.from s && (ltb s capacity && ltb s a.n))
 start c s = c.meet-rest.ensures s ∙ ap (λ b. has c.args.from s && b) (c.below.ensures s)
 
-one : (c : After-without_least-rest) → let k = c in
-    LeastTaken k.loop-rest.rest c.without_least-rest.result k.least-s.result
+one : (c : After-without_least-rest) → LeastTaken c.loop-rest.rest c.without_least-rest.result c.least-s.result
 one c =
-    let k = c in
-    take_least _ _ k.is_empty.ensures (not_from_false _ k.loop-rest-test.true) _ k.least-s.ensures _ c.without_least-rest.ensures
+    take_least _ _ c.is_empty.ensures (not_from_false _ c.loop-rest-test.true) _ c.least-s.ensures _ c.without_least-rest.ensures
 
 -- The answer at the state taken out.
-answer : (c : After-least_state) → let k = c in
-    let a = k.args in
-    c.least_state.result ≡ naming (states_found (ends a.n a.pairs.now a.good.now k.least-s.result))
+answer : (c : After-least_state) → let a = c.args in
+    c.least_state.result ≡ naming (states_found (ends a.n a.pairs.now a.good.now c.least-s.result))
 answer c =
     let n = c.args.n in
     let said : c.least_state.result ≡ naming (states_found (in_set n (has c.row.result) (λ t. must (has c.row-in-loop-rest.result t))))
@@ -43,22 +40,16 @@ loop-rest-init c = searching_all _ _ _ _ _ (start c) (omega arith) (λ s. finds_
 pub returns-in-One : goal.returns-in-One
 unfolding listed naming
 returns-in-One c =
-    let d = c in
-    let k = d in
-    let l = k in
-    let least = least_of _ _ k.is_empty.ensures (not_from_false _ k.loop-rest-test.true) _ k.least-s.ensures in
-    searching_found _ _ _ _ _ (start (goal.at.returns-in-One c).After-meet-rest) _ _ least _ (answer (goal.at.returns-in-One c).After-least_state) (ap listed c.in-One.is) l.loop-rest.invariant
+    let least = least_of _ _ c.is_empty.ensures (not_from_false _ c.loop-rest-test.true) _ c.least-s.ensures in
+    searching_found _ _ _ _ _ (start (goal.at.returns-in-One c).After-meet-rest) _ _ least _ (answer (goal.at.returns-in-One c).After-least_state) (ap listed c.in-One.is) c.loop-rest.invariant
 
 pub loop-rest-preserved : goal.loop-rest-preserved
 loop-rest-preserved c =
-    let d = c in
-    let l = d in
-    searching_on _ 1 _ _ _ _ _ (one c).taken _ (answer (goal.at.loop-rest-preserved c).After-least_state) (not_one _ c.in_default.not-One) l.loop-rest.invariant
+    searching_on _ 1 _ _ _ _ _ (one c).taken _ (answer (goal.at.loop-rest-preserved c).After-least_state) (not_one _ c.in_default.not-One) c.loop-rest.invariant
 
 pub returns : goal.returns
 returns c =
-    let l = c in
-    searching_none _ _ _ _ _ (start (goal.at.returns c).After-meet-rest) _ (none_left _ _ c.is_empty.ensures (not_from_true _ c.loop-rest-test.false)) l.loop-rest.invariant
+    searching_none _ _ _ _ _ (start (goal.at.returns c).After-meet-rest) _ (none_left _ _ c.is_empty.ensures (not_from_true _ c.loop-rest-test.false)) c.loop-rest.invariant
 
 pub loop-rest-smaller : goal.loop-rest-smaller
 loop-rest-smaller c = (one c).less

@@ -49,12 +49,10 @@ start c s = c.meet.ensures s ∙ ap (λ b. has c.args.from s && b) (c.below.ensu
 pub returns-then-is_empty : goal.returns-then-is_empty
 unfolding naming states_found
 returns-then-is_empty c =
-    let d = c in
-    sym (ap (λ x. naming (states_found x)) (none_bad _ _ _ _ _ (start (goal.at.returns-then-is_empty c).After-meet) d.narrow-bad.ensures (none_in _ _ c.is_empty.ensures c.if-is_empty.true)))
+    sym (ap (λ x. naming (states_found x)) (none_bad _ _ _ _ _ (start (goal.at.returns-then-is_empty c).After-meet) c.narrow-bad.ensures (none_in _ _ c.is_empty.ensures c.if-is_empty.true)))
 
 pub returns-else-is_empty : goal.returns-else-is_empty
 unfolding naming states_found
 returns-else-is_empty c =
-    let d = c in
-    sym (ap (λ x. naming (states_found x)) (least_bad _ _ _ _ _ (start (goal.at.returns-else-is_empty c).After-meet) d.narrow-bad.ensures _
+    sym (ap (λ x. naming (states_found x)) (least_bad _ _ _ _ _ (start (goal.at.returns-else-is_empty c).After-meet) c.narrow-bad.ensures _
     (least_of _ _ c.is_empty.ensures (ap not c.if-is_empty.false) _ c.least.ensures)))

@@ -23,23 +23,23 @@ returns-in_default c fits =
 
 pub returns-in-42 : goal.returns-in-42
 unfolding states_for given word_relation
-returns-in-42 c fits = let d = c in
-    let a = d.args in
-    let n = d.states_in-n.ensures in
-    rw d.in-42.is
+returns-in-42 c fits =
+    let a = c.args in
+    let n = c.states_in-n.ensures in
+    rw c.in-42.is
     (found_as _ _ (rw n at c.least_pair.ensures)
-    (within_same _ _ _ (rw n at d.set_at-p.ensures) refl c.rows_of.ensures
-    ∙ store_in_post_42 a.head a.v (expr_in a.exprs.now a.expr) _ d.successors-after.ensures
+    (within_same _ _ _ (rw n at c.set_at-p.ensures) refl c.rows_of.ensures
+    ∙ store_in_post_42 a.head a.v (expr_in a.exprs.now a.expr) _ c.successors-after.ensures
     (word_spec (machine_in a.head).states a.work.now a.own)))
 
 pub returns-in-43 : goal.returns-in-43
 unfolding states_for given word_relation
-returns-in-43 c fits = let d = c in
-    let a = d.args in
-    let n = d.states_in-n.ensures in
-    rw d.in-43.is
+returns-in-43 c fits =
+    let a = c.args in
+    let n = c.states_in-n.ensures in
+    rw c.in-43.is
     (found_as _ _ (rw n at c.least_pair-in-43.ensures)
-    (or_same _ _ _ _ (λ s t. eqb t s) eqb_turned (rw n at d.set_at-p.ensures) refl c.rows_of-in-43.ensures
+    (or_same _ _ _ _ (λ s t. eqb t s) eqb_turned (rw n at c.set_at-p.ensures) refl c.rows_of-in-43.ensures
     (rw n at c.with_same.ensures)
-    ∙ store_in_guarantee_43 a.head a.v (expr_in a.exprs.now a.expr) _ d.successors-after.ensures
+    ∙ store_in_guarantee_43 a.head a.v (expr_in a.exprs.now a.expr) _ c.successors-after.ensures
     (word_spec (machine_in a.head).states a.work.now a.own)))

@@ -10,9 +10,9 @@ use Rattle.rules.proofs.Rows.{or_itself}
 use Rattle.rules.proofs.assignment.guaranteed_at.Goals as goal
 
 pub returns : goal.returns
-returns c = let allowed = c in
-    let a = allowed.args in
+returns c =
+    let a = c.args in
     c.included.ensures
     ∙ all_cong capacity _ _ (λ t l. ap₂ implies (c.row.ensures t)
-    (allowed.join-allowed.ensures t ∙ ap₂ ◌||◌ (allowed.single.ensures t) (allowed.row_at.ensures t) ∙ or_itself a.s t _ l))
+    (c.join-allowed.ensures t ∙ ap₂ ◌||◌ (c.single.ensures t) (c.row_at.ensures t) ∙ or_itself a.s t _ l))
     ∙ small_within a.n _ _ (rel_small a.n a.after.now a.s)

@@ -21,9 +21,9 @@ returns-else-number-eq46 c fits child =
 
 pub returns-then-number-eq46 : goal.returns-then-number-eq46
 unfolding states_for given c46 word_relation
-returns-then-number-eq46 c fits child = let test = c in
-    let n = test.states_in-n.ensures in
-    let from : (s : ℕ) → _ ≡ (word_set _ _ _ s && is_false _ _ s) = λ s. c.meet-from.ensures s ∙ ap₂ ◌&&◌ (rw n at (c.set_at.ensures s)) (test.truths_at-test.ensures.failing s) in
-    rw test.if-number-eq46.true
+returns-then-number-eq46 c fits child =
+    let n = c.states_in-n.ensures in
+    let from : (s : ℕ) → _ ≡ (word_set _ _ _ s && is_false _ _ s) = λ s. c.meet-from.ensures s ∙ ap₂ ◌&&◌ (rw n at (c.set_at.ensures s)) (c.truths_at-test.ensures.failing s) in
+    rw c.if-number-eq46.true
     (found_as _ _ (rw n at c.least_state.ensures)
     (stay_same _ _ _ _ from (rw n at c.diagonal.ensures) c.rows_of.ensures ∙ in_set_and _ _ _ _))

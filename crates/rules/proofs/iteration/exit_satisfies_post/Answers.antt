@@ -1,53 +1,33 @@
--- The loop keeps whether 56 holds at the states taken out of P; those left are still to be checked. `passed_more` checks the least.
-use mathlib.Core.Path.{◌∙◌, sym, ap, fun_ext}
-use mathlib.Core.Bool.{◌||◌}
+-- 56 at each state of P, which has only states below n that a set can hold.
+use Rattle.std.proofs.Common.{rules}
+use Prim.Native.Nat.{ℕ}
+use mathlib.Core.Path.{◌≡◌, ◌∙◌, sym, ap, fun_ext}
+use mathlib.Core.Bool.{Bool, ◌&&◌, ◌||◌}
+use mathlib.Core.List.{List}
 use lib.Dec.{eqb}
-use Rattle.states.specs.Search.{holds}
-use Rattle.states.specs.Sets.{has}
+use Rattle.states.specs.Search.{Search, must, holds, all, implies}
+use Rattle.states.specs.Sets.{has, capacity}
 use Rattle.states.proofs.Search.{and_left, and_right}
-use Rattle.states.proofs.Members.{passed_none, passed_more, LeastTaken, take_least, none_left}
 use Rattle.semantics.specs.Conditions.{in_set, c56}
 use Rattle.rules.specs.Words.{word_set, word_relation}
-use Rattle.rules.proofs.Searches.{StatesOnly, small_within, passed_search}
+use Rattle.rules.proofs.Searches.{StatesOnly, small_within, search_of_states}
 use Rattle.rules.proofs.Words.{set_small}
-use Rattle.rules.proofs.iteration.exit_satisfies_post.Invariants.{exits}
-use Rattle.rules.proofs.iteration.exit_satisfies_post.Goals.{After-set_at-p, After-without_least-rest}
-use Rattle.std.proofs.lemmas.Bool.{not_from_false, not_from_true}
 use Rattle.rules.proofs.iteration.exit_satisfies_post.Goals as goal
 
--- P has only states below n that a set can hold.
-small : (c : After-set_at-p) → StatesOnly c.args.n (has c.set_at-p.result)
-small c s e = let a = c.args in set_small a.n a.work.now a.own.p s (sym (c.set_at-p.ensures s) ∙ e)
-
-one : (c : After-without_least-rest)
-    → let d = c in LeastTaken d.loop-own.rest c.without_least-rest.result d.least-first.result
-one c =
-    let d = c in
-    take_least _ _ d.is_empty.ensures (not_from_false _ d.loop-own-test.true) _ d.least-first.ensures _ c.without_least-rest.ensures
-
-pub loop-own-init : goal.loop-own-init
-unfolding c56
-loop-own-init c = passed_none _ _ _ (λ s e. (small c s e).1)
-
-pub loop-own-smaller : goal.loop-own-smaller
-unfolding c56
-loop-own-smaller c = (one c).less
-
-pub loop-own-preserved : goal.loop-own-preserved
-unfolding c56
-loop-own-preserved c = let l = c in
-    let a = l.args in
-    let p = has l.set_at-p.result in
-    let s = c.least-first.result in
-    passed_more a.n (λ s. holds (exits a.n a.work.now a.w a.own.q p (has a.falsity) s)) _ _ _ _ _ _ (one c).taken
-    (c.exit_satisfies_post_at-held.ensures
-    ∙ small_within a.n _ _ (λ t h. small (goal.at.loop-own-preserved c).After-set_at-p t (and_right (eqb t s || word_relation a.n a.work.now a.w s t) (p t) (and_left _ (has a.falsity t) h))))
-    l.loop-own.invariant
+abbrev exits : ℕ → List ℕ → ℕ → ℕ → (ℕ → Bool) → (ℕ → Bool) → ℕ → Search
+exits n work w q p falsity s =
+    in_set n (λ t. (eqb t s || word_relation n work w s t) && p t && falsity t) (λ t. must (word_relation n work q s t))
 
 pub returns : goal.returns
 unfolding c56
-returns c = let l = c in
-    let a = l.args in
-    passed_search _ _ _ _ _ _ (none_left _ _ c.is_empty.ensures (not_from_true _ c.loop-own-test.false)) (λ s k. l.set_at-p.ensures s) l.loop-own.invariant
-    ∙ ap (λ p. holds (in_set a.n (word_set a.n a.work.now a.own.p) (exits a.n a.work.now a.w a.own.q p (has a.falsity))))
-    (fun_ext l.set_at-p.ensures)
+returns c =
+    let a = c.args in
+    let p = has c.set_at-p.result in
+    let small : StatesOnly a.n p = λ s e. set_small a.n a.work.now a.own.p s (sym (c.set_at-p.ensures s) ∙ e) in
+    let inside : ℕ → ℕ → Bool = λ s t. (eqb t s || word_relation a.n a.work.now a.w s t) && p t && has a.falsity t in
+    search_of_states a.n _ (exits a.n a.work.now a.w a.own.q p (has a.falsity)) c.set_at-p.result _ _ _ c.states.ensures (λ s e. (small s e).1)
+    (λ s l. c.set_at-p.ensures s) c.all.ensures.ran
+    (λ x b q k.
+    let held : b ≡ all capacity (λ t. implies (inside x t) (word_relation a.n a.work.now a.own.q x t)) = search rules in
+    (search rules, held ∙ small_within a.n (inside x) _ (λ t h. small t (and_right (eqb t x || word_relation a.n a.work.now a.w x t) (p t) (and_left _ (has a.falsity t) h)))))
+    ∙ ap (λ p. holds (in_set a.n (word_set a.n a.work.now a.own.p) (exits a.n a.work.now a.w a.own.q p (has a.falsity)))) (fun_ext c.set_at-p.ensures)

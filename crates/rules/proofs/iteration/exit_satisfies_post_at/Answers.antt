@@ -8,10 +8,10 @@ use Rattle.rules.proofs.Rows.{or_itself}
 use Rattle.rules.proofs.iteration.exit_satisfies_post_at.Goals as goal
 
 pub returns : goal.returns
-returns c = let rounds = c in
-    let a = rounds.args in
+returns c =
+    let a = c.args in
     c.included.ensures
     ∙ all_cong capacity _ _ (λ t l. ap₂ implies
     (c.meet-2.ensures t ∙ ap (λ b. b && has a.falsity t) (c.meet.ensures t ∙ ap (λ b. b && has a.p t)
-    (rounds.join-rounds.ensures t ∙ ap₂ ◌||◌ (rounds.single.ensures t) (rounds.row_at.ensures t) ∙ or_itself a.s t _ l)))
+    (c.join-rounds.ensures t ∙ ap₂ ◌||◌ (c.single.ensures t) (c.row_at.ensures t) ∙ or_itself a.s t _ l)))
     (c.row_at-2.ensures t))

@@ -15,12 +15,12 @@ loop-s-init c = (omega arith, none_held _, none_held _)
 
 pub loop-s-preserved : goal.loop-s-preserved
 unfolding c51 c57
-loop-s-preserved c = let l = c in
-    let a = l.args in
+loop-s-preserved c =
+    let a = c.args in
     let ends = c.row_at-ends.ensures in (
       omega arith,
-      ap₂ ◌&&◌ l.loop-s.invariant.1 (ap not (c.holds_state.ensures ∙ ends _) ∙ sym (holds_must _)) ∙ holds_next _ (loop-free a.n a.work.now a.w),
-      ap₂ ◌&&◌ l.loop-s.invariant.2 (c.leads_into-transitive.ensures ∙ leads_cong _ _ _ _ _ _ ends ends) ∙ holds_next _ (closed a.n a.work.now a.w),
+      ap₂ ◌&&◌ c.loop-s.invariant.1 (ap not (c.holds_state.ensures ∙ ends _) ∙ sym (holds_must _)) ∙ holds_next _ (loop-free a.n a.work.now a.w),
+      ap₂ ◌&&◌ c.loop-s.invariant.2 (c.leads_into-transitive.ensures ∙ leads_cong _ _ _ _ _ _ ends ends) ∙ holds_next _ (closed a.n a.work.now a.w),
     )
 
 pub returns : goal.returns

@@ -11,15 +11,14 @@ use Rattle.rules.proofs.Words.{relation_small}
 use Rattle.rules.proofs.iteration.rely_descends_at.Goals as goal
 
 pub returns-then-holds_state : goal.returns-then-holds_state
-returns-then-holds_state c = let d = c in
-    let e = d in
-    let a = e.args in
+returns-then-holds_state c =
+    let a = c.args in
     c.included.ensures
-    ∙ all_cong capacity _ _ (λ t l. ap₂ implies (d.row_at.ensures t)
+    ∙ all_cong capacity _ _ (λ t l. ap₂ implies (c.row_at.ensures t)
     (c.join.ensures t
     ∙ ap₂ ◌||◌ (c.single.ensures t ∙ ap (λ b. b && eqb a.s t) (lt-ltb t capacity l)) (c.row_at-then-holds_state.ensures t)))
     ∙ small_within a.n _ _ (relation_small a.n a.work.now a.r a.s)
-    ∙ at_member _ _ (sym (e.holds_state.ensures ∙ e.set_at.ensures _) ∙ d.if-holds_state.true)
+    ∙ at_member _ _ (sym (c.holds_state.ensures ∙ c.set_at.ensures _) ∙ c.if-holds_state.true)
 
 pub returns-else-holds_state : goal.returns-else-holds_state
 returns-else-holds_state c = at_other _ _ (sym (c.holds_state.ensures ∙ c.set_at.ensures _) ∙ c.if-holds_state.false)

@@ -1,41 +1,37 @@
--- 30 to 33, then the child's tables and 50 to 57; the code's n is the machine's, and the sets are the states where the test is true and
--- false.
-use mathlib.Core.Path.{◌∙◌, fun_ext}
+-- The code's n is the machine's, and the sets are the states where the test is true and false.
+use mathlib.Core.Path.{◌∙◌, sym, ap, fun_ext}
 use Rattle.handler.specs.Terms.{expr_in}
-use Rattle.rules.proofs.Asking.{asked_then}
+use Rattle.semantics.specs.Conditions.{in_round}
+use Rattle.semantics.specs.Checking.{body_tables}
+use Rattle.rules.specs.Words.{word_set, word_relation, word_spec}
+use Rattle.rules.specs.Asking.{asked_all}
+use Rattle.rules.proofs.Asking.{then_asked, then_held}
 use Rattle.rules.proofs.Movement.{read_once_50}
 use Rattle.rules.proofs.iteration.while_fault.Goals as goal
 
--- The points of the code have names, the last first, each by its distance from the one after it.
 pub returns : goal.returns
 returns c =
-    let at-55 = c in
-    let at-54 = at-55 in
-    let at-53 = at-54 in
-    let at-52 = at-53 in
-    let at-57 = at-52 in
-    let at-51 = at-57 in
-    let at-50 = at-51 in
-    let test = at-50 in
-    let a = test.args in
-    let order = at-51.order_of-order.ensures in
-    let once = at-50.read_once.ensures ∙ read_once_50 _ _ _ at-50.moved.ensures (expr_in a.exprs.now a.expr) in
-    let tables = at-50 in
-    rw (test.states_in-n.ensures, fun_ext test.truths_at-test.ensures.holding, fun_ext test.truths_at-test.ensures.failing) at
-    (asked_then 56 _
-    (asked_then 55 _
-    (asked_then 54 _
-    (asked_then 53 _
-    (asked_then 52 _
-    (asked_then 57 _
-    (asked_then 51 _
-    (asked_then 50 _
-    (rw tables.common-found.ensures at tables.while_tables-found.ensures)
-    at-50.ask-found.ensures once)
-    at-51.ask-found-2.ensures order.apart)
-    at-57.ask-found-3.ensures order.transitive)
-    at-52.ask-found-4.ensures at-52.enters_k.ensures)
-    at-53.ask-found-5.ensures at-53.keeps_k.ensures)
-    at-54.ask-found-6.ensures at-54.stays_false.ensures)
-    at-55.ask-found-7.ensures at-55.rely_descends.ensures)
-    c.ask.ensures c.exit_satisfies_post.ensures)
+    let a = c.args in
+    let test = c.truths_at-test.ensures in
+    let n = c.states_in-n.result in
+    let asked = in_round (word_spec n a.work.now a.own) (word_set n a.work.now a.k) (word_relation n a.work.now a.w) in
+    let tables = body_tables n asked (word_spec n a.work.now a.child) in
+    let once = c.read_once.ensures ∙ read_once_50 _ _ _ c.moved.ensures (expr_in a.exprs.now a.expr) in
+    rw (c.states_in-n.ensures, fun_ext test.holding, fun_ext test.failing) at
+    (then_asked 56 _
+    (then_held 55 _
+    (then_held 54 _
+    (then_held 53 _
+    (then_held 52 _
+    (then_held 57 _
+    (then_held 51 _
+    (then_held 50 _
+    (ap (λ found. asked_all found tables) (sym c.in_ok-common.ensures) ∙ sym c.in_ok-while_tables.ensures)
+    c.in_ok-require.ensures once)
+    c.in_ok-require-2.ensures c.order_of-order.ensures.apart)
+    c.in_ok-require-3.ensures c.order_of-order.ensures.transitive)
+    c.in_ok-require-4.ensures c.enters_k.ensures)
+    c.in_ok-require-5.ensures c.keeps_k.ensures)
+    c.in_ok-require-6.ensures c.stays_false.ensures)
+    c.in_ok-require-7.ensures c.rely_descends.ensures)
+    c.require-8.ensures c.exit_satisfies_post.ensures)

@@ -26,65 +26,65 @@ returns-in_default c fits child =
 
 pub returns-in-51 : goal.returns-in-51
 unfolding states_for given c51 word_relation c52 c53 c54 c55 c56 c57
-returns-in-51 c fits child = let d = c in
-    let n = d.states_in-n.ensures in
-    rw d.in-51.is
+returns-in-51 c fits child =
+    let n = c.states_in-n.ensures in
+    rw c.in-51.is
     (found_as _ _ (rw n at c.least_state.ensures)
-    (off_same _ _ _ (rw n at c.diagonal.ensures) c.empty.ensures d.rows_of-order.ensures))
+    (off_same _ _ _ (rw n at c.diagonal.ensures) c.empty.ensures c.rows_of-order.ensures))
 
 pub returns-in-52 : goal.returns-in-52
 unfolding states_for given c51 word_relation c52 c53 c54 c55 c56 c57
-returns-in-52 c fits child = let d = c in
-    let n = d.states_in-n.ensures in
-    let from : (s : ℕ) → _ ≡ (word_set _ _ _ s && is_true _ _ s) = λ s. c.meet.ensures s ∙ ap₂ ◌&&◌ (rw n at (d.set_at-p.ensures s)) (d.truths_at-test.ensures.holding s) in
-    rw d.in-52.is
-    (found_as _ _ (rw n at c.least_state-in-52.ensures) (one_same _ _ _ _ _ from (λ s l low. rw n at (d.set_at-inside.ensures s))
+returns-in-52 c fits child =
+    let n = c.states_in-n.ensures in
+    let from : (s : ℕ) → _ ≡ (word_set _ _ _ s && is_true _ _ s) = λ s. c.meet.ensures s ∙ ap₂ ◌&&◌ (rw n at (c.set_at-p.ensures s)) (c.truths_at-test.ensures.holding s) in
+    rw c.in-52.is
+    (found_as _ _ (rw n at c.least_state-in-52.ensures) (one_same _ _ _ _ _ from (λ s l low. rw n at (c.set_at-inside.ensures s))
     ∙ in_set_and _ _ _ _))
 
 pub returns-in-53 : goal.returns-in-53
 unfolding states_for given c51 word_relation c52 c53 c54 c55 c56 c57
-returns-in-53 c fits child = let d = c in
-    let n = d.states_in-n.ensures in
-    let inside = rw n at d.set_at-inside.ensures in
-    let from : (s : ℕ) → _ ≡ (word_set _ _ _ s && word_set _ _ _ s) = λ s. c.meet-in-53.ensures s ∙ ap₂ ◌&&◌ (rw n at (d.set_at-p.ensures s)) (inside s) in
-    rw d.in-53.is
+returns-in-53 c fits child =
+    let n = c.states_in-n.ensures in
+    let inside = rw n at c.set_at-inside.ensures in
+    let from : (s : ℕ) → _ ≡ (word_set _ _ _ s && word_set _ _ _ s) = λ s. c.meet-in-53.ensures s ∙ ap₂ ◌&&◌ (rw n at (c.set_at-p.ensures s)) (inside s) in
+    rw c.in-53.is
     (found_as _ _ (rw n at c.least_pair.ensures)
-    (into_same _ _ _ _ _ _ from inside d.rows_of-rely.ensures (c.all_into.ensures _) ∙ in_set_and _ _ _ _))
+    (into_same _ _ _ _ _ _ from inside c.rows_of-rely.ensures (c.all_into.ensures _) ∙ in_set_and _ _ _ _))
 
 pub returns-in-54 : goal.returns-in-54
 unfolding states_for given c51 word_relation c52 c53 c54 c55 c56 c57
-returns-in-54 c fits child = let d = c in
-    let n = d.states_in-n.ensures in
-    let falsity = d.truths_at-test.ensures.failing in
-    let from : (s : ℕ) → _ ≡ (word_set _ _ _ s && is_false _ _ s) = λ s. c.meet-in-54.ensures s ∙ ap₂ ◌&&◌ (rw n at (d.set_at-p.ensures s)) (falsity s) in
-    rw d.in-54.is
+returns-in-54 c fits child =
+    let n = c.states_in-n.ensures in
+    let falsity = c.truths_at-test.ensures.failing in
+    let from : (s : ℕ) → _ ≡ (word_set _ _ _ s && is_false _ _ s) = λ s. c.meet-in-54.ensures s ∙ ap₂ ◌&&◌ (rw n at (c.set_at-p.ensures s)) (falsity s) in
+    rw c.in-54.is
     (found_as _ _ (rw n at c.least_pair-in-54.ensures)
-    (into_same _ _ _ _ _ _ from falsity d.rows_of-rely.ensures (c.all_into-in-54.ensures _) ∙ in_set_and _ _ _ _))
+    (into_same _ _ _ _ _ _ from falsity c.rows_of-rely.ensures (c.all_into-in-54.ensures _) ∙ in_set_and _ _ _ _))
 
 pub returns-in-55 : goal.returns-in-55
 unfolding states_for given c51 word_relation c52 c53 c54 c55 c56 c57
-returns-in-55 c fits child = let d = c in
-    let n = d.states_in-n.ensures in
-    rw d.in-55.is
+returns-in-55 c fits child =
+    let n = c.states_in-n.ensures in
+    rw c.in-55.is
     (found_as _ _ (rw n at c.least_pair-in-55.ensures)
-    (or_same _ _ _ _ eqb (λ s t. refl) (rw n at d.set_at-p.ensures) d.rows_of-rely.ensures d.rows_of-order.ensures
+    (or_same _ _ _ _ eqb (λ s t. refl) (rw n at c.set_at-p.ensures) c.rows_of-rely.ensures c.rows_of-order.ensures
     (rw n at c.with_same.ensures)))
 
 pub returns-in-56 : goal.returns-in-56
 unfolding states_for given c51 word_relation c52 c53 c54 c55 c56 c57
-returns-in-56 c fits child = let d = c in
-    let n = d.states_in-n.ensures in
-    let p = rw n at d.set_at-p.ensures in
-    let into : (s : ℕ) → _ ≡ (word_set _ _ _ s && is_false _ _ s) = λ s. c.meet-in-56.ensures s ∙ ap₂ ◌&&◌ (p s) (d.truths_at-test.ensures.failing s) in
-    rw d.in-56.is
+returns-in-56 c fits child =
+    let n = c.states_in-n.ensures in
+    let p = rw n at c.set_at-p.ensures in
+    let into : (s : ℕ) → _ ≡ (word_set _ _ _ s && is_false _ _ s) = λ s. c.meet-in-56.ensures s ∙ ap₂ ◌&&◌ (p s) (c.truths_at-test.ensures.failing s) in
+    rw c.in-56.is
     (found_as _ _ (rw n at c.least_pair-in-56.ensures)
-    (exit_same _ _ _ _ _ _ p into d.rows_of-order.ensures c.rows_of.ensures (rw n at c.exits.ensures)))
+    (exit_same _ _ _ _ _ _ p into c.rows_of-order.ensures c.rows_of.ensures (rw n at c.exits.ensures)))
 
 pub returns-in-57 : goal.returns-in-57
 unfolding states_for given c51 word_relation c52 c53 c54 c55 c56 c57
-returns-in-57 c fits child = let d = c in
-    let n = d.states_in-n.ensures in
-    let order = d.rows_of-order.ensures in
-    rw d.in-57.is
+returns-in-57 c fits child =
+    let n = c.states_in-n.ensures in
+    let order = c.rows_of-order.ensures in
+    rw c.in-57.is
     (found_as _ _ (rw n at c.least_chain.ensures)
     (chain_same _ _ _ (λ s. refl) order order order ∙ in_all _ _ _ (states_most _) (rw n at c.below.ensures)))

@@ -22,25 +22,19 @@ use Rattle.std.proofs.lemmas.Bool.{not_from_false, not_from_true}
 use Rattle.rules.proofs.moving.moves_variable.Goals as goal
 
 -- The states taken out in one round, and what is checked for them.
-group : (c : After-join-alike) → let f = c in
-    let d = f in
-    let first = f.least-first.result in
-    (s : ℕ) → has c.join-alike.result s ≡ (agree_in d.variable_of-variable.result first s || ltb s capacity && eqb first s)
+group : (c : After-join-alike) → let first = c.least-first.result in
+    (s : ℕ) → has c.join-alike.result s ≡ (agree_in c.variable_of-variable.result first s || ltb s capacity && eqb first s)
 group c s = c.join-alike.ensures s ∙ ap₂ ◌||◌ (c.agreeing-agree.ensures s) (c.single.ensures s)
 
-asked : (c : After-leads_into) → let d = c in
-    let e = d in
-    let a = e.args in
+asked : (c : After-leads_into) → let a = c.args in
     ((s : ℕ) → has c.join-alike.result s ≡ (agree_in c.variable_of-variable.result c.least-first.result s || ltb s capacity && eqb c.least-first.result s))
-    → c.leads_into.result ≡ all a.n (λ s. implies (has e.loop-variable.rest s && has d.join-alike.result s) (keeps a.n a.work.now a.r e.variable_of-variable.result s))
+    → c.leads_into.result ≡ all a.n (λ s. implies (has c.loop-variable.rest s && has c.join-alike.result s) (keeps a.n a.work.now a.r c.variable_of-variable.result s))
 asked c own =
-    let d = c in
-    let e = d in
-    let a = e.args in
-    let x = e.variable_of-variable.result in
+    let a = c.args in
+    let x = c.variable_of-variable.result in
     c.leads_into.ensures
-    ∙ leads_cong _ _ _ _ _ _ c.meet.ensures d.agreeing-agree.ensures
-    ∙ alike_within a.n (has e.loop-variable.rest) _ (word_relation a.n a.work.now a.r) (agree_in x) _
+    ∙ leads_cong _ _ _ _ _ _ c.meet.ensures c.agreeing-agree.ensures
+    ∙ alike_within a.n (has c.loop-variable.rest) _ (word_relation a.n a.work.now a.r) (agree_in x) _
     (λ s h. alike x _ s (sym (own s) ∙ h))
 
 -- The states to take out are those of the set that are below n.
@@ -62,25 +56,23 @@ pub loop-variable-init : goal.loop-variable-init
 loop-variable-init c = passed_none _ _ _ (start_below _ c.args.from _ (start c))
 
 pub loop-variable-smaller : goal.loop-variable-smaller
-loop-variable-smaller c = let d = c in
-    let e = d in
-    let set = e.loop-variable.rest in
-    let first = e.least-first.result in
-    let least = least_of set _ e.is_empty.ensures (not_from_false _ e.loop-variable-test.true) first e.least-first.ensures in
+loop-variable-smaller c =
+    let set = c.loop-variable.rest in
+    let first = c.least-first.result in
+    let least = least_of set _ c.is_empty.ensures (not_from_false _ c.loop-variable-test.true) first c.least-first.ensures in
     let own = group (goal.at.loop-variable-smaller c).After-join-alike first ∙ or_right (agree_in _ first first) (ltb first capacity && eqb first first) (and_both _ _ (lt-ltb first capacity least.below) (eq-eqb first first refl)) in
     count_more capacity _ _ (λ s h. and_left (has set s) _ (sym (c.narrow-rest.ensures s) ∙ h)) first least.below
     (c.narrow-rest.ensures first ∙ ap (λ b. has set first && not b) own ∙ and-false (has set first)) least.there
 
 pub loop-variable-preserved : goal.loop-variable-preserved
-loop-variable-preserved c = let d = c in
-    passed_part _ _ _ _ _ true true (has d.join-alike.result) c.narrow-rest.ensures (sym c.if-leads_into.true ∙ asked (goal.at.loop-variable-preserved c).After-leads_into (group (goal.at.loop-variable-preserved c).After-join-alike))
-    d.loop-variable.invariant
+loop-variable-preserved c =
+    passed_part _ _ _ _ _ true true (has c.join-alike.result) c.narrow-rest.ensures (sym c.if-leads_into.true ∙ asked (goal.at.loop-variable-preserved c).After-leads_into (group (goal.at.loop-variable-preserved c).After-join-alike))
+    c.loop-variable.invariant
 
 pub returns-else-leads_into : goal.returns-else-leads_into
-returns-else-leads_into c = let d = c in
-    let e = d in
-    moved (goal.at.returns-else-leads_into c).After-meet-rest false (sym (passed_not _ _ _ _ _ e.loop-variable.invariant (sym (asked (goal.at.returns-else-leads_into c).After-leads_into (group (goal.at.returns-else-leads_into c).After-join-alike)) ∙ c.if-leads_into.false)))
+returns-else-leads_into c =
+    moved (goal.at.returns-else-leads_into c).After-meet-rest false (sym (passed_not _ _ _ _ _ c.loop-variable.invariant (sym (asked (goal.at.returns-else-leads_into c).After-leads_into (group (goal.at.returns-else-leads_into c).After-join-alike)) ∙ c.if-leads_into.false)))
 
 pub returns : goal.returns
-returns c = let d = c in moved (goal.at.returns c).After-meet-rest true
-    (passed_all _ _ _ _ _ (none_left _ _ c.is_empty.ensures (not_from_true _ c.loop-variable-test.false)) d.loop-variable.invariant)
+returns c = moved (goal.at.returns c).After-meet-rest true
+    (passed_all _ _ _ _ _ (none_left _ _ c.is_empty.ensures (not_from_true _ c.loop-variable-test.false)) c.loop-variable.invariant)

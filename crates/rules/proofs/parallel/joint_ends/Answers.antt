@@ -13,9 +13,8 @@ loop-s-init c = rows_none _
 
 pub loop-s-preserved : goal.loop-s-preserved
 unfolding word_relation
-loop-s-preserved c = let d = c in
-    let l = d in
-    rw c.put_entry.ensures (rows_more _ _ _ _ (omega arith) (d.joint_ends_at.ensures (omega arith)) l.loop-s.invariant)
+loop-s-preserved c =
+    rw c.put_entry.ensures (rows_more _ _ _ _ (omega arith) (c.joint_ends_at.ensures (omega arith)) c.loop-s.invariant)
 
 pub returns : goal.returns
 unfolding word_relation

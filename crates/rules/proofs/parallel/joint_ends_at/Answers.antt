@@ -5,7 +5,7 @@ use Rattle.rules.proofs.Words.{reached_set}
 use Rattle.rules.proofs.parallel.joint_ends_at.Goals as goal
 
 pub returns : goal.returns
-returns c low t = let both = c in
+returns c low t =
     c.meet.ensures t
-    ∙ ap₂ ◌&&◌ (both.meet-both.ensures t ∙ ap₂ ◌&&◌ (both.row_at.ensures t) (both.row_at-2.ensures t))
+    ∙ ap₂ ◌&&◌ (c.meet-both.ensures t ∙ ap₂ ◌&&◌ (c.row_at.ensures t) (c.row_at-2.ensures t))
     (reached_set _ _ _ _ _ low c.single.ensures c.reach.ensures t)

@@ -38,13 +38,12 @@ pub returns-then-included : goal.returns-then-included
 returns-then-included c = sym (part_within capacity _ _ _ (sym c.included.ensures ∙ c.if-included.true)) ∙ by_words (goal.at.returns-then-included c).After-row_at-ends _ (both (goal.at.returns-then-included c).After-meet-both) (member (goal.at.returns-then-included c).Then-holds_state)
 
 pub returns-else-included : goal.returns-else-included
-returns-else-included c = let d = c in
-    let e = d in
-    let a = e.args in
+returns-else-included c =
+    let a = c.args in
     let low = (set_small a.n a.work.now a.p a.s (member (goal.at.returns-else-included c).Then-holds_state)).0 in
     let reached = reached_set a.n a.moves.now a.s _ _ low c.single.ensures c.reach.ensures in
     c.included-else-included.ensures
-    ∙ all_cong capacity _ _ (λ t l. ap (λ b. implies b (has d.row_at-ends.result t)) (c.meet.ensures t ∙ ap (λ b. has d.meet-both.result t && b) (reached t)))
+    ∙ all_cong capacity _ _ (λ t l. ap (λ b. implies b (has c.row_at-ends.result t)) (c.meet.ensures t ∙ ap (λ b. has c.meet-both.result t && b) (reached t)))
     ∙ by_words (goal.at.returns-else-included c).After-row_at-ends _ (both (goal.at.returns-else-included c).After-meet-both) (member (goal.at.returns-else-included c).Then-holds_state)
 
 pub returns-else-holds_state : goal.returns-else-holds_state

@@ -21,12 +21,12 @@ returns-else-number-eq66 c fits =
 
 pub returns-then-number-eq66 : goal.returns-then-number-eq66
 unfolding states_for given c66 word_relation
-returns-then-number-eq66 c fits = let d = c in
-    let a = d.args in
+returns-then-number-eq66 c fits =
+    let a = c.args in
     let w = word_relation a.n a.work.now in
     let moves = anyone a.n a.work.now a.own.r a.left.g a.right.g in
-    rw d.if-number-eq66.true
+    rw c.if-number-eq66.true
     (found_as _ _ c.least_pair.ensures
     (met_same a.n _ _ _ _ (λ s t. w a.left.q s t && w a.right.q s t && reach a.n moves s t) c.set_at.ensures c.joint_ends-ends.ensures
-    (λ s t low. ap (λ b. w a.left.q s t && w a.right.q s t && b) (anyone_reach a.n a.work.now a.own.r a.left.g a.right.g _ d.changes-changed.ensures s t low))
+    (λ s t low. ap (λ b. w a.left.q s t && w a.right.q s t && b) (anyone_reach a.n a.work.now a.own.r a.left.g a.right.g _ c.changes-changed.ensures s t low))
     c.rows_of.ensures))

@@ -6,6 +6,6 @@ use Rattle.rules.proofs.sequence.sequence_post.Goals as goal
 
 pub returns : goal.returns
 unfolding c61
-returns c = let d = c in
-    let a = d.args in
-    c.chains_into.ensures ∙ all_through a.n a.work.now a.left.q _ _ _ _ d.set_at-p.ensures c.below.ensures
+returns c =
+    let a = c.args in
+    c.chains_into.ensures ∙ all_through a.n a.work.now a.left.q _ _ _ _ c.set_at-p.ensures c.below.ensures

@@ -19,16 +19,16 @@ returns-in_default c fits =
 
 pub returns-in-60 : goal.returns-in-60
 unfolding states_for given c60 word_relation c61
-returns-in-60 c fits = let d = c in
-    rw d.in-60.is
+returns-in-60 c fits =
+    rw c.in-60.is
     (found_as _ _ c.least_pair.ensures
-    (into_same _ _ _ _ _ _ d.set_at-p.ensures c.set_at.ensures d.rows_of-left_q.ensures
+    (into_same _ _ _ _ _ _ c.set_at-p.ensures c.set_at.ensures c.rows_of-left_q.ensures
     (c.all_into.ensures _)))
 
 pub returns-in-61 : goal.returns-in-61
 unfolding states_for given c60 word_relation c61
-returns-in-61 c fits = let d = c in
-    rw d.in-61.is
+returns-in-61 c fits =
+    rw c.in-61.is
     (found_as _ _ c.least_chain.ensures
-    (chain_same _ _ _ d.set_at-p.ensures d.rows_of-left_q.ensures c.rows_of.ensures
+    (chain_same _ _ _ c.set_at-p.ensures c.rows_of-left_q.ensures c.rows_of.ensures
     c.rows_of-in-61.ensures))

@@ -15,7 +15,7 @@ returns-else-number-eq35 c fits =
 
 pub returns-then-number-eq35 : goal.returns-then-number-eq35
 unfolding states_for given c35 word_relation
-returns-then-number-eq35 c fits = let d = c in
-    rw d.if-number-eq35.true
+returns-then-number-eq35 c fits =
+    rw c.if-number-eq35.true
     (found_as _ _ c.least_state.ensures
-    (stay_same _ _ _ _ d.set_at.ensures c.diagonal.ensures c.rows_of.ensures))
+    (stay_same _ _ _ _ c.set_at.ensures c.diagonal.ensures c.rows_of.ensures))

@@ -19,15 +19,14 @@ starts : (c : After-starting-starts) → let a = c.args in
 unfolding word_relation
 starts c = rw c.rows_of.ensures at c.starting-starts.ensures
 
-from : (c : After-meet-from) → let d = c in let a = d.args in
-    (s : ℕ) → has c.meet-from.result s ≡ (word_set a.n a.work.now a.own.p s && has d.starting-starts.result s)
+from : (c : After-meet-from) → let a = c.args in
+    (s : ℕ) → has c.meet-from.result s ≡ (word_set a.n a.work.now a.own.p s && has c.starting-starts.result s)
 from c s = c.meet-from.ensures s ∙ ap (λ b. b && has c.starting-starts.result s) (c.set_at-p.ensures s)
 
 pub returns-then-is_empty : goal.returns-then-is_empty
 unfolding c31 c32 c33
 returns-then-is_empty c =
-    let d = c in
-    let a = d.args in
+    let a = c.args in
     let small = set_small a.n a.work.now a.own.p in
     let ends = relation_small a.n a.work.now a.own.q in
     let none = none_in _ _ c.is_empty.ensures c.if-is_empty.true in record {
@@ -39,12 +38,10 @@ returns-then-is_empty c =
 pub returns : goal.returns
 unfolding c31 c32 c33
 returns c =
-    let m = c in
-    let d = m in
-    let a = d.args in
+    let a = c.args in
     let small = set_small a.n a.work.now a.own.p in
     let ends = relation_small a.n a.work.now a.own.q in
-    let p = m.set_at-p.ensures in record {
+    let p = c.set_at-p.ensures in record {
       pre = c.leads_into.ensures ∙ leads_cong _ _ _ _ _ _ (from (goal.at.returns c).After-meet-from) p ∙ in_set_starting _ _ _ _ _ small (starts (goal.at.returns c).After-starting-starts);
       before = c.chains_into.ensures ∙ all_through a.n a.work.now a.own.r _ _ _ _ (from (goal.at.returns c).After-meet-from) c.below-states.ensures
           ∙ in_set_starting _ _ _ _ _ small (starts (goal.at.returns c).After-starting-starts);

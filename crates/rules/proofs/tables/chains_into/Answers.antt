@@ -1,37 +1,17 @@
--- The loop keeps whether the chains from the states taken out are in `whole`; those left are still to be
--- checked. `passed_more` checks the least.
+-- The chains from each state of the set that is below n.
+use Rattle.std.proofs.Common.{rules}
 use Prim.Native.Nat.{ℕ}
 use mathlib.Core.Path.{◌≡◌, ◌∙◌, ap}
 use mathlib.Core.Bool.{◌&&◌}
 use lib.Dec.{ltb}
 use Rattle.states.specs.Sets.{capacity, has}
-use Rattle.states.proofs.Members.{start_below, start_same, passed_none, passed_more, LeastTaken, take_least, none_left}
-use Rattle.rules.proofs.Searches.{passed_search}
-use Rattle.rules.proofs.tables.chains_into.Goals.{After-meet-rest, After-without_least-rest}
-use Rattle.std.proofs.lemmas.Bool.{not_from_false, not_from_true}
+use Rattle.states.proofs.Members.{start_below, start_same}
+use Rattle.rules.proofs.Searches.{search_of_states}
 use Rattle.rules.proofs.tables.chains_into.Goals as goal
 
--- The states to look at, and one taken out.
-start : (c : After-meet-rest) → let a = c.args in
-    (s : ℕ) → has c.meet-rest.result s ≡ (has a.from s && (ltb s capacity && ltb s a.n))
-start c s = c.meet-rest.ensures s ∙ ap (λ b. has c.args.from s && b) (c.below.ensures s)
-
-one : (c : After-without_least-rest)
-    → let d = c in LeastTaken d.loop-through.rest c.without_least-rest.result d.least-first.result
-one c =
-    let d = c in
-    take_least _ _ d.is_empty.ensures (not_from_false _ d.loop-through-test.true) _ d.least-first.ensures _ c.without_least-rest.ensures
-
-pub loop-through-init : goal.loop-through-init
-loop-through-init c = passed_none _ _ _ (start_below _ c.args.from _ (start c))
-
-pub loop-through-smaller : goal.loop-through-smaller
-loop-through-smaller c = (one c).less
-
-pub loop-through-preserved : goal.loop-through-preserved
-loop-through-preserved c = passed_more _ _ _ _ _ _ _ _ (one c).taken c.row_chains_into-held.ensures c.loop-through.invariant
-
 pub returns : goal.returns
-returns c = let l = c in
-    passed_search _ _ _ _ _ _ (none_left _ _ c.is_empty.ensures (not_from_true _ c.loop-through-test.false))
-    (start_same _ l.args.from _ (start (goal.at.returns c).After-meet-rest)) l.loop-through.invariant
+returns c =
+    let from = c.args.from in
+    let start : (s : ℕ) → has c.meet.result s ≡ (has from s && (ltb s capacity && ltb s c.args.n)) = λ s. c.meet.ensures s ∙ ap (λ b. has from s && b) (c.below.ensures s) in
+    search_of_states _ _ _ c.meet.result _ _ _ c.states.ensures (start_below _ from _ start) (start_same _ from _ start) c.all.ensures.ran
+    (λ x b q k. search rules)

@@ -1,19 +1,8 @@
--- The loop keeps whether the rows of `part` below s are those of `a` met with the set. `all_next` adds the next.
-use native.Mathlib.Omega.{arith}
-use mathlib.Core.Path.{◌∙◌, sym, ap₂}
-use mathlib.Core.Bool.{◌&&◌}
-use Rattle.states.proofs.Search.{all_intro, all_next, all_done}
+use Rattle.std.proofs.Common.{rules}
+use Rattle.states.proofs.Ranges.{all_of_range}
 use Rattle.semantics.specs.Conditions.{same_relation}
 use Rattle.rules.proofs.tables.is_ending_in.Goals as goal
 
-pub loop-s-init : goal.loop-s-init
-unfolding same_relation
-loop-s-init c = (omega arith, sym (all_intro 0 _ (λ s l. absurd (omega arith))))
-
-pub loop-s-preserved : goal.loop-s-preserved
-unfolding same_relation
-loop-s-preserved c = (omega arith, ap₂ ◌&&◌ c.loop-s.invariant.1 c.row_ends_in-held.ensures ∙ sym (all_next _ _))
-
 pub returns : goal.returns
 unfolding same_relation
-returns c = c.loop-s.invariant.1 ∙ all_done _ _ _ c.loop-s.invariant.0 c.loop-s-test.false
+returns c = all_of_range _ _ _ _ c.all.ensures.ran (λ x b q k. search rules)

@@ -29,14 +29,12 @@ loop-s-init c = (omega arith, c.empty-found.ensures)
 
 pub loop-s-preserved : goal.loop-s-preserved
 loop-s-preserved c =
-    let d = c in
-    let l = d in
-    let a = l.args in (
+    let a = c.args in (
       omega arith,
       λ t.
           c.join-found.ensures t
-          ∙ ap₂ ◌||◌ (l.loop-s.invariant.1 t)
-          (d.meet.ensures t ∙ ap₂ ◌&&◌ (d.row.ensures t) (d.single.ensures t) ∙ held a.n a.rows.now l.loop-s.s t)
+          ∙ ap₂ ◌||◌ (c.loop-s.invariant.1 t)
+          (c.meet.ensures t ∙ ap₂ ◌&&◌ (c.row.ensures t) (c.single.ensures t) ∙ held a.n a.rows.now c.loop-s.s t)
           ∙ sym (any_more _ _),
     )
 

@@ -11,10 +11,8 @@ use Rattle.search.proofs.pairs.ending_in.Goals as goal
 
 pub loop-s-preserved : goal.loop-s-preserved
 loop-s-preserved c =
-    let d = c in
-    let l = d in
     rw c.put_entry.ensures
-    (rows_more _ _ _ _ (omega arith) (λ t. d.meet.ensures t ∙ ap (λ b. b && has l.args.set t) (d.row.ensures t)) l.loop-s.invariant)
+    (rows_more _ _ _ _ (omega arith) (λ t. c.meet.ensures t ∙ ap (λ b. b && has c.args.set t) (c.row.ensures t)) c.loop-s.invariant)
 
 pub returns : goal.returns
 returns c s t =

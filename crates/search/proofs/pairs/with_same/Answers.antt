@@ -37,10 +37,9 @@ and_given false b c h = refl
 
 pub loop-s-preserved : goal.loop-s-preserved
 loop-s-preserved c =
-    let d = c in
     rw c.put_entry.ensures
-    (rows_more _ _ _ _ (omega arith) (λ t. d.join.ensures t ∙ ap₂ ◌||◌ (d.single.ensures t) (d.row.ensures t))
-    d.loop-s.invariant)
+    (rows_more _ _ _ _ (omega arith) (λ t. c.join.ensures t ∙ ap₂ ◌||◌ (c.single.ensures t) (c.row.ensures t))
+    c.loop-s.invariant)
 
 pub returns : goal.returns
 returns c s t =
