@@ -2,7 +2,7 @@
 use Prim.Native.Nat.{ℕ, ◌≤◌}
 use mathlib.Core.Bool.{true, false}
 use mathlib.Core.List.{List}
-use mathlib.Core.Path.{◌≡◌, refl, sym, ◌∙◌, subst}
+use mathlib.Core.Path.{◌≡◌, refl, sym, ap, ◌∙◌, subst}
 use native.Mathlib.Omega.{arith}
 use Rattle.std.specs.Prelude.{Ok, Err}
 use lib.ListN.{length}
@@ -11,8 +11,9 @@ use Rattle.handler.specs.declared.HandlerSummary.{HandlerSummary}
 use Rattle.handler.specs.Header.{head_of}
 use Rattle.handler.proofs.Heads.{head_read}
 use Rattle.handler.proofs.Handlers.{known_handler}
-use Rattle.pair.specs.declared.PairFound.TheVariants.{Pair}
-use Rattle.pair.specs.Reading.{handler_summary, proof_head, read_pair, pair_file}
+use Rattle.pair.specs.declared.PairFault.{PairFault}
+use Rattle.pair.specs.declared.PairFile.{PairFile}
+use Rattle.pair.specs.Reading.{handler_summary, read_pair, file_of, pair_file}
 use Rattle.pair.proofs.Cases.{read_holds}
 use Rattle.form.proofs.Forms.{Writable}
 use Rattle.composition.specs.declared.forms.Form.{Form}
@@ -35,13 +36,22 @@ module _ (hb pb : List ℕ) (was : WasAccepted hb pb) where
   abbrev pub summary : HandlerSummary
   summary = handler_summary known.held
 
-  pub found_is : (pair_file (read_pair hb pb)).found ≡ Pair (record { handler = summary; proof = proof_head known.held })
+  pub not_refused : (fault : PairFault) → Err fault ≡ pair_file (read_pair hb pb) → ⊥
   unfolding pair_file
-  found_is = rw known.read
+  not_refused fault is =
+      let clash : Err fault ≡ Ok (file_of known.held) = is ∙ ap pair_file known.read in
+      let z : ◌≡◌ {A = ℕ} 0 1 = cc in omega arith
 
-  pub head_is : (pair_file (read_pair hb pb)).head ≡ head_of side.sizes
-  unfolding pair_file
-  head_is = rw (known.read, known.is_side)
+  module _ (file : PairFile) (is : Ok file ≡ pair_file (read_pair hb pb)) where
+    kept : file ≡ file_of known.held
+    unfolding pair_file
+    kept = let same : Ok file ≡ Ok (file_of known.held) = is ∙ ap pair_file known.read in cc
+
+    pub summary_is : file.read.handler ≡ summary
+    summary_is = ap (λ f. f.read.handler) kept
+
+    pub head_is : file.head ≡ head_of side.sizes
+    head_is = ap (λ f. f.head) kept ∙ rw known.is_side
 
   pub handler_of : HandlerOf side summary
   handler_of =

@@ -1,5 +1,5 @@
 -- The form of an accepted pair's proof file is written, read back and loaded: the words hold its tables by first mention.
-use Rattle.std.specs.Prelude.{Ok}
+use Rattle.std.specs.Prelude.{Ok, Err}
 use Prim.Native.Nat.{ℕ, suc, ◌+◌, ◌≤◌, ◌<◌}
 use mathlib.Core.Bool.{false}
 use mathlib.Core.List.{List, [], ◌∷◌, ◌++◌}
@@ -15,9 +15,9 @@ use Rattle.semantics.specs.States.{product, machine_of}
 use Rattle.semantics.specs.Derivations.{Derivation, set_of, relation_of, names_of, spec_of}
 use Rattle.derivation.specs.declared.ProofHead.{ProofHead}
 use Rattle.derivation.specs.declared.ProofFile.{ProofFile}
-use Rattle.derivation.specs.declared.ProofFound.TheVariants as Found
+use Rattle.bits.specs.declared.FileFault.{FileFault}
 use Rattle.derivation.specs.Tables.{work_words, row_at, tabulate, table_word, written}
-use Rattle.derivation.specs.NodeTable.{node_in}
+use Rattle.derivation.specs.NodeTable.{node_table, node_in}
 use Rattle.derivation.specs.Reading.{proof, read_proof, proof_file, loaded_word}
 use Rattle.derivation.proofs.NodeTable.{names_known}
 use Rattle.pair.specs.Limits.{most_proof_bytes}
@@ -111,23 +111,19 @@ module _ (sizes : List ℕ) (x : Derivation) (room : Writable (product sizes) x)
         ∙ ap (λ d. spec_of (member_tables (machine_of sizes)) (names_of d)) (any_members n x room)
 
 -- What the code makes of a proof file that it loaded.
-module _ (bytes : List ℕ) (n : ℕ) (file : ProofFile) (is : file ≡ proof_file (read_proof bytes n)) (sets relations root : ℕ) (d : Derivation)
-    (reads : read_proof bytes n ≡ proof sets relations root d) where
-  read_file : file ≡ proof_file (proof sets relations root d)
-  read_file = is ∙ ap proof_file reads
+module _ (bytes : List ℕ) (n : ℕ) (sets relations root : ℕ) (d : Derivation) (reads : read_proof bytes n ≡ proof sets relations root d) where
+  pub file_form : (file : ProofFile) → Ok file ≡ proof_file (read_proof bytes n) → (names : Names) → names ≡ (node_in file.nodes 0).names
+      → record { head = file.head; names = names; nodes = file.nodes } ≡ form_read sets relations root d
+  file_form file is names first =
+      let same : Ok file ≡ proof_file (proof sets relations root d) = is ∙ ap proof_file reads in
+      let made : file ≡ record { head = (form_read sets relations root d).head; nodes = node_table root d } = cc in
+      let named = first ∙ ap (λ f. (node_in f.nodes 0).names) made ∙ root_names bytes n sets relations root d reads in
+      λ i. record { head = (made i).head; names = named i; nodes = (made i).nodes }
 
-  pub file_form : (x : ProofHead) → file.found ≡ Found.Proof x → (names : Names) → names ≡ (node_in file.nodes 0).names
-      → record { head = x; names = names; nodes = file.nodes } ≡ form_read sets relations root d
-  file_form x found names first =
-      let same = sym found ∙ ap (λ f. f.found) read_file in
-      let head : x ≡ (form_read sets relations root d).head = cc in
-      let table = ap (λ f. f.nodes) read_file in
-      let named = first ∙ ap (λ t. (node_in t 0).names) table ∙ root_names bytes n sets relations root d reads in
-      λ i. record { head = head i; names = named i; nodes = table i }
-
-  pub not_refused : (k place : ℕ) → file.found ≡ Found.Fault k place → ⊥
-  not_refused k place found =
-      let clash = sym found ∙ ap (λ f. f.found) read_file in let z : ◌≡◌ {A = ℕ} 0 1 = cc in omega arith
+  pub not_refused : (fault : FileFault) → Err fault ≡ proof_file (read_proof bytes n) → ⊥
+  not_refused fault is =
+      let clash : Err fault ≡ proof_file (proof sets relations root d) = is ∙ ap proof_file reads in
+      let z : ◌≡◌ {A = ℕ} 0 1 = cc in omega arith
 
 -- An accepted pair.
 module _ (hb pb : List ℕ) (was : WasAccepted hb pb) where

@@ -5,13 +5,13 @@ ghost use Rattle.semantics.specs.Derivations.{Derivation};
 ghost use Rattle.derivation.specs.Tables.{work_words, written};
 ghost use Rattle.derivation.specs.Reading.{proof, read_proof, loaded_word};
 ghost use Rattle.joint.specs.Composing.{side_of};
-ghost use Rattle.composition.specs.Refinement.{form_read, WasAccepted, Formed};
+ghost use Rattle.composition.specs.Refinement.{IsProof, form_read, WasAccepted, Formed};
 
 use canonical::{MOST_FORM_BYTES, write_form};
 use checker::Fault;
 use derivation::reading::load;
 use derivation::table::node_at;
-use derivation::{MOST_NODES, ProofFound, ProofHead};
+use derivation::{MOST_NODES, ProofFile, ProofHead};
 use semantics::Names;
 
 // The head of the form, the tables that its root names, and the table of its nodes.

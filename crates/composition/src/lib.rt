@@ -151,9 +151,7 @@ fn number_of(answer: Composed) -> u64
 {
     match answer {
         Ok(made) => made.steps as u64 + HANDLERS * made.handler as u64 + PROOFS * made.proof as u64,
-        Err(turned) => REFUSED
-            + PAIRS * turned.pair as u64
-            + code_of(Err(turned.fault)),
+        Err(turned) => REFUSED + PAIRS * turned.pair as u64 + code_of(Err(turned.fault)),
     }
 }
 

@@ -1,18 +1,11 @@
--- By cases of what loading found. The first node of the table is the root, and a file that is read is not refused.
-use mathlib.Core.Path.{ap}
+-- The file is read, so it is not refused. The first node of the table is the root.
+use mathlib.Core.Path.{sym, ◌∙◌, ap}
 use Rattle.composition.proofs.Loading.{file_form, not_refused}
 use Rattle.composition.proofs.forms.load_file.Goals as goal
 
-pub returns-in-Fault : goal.returns-in-Fault
-returns-in-Fault c = let load = c.load-loaded in record {
-  answer = λ sets relations root d reads. absurd (not_refused _ _ _ load.ensures.answer sets relations root d reads _ _ c.in-Fault.is);
-  tables = load.ensures.tables;
-}
+pub unreachable-requires : goal.unreachable-requires
+unreachable-requires c = not_refused _ _ c.requires.0 c.requires.1 c.requires.2 c.requires.3 c.requires.4 _ (sym c.in_default.is ∙ c.load.ensures.answer)
 
-pub returns-in-Proof : goal.returns-in-Proof
-returns-in-Proof c = let load = c.load-loaded in record {
-  answer = λ sets relations root d reads.
-      file_form _ _ _ load.ensures.answer sets relations root d reads _ c.in-Proof.is _
-      (ap (λ x. x.names) c.node_at-root.ensures);
-  tables = load.ensures.tables;
-}
+pub returns-clause-answer : goal.returns-clause-answer
+returns-clause-answer c sets relations root d reads =
+    file_form _ _ sets relations root d reads _ (sym c.in-Ok.is ∙ c.load.ensures.answer) _ (ap (λ x. x.names) c.node_at.ensures)

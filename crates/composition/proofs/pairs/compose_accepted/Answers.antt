@@ -7,7 +7,7 @@ use Rattle.handler.specs.Header.{head_of}
 use Rattle.joint.specs.Composing.{Side, side_of, same_sizes, plain}
 use Rattle.composition.specs.Refinement.{HandlerOf}
 use Rattle.joint.proofs.Sizes.{sizes_same}
-use Rattle.composition.proofs.BothPairs.{few_sizes, found_is, head_is, handler_of, other_sizes, same_variables_lem}
+use Rattle.composition.proofs.BothPairs.{few_sizes, summary_is, head_is, handler_of, other_sizes, same_variables_lem}
 use Rattle.composition.proofs.Leaving.{leaves_same, leaves_refused}
 use Rattle.composition.proofs.pairs.compose_accepted.Goals.{After-same_sizes}
 use Rattle.composition.proofs.pairs.compose_accepted.Goals as goal
@@ -22,12 +22,11 @@ secondSide c = let a = c.args in side_of a.h2.now a.p2.now
 compared : (c : After-same_sizes) → c.same_sizes.result ≡ same_sizes (firstSide c).sizes (secondSide c).sizes
 compared c =
     let p = c.requires in
-    c.same_sizes.ensures _ _ (ap (λ f. f.head) c.read_pair-one.ensures ∙ head_is _ _ p.0)
-    (ap (λ f. f.head) c.read_pair-two.ensures ∙ head_is _ _ p.1) (few_sizes _ _ p.0) (few_sizes _ _ p.1)
+    c.same_sizes.ensures _ _ (head_is _ _ p.0 _ c.read_accepted-one.ensures) (head_is _ _ p.1 _ c.read_accepted-two.ensures) (few_sizes _ _ p.0) (few_sizes _ _ p.1)
 
-states : (c : After-same_sizes) → c.read_pair-one.result.head.states ≡ product (firstSide c).sizes
+states : (c : After-same_sizes) → c.read_accepted-one.result.head.states ≡ product (firstSide c).sizes
 unfolding head_of
-states c = ap (λ f. f.states) (ap (λ f. f.head) c.read_pair-one.ensures ∙ head_is _ _ c.requires.0)
+states c = ap (λ f. f.states) (head_is _ _ c.requires.0 _ c.read_accepted-one.ensures)
 
 pub overflow_add-both : goal.overflow_add-both
 overflow_add-both c = omega (arith, c.ranges)
@@ -45,10 +44,8 @@ compose_sides-requires c = let d = (goal.at.compose_sides-requires c).After-same
       second = p.1;
       first_states = n;
       second_states = n ∙ ap product same;
-      first_handler = subst (HandlerOf _) (sym (c.summary_of.ensures _ (ap (λ f. f.found) c.read_pair-one.ensures ∙ found_is _ _ p.0)))
-          (handler_of _ _ p.0);
-      second_handler = subst (HandlerOf _) (sym (c.summary_of-then-same_sizes.ensures _ (ap (λ f. f.found) c.read_pair-two.ensures ∙ found_is _ _ p.1)))
-          (handler_of _ _ p.1);
+      first_handler = subst (HandlerOf _) (sym (summary_is _ _ p.0 _ c.read_accepted-one.ensures)) (handler_of _ _ p.0);
+      second_handler = subst (HandlerOf _) (sym (summary_is _ _ p.1 _ c.read_accepted-two.ensures)) (handler_of _ _ p.1);
     }
 
 pub returns-then-same_sizes : goal.returns-then-same_sizes
