@@ -70,7 +70,7 @@ fn mention_sets(order: &mut [u64], count: usize, reps: &[u64; MOST_TABLES], node
     mention_one(order, count, reps, names.p)
 }
 
-// The relations that a node mentions: R, G, Q, and W of a while.
+// The relations that a node mentions: R, G, Q, and W of a while. No twin of `mention_sets`: other names are mentioned, and three, not one.
 fn mention_relations(
     order: &mut [u64],
     count: usize,
