@@ -15,7 +15,6 @@ use Rattle.semantics.specs.States.{product, machine_of}
 use Rattle.semantics.specs.Derivations.{Derivation, set_of, relation_of, names_of, spec_of}
 use Rattle.derivation.specs.declared.ProofHead.{ProofHead}
 use Rattle.derivation.specs.declared.ProofFile.{ProofFile}
-use Rattle.bits.specs.declared.FileFault.{FileFault}
 use Rattle.derivation.specs.Tables.{work_words, row_at, tabulate, table_word, written}
 use Rattle.derivation.specs.NodeTable.{node_table, node_in}
 use Rattle.derivation.specs.Reading.{proof, read_proof, proof_file, loaded_word}
@@ -40,7 +39,7 @@ use Rattle.canonical.specs.Canonical.{form, canonical, outcome, out_after}
 use Rattle.canonical.proofs.Theorems as Canonical
 use Rattle.composition.specs.declared.forms.Form.{Form}
 use Rattle.joint.specs.Composing.{Side, side_of}
-use Rattle.composition.specs.Refinement.{sets_held, relations_held, form_read, WasAccepted, Formed}
+use Rattle.composition.specs.Refinement.{sets_held, relations_held, IsProof, form_read, WasAccepted, Formed}
 use Rattle.composition.proofs.Mentioning.{tabulate_split}
 use Rattle.joint.proofs.Sides.{AcceptedSide, accepted_side}
 
@@ -120,7 +119,7 @@ module _ (bytes : List ℕ) (n : ℕ) (sets relations root : ℕ) (d : Derivatio
       let named = first ∙ ap (λ f. (node_in f.nodes 0).names) made ∙ root_names bytes n sets relations root d reads in
       λ i. record { head = (made i).head; names = named i; nodes = (made i).nodes }
 
-  pub not_refused : (fault : FileFault) → Err fault ≡ proof_file (read_proof bytes n) → ⊥
+  pub not_refused : (fault : _) → Err fault ≡ proof_file (read_proof bytes n) → ⊥
   not_refused fault is =
       let clash : Err fault ≡ proof_file (proof sets relations root d) = is ∙ ap proof_file reads in
       let z : ◌≡◌ {A = ℕ} 0 1 = cc in omega arith
@@ -168,6 +167,10 @@ module _ (hb pb : List ℕ) (was : WasAccepted hb pb) where
 
     pub front_is : take count after ≡ out
     front_is = rw (bytes_are, length_is) (take_at out _ (length out) refl)
+
+  -- It is read without fault.
+  pub is_read : (n : ℕ) → n ≡ product side.sizes → (file : List ℕ) → file ≡ out → IsProof (read_proof file n)
+  is_read n is file is-out = rw (is, is-out) (_, _, _, _, any_read (product side.sizes) side.derivation known.room)
 
   -- What is loaded from it is what is taken from the pair.
   module _ (before : List ℕ) (enough : work_words ≤ length before) (work : List ℕ) (f : Form) where

@@ -11,7 +11,7 @@ use Rattle.handler.specs.declared.HandlerSummary.{HandlerSummary}
 use Rattle.handler.specs.Kinds.{stmt_width}
 use Rattle.handler.specs.Statements.{most_statements, most_statement_levels}
 use Rattle.handler.specs.StatementTable.{statements, stmt_levels}
-use Rattle.derivation.specs.Reading.{ProofRead, proof}
+use Rattle.derivation.specs.Reading as Proofs
 use Rattle.derivation.specs.Tables.{most_tables, tabulate}
 use Rattle.derivation.specs.declared.Node.{Node}
 use Rattle.derivation.specs.declared.ProofHead.{ProofHead}
@@ -184,8 +184,8 @@ abbrev pub most_proof_bits : ℕ
 most_proof_bits = most_root_bit + (57 + 27 * most_nodes + 27 * most_nodes)
 
 -- A proof file was read without fault.
-abbrev pub IsProof : ProofRead → Type 0
-IsProof r = (sets : ℕ) × (relations : ℕ) × (root : ℕ) × (d : Derivation) × (r ≡ proof sets relations root d)
+abbrev pub IsProof : Proofs.ProofRead → Type 0
+IsProof r = (sets : ℕ) × (relations : ℕ) × (root : ℕ) × (d : Derivation) × (r ≡ Proofs.proof sets relations root d)
 
 -- The form that is loaded from a proof file with so many sets and relations, its root at a bit.
 abbrev pub form_read : ℕ → ℕ → ℕ → Derivation → Form
