@@ -42,13 +42,10 @@ pub fn least_pair(n: u32, from: StateSet, pairs: &[u64], good: &[u64]) -> Named
     ensures { result ≡ naming (states_found (in_set n (has from) (λ s. in_set n (rel n pairs.now s)
         (λ t. must (rel n good.now s t))))) }
 {
-    let mut rest = from.meet(StateSet::below(n));
-    while !rest.is_empty() {
-        let s = rest.least();
+    for s in from.meet(StateSet::below(n)).states() {
         if let Named::One(t) = least_state(n, row(n, pairs, s), row(n, good, s)) {
             return Named::Two(s, t);
         }
-        rest = rest.without_least();
     }
     Named::Nothing
 }
@@ -58,14 +55,11 @@ pub fn least_chain(n: u32, from: StateSet, first: &[u64], second: &[u64], good: 
     ensures { result ≡ naming (states_found (in_set n (has from) (λ s. in_set n (rel n first.now s)
         (λ t. in_set n (rel n second.now t) (λ u. must (rel n good.now s u)))))) }
 {
-    let mut rest = from.meet(StateSet::below(n));
-    while !rest.is_empty() {
-        let s = rest.least();
+    for s in from.meet(StateSet::below(n)).states() {
         let into = all_into(row(n, good, s));
         if let Named::Two(t, u) = least_pair(n, row(n, first, s), second, &into) {
             return Named::Three(s, t, u);
         }
-        rest = rest.without_least();
     }
     Named::Nothing
 }

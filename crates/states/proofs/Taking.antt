@@ -13,7 +13,8 @@ use Rattle.states.specs.Search.{implies, all, any, least_where}
 use Rattle.states.specs.Sets.{capacity, has}
 use Rattle.states.specs.Taking.{first_where, TakesLeast}
 use Rattle.states.proofs.Search.{all_intro}
-use Rattle.states.proofs.Members.{LeastTaken, take_least, none_in, all_taken, has_below}
+use Rattle.states.proofs.Least.{IsLeast}
+use Rattle.states.proofs.Members.{LeastTaken, least_of, take_least, none_in, all_taken, has_below}
 
 -- A state that came was taken out.
 pub taken : (s t : States) (k : ℕ) → TakesLeast s (Some k) t → LeastTaken s.rest t.rest k
@@ -24,6 +25,17 @@ taken s t k one = by (any capacity (has s.rest)) refl one.least
     by true e is =
         let first = ap (λ (o : Option ℕ). elim o [ None ↦ k | Some z ↦ z ]) is in
         take_least s.rest false (ap not (sym e)) refl k first t.rest one.left
+    by false e is = absurd (false≢true (sym (ap is_some is)))
+
+-- It was the least.
+pub least_came : (s t : States) (k : ℕ) → TakesLeast s (Some k) t → IsLeast capacity (has s.rest) k
+unfolding first_where
+least_came s t k one = by (any capacity (has s.rest)) refl one.least
+  where
+    by : (b : Bool) → any capacity (has s.rest) ≡ b → Some k ≡ cond b (Some (least_where capacity (has s.rest))) None → IsLeast capacity (has s.rest) k
+    by true e is =
+        let first = ap (λ (o : Option ℕ). elim o [ None ↦ k | Some z ↦ z ]) is in
+        least_of s.rest false (ap not (sym e)) refl k first
     by false e is = absurd (false≢true (sym (ap is_some is)))
 
 -- Where none came, there is none.

@@ -3,9 +3,7 @@
 use Prim.Native.Nat.{ℕ}
 use mathlib.Core.List.{List}
 use Rattle.states.specs.Search.{Search, must}
-use Rattle.states.specs.Sets.{capacity, has}
 use Rattle.states.specs.Relations.{rel}
-use Rattle.states.proofs.Reach.{count}
 use Rattle.semantics.specs.Conditions.{in_set}
 use Rattle.search.proofs.Breaches.{Searching}
 use Rattle.search.proofs.least_chain.Given as goal
@@ -13,8 +11,5 @@ use Rattle.search.proofs.least_chain.Given as goal
 abbrev pub chains : ℕ → List ℕ → List ℕ → List ℕ → ℕ → Search
 chains n first second good s = in_set n (rel n first s) (λ t. in_set n (rel n second t) (λ u. must (rel n good s u)))
 
-abbrev pub invariant-loop-rest : goal.invariant-loop-rest
-invariant-loop-rest l = Searching l.n 2 (chains l.n l.first l.second l.good) l.initial.rest l.rest
-
-abbrev pub decreases-loop-rest : goal.decreases-loop-rest
-decreases-loop-rest l = count capacity (has l.rest)
+abbrev pub invariant-loop-s : goal.invariant-loop-s
+invariant-loop-s l = Searching l.n 2 (chains l.n l.first l.second l.good) l.initial.s-iterator.rest l.s-iterator.rest
