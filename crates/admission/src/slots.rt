@@ -58,7 +58,7 @@ fn lies_at(slot: Slot, tick: u32, length: u32) -> bool
 }
 
 // The first tick after slots that lie end to end from tick 0 by the frame's end, each at a place of its own; none if they do not. One look at
-// each slot, with the places of those after it.
+// each slot, with the places of those after it: the index says where these begin.
 fn laid_slots(slots: &[Slot], length: u32) -> Option<u32>
     ensures { result ≡ laid_found (laid_within length 0 slots.now) (total slots.now) }
 {

@@ -99,7 +99,8 @@ fn write_outcome(place: u32, frame: Frame, answer: Result<(), Refusal>, out: &mu
     }
 }
 
-// Tries the guests on a frame of this length, and writes a line for each and the one of the ticks that are left over.
+// Tries the guests on a frame of this length, and writes a line for each and the one of the ticks that are left over. The result is how many
+// bytes were written; as a slice of the table it was tried, and the proof that it is no longer than the table did not close.
 #[tactic(auto, using(report::proofs::Lines::line_within))]
 fn write_table(
     rt: &HostRuntime,

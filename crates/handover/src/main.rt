@@ -35,7 +35,7 @@ struct Given<'a> {
     bytes: &'a [u8],
 }
 
-// Reads until the file ends or `buf` is full.
+// Reads until the file ends or `buf` is full: only a read says when that is, so there is no range to go over.
 fn read_to_end<R: Read>(file: &mut R, buf: &mut [u8]) -> io::Result<usize>
     ensures { IfOk result (λ n. n ≤ length buf.old) }
 {

@@ -18,8 +18,8 @@ returns-in-Ok-clause-tables c =
     let f = found_pair (read_pair a.handler.now a.proof.now) _ (sym c.read_files.ensures.file ∙ c.in-Ok.is) in
     let x = f.held in
     rw f.read (c.fill_by.ensures
-        ∙ (λ j. written (word_limited a.mode.arrangement a.proof.now (f.kept j).head.states (f.kept j).read.proof.sets (f.kept j).read.proof.relations) a.work.now)
-        ∙ in_limits_lem a.handler.now a.proof.now x (read_holds a.handler.now a.proof.now x f.read) a.mode.arrangement a.work.now)
+    ∙ (λ j. written (word_limited a.mode.arrangement a.proof.now (f.kept j).head.states (f.kept j).read.proof.sets (f.kept j).read.proof.relations) a.work.now)
+    ∙ in_limits_lem a.handler.now a.proof.now x (read_holds a.handler.now a.proof.now x f.read) a.mode.arrangement a.work.now)
 
 pub returns-in-Err-At-clause-tables : goal.returns-in-Err-At-clause-tables
 unfolding work_read
