@@ -68,7 +68,7 @@ expr_walk-requires t c =
 pub returns-in_err-left-clause-value : goal.returns-in_err-left-clause-value
 returns-in_err-left-clause-value t c =
     let head = sym c.expr_head_at.ensures ∙ c.in_ok-head.was ∙ ap Ok c.in-Operation.is in
-    let row = sym c.row_of.ensures ∙ c.in-Kinds.is in
+    let row = sym c.row_of.ensures ∙ c.in-Some.is in
     let left = sym c.expr_walk.ensures.value ∙ c.in_err-left.was in
     rw (← left_operand_fault _ _ _ _ _ _ _ (pos_of_ne-zero c.if-levels-eq0.false) head c.args.wanted _ _ _ row _ left) (search rules)
 
@@ -77,7 +77,7 @@ pub returns-in_err-left-clause-terms_stored :
 returns-in_err-left-clause-terms_stored t c =
     let more = pos_of_ne-zero c.if-levels-eq0.false in
     let head = sym c.expr_head_at.ensures ∙ c.in_ok-head.was ∙ ap Ok c.in-Operation.is in
-    let row = sym c.row_of.ensures ∙ c.in-Kinds.is in
+    let row = sym c.row_of.ensures ∙ c.in-Some.is in
     let left = sym c.expr_walk.ensures.value ∙ c.in_err-left.was in
     expr_fault_filled _ _ _ _ _ _ more c.args.wanted _ _ _ (left_operand_fault _ _ _ _ _ _ _ more head _ _ _ _ row _ left)
 
@@ -98,7 +98,7 @@ expr_walk-requires-2 t c =
 pub returns-in_err-right-clause-value : goal.returns-in_err-right-clause-value
 returns-in_err-right-clause-value t c =
     let head = sym c.expr_head_at.ensures ∙ c.in_ok-head.was ∙ ap Ok c.in-Operation.is in
-    let row = sym c.row_of.ensures ∙ c.in-Kinds.is in
+    let row = sym c.row_of.ensures ∙ c.in-Some.is in
     let left = sym c.expr_walk.ensures.value ∙ c.in_ok-left.was in
     let right = sym c.expr_walk-2.ensures.value ∙ c.in_err-right.was in
     rw (← right_operand_fault _ _ _ _ _ _ _ (pos_of_ne-zero c.if-levels-eq0.false) head c.args.wanted _ _ _ row _ left _ right) (search rules)
@@ -108,7 +108,7 @@ pub returns-in_err-right-clause-terms_stored :
 returns-in_err-right-clause-terms_stored t c =
     let more = pos_of_ne-zero c.if-levels-eq0.false in
     let head = sym c.expr_head_at.ensures ∙ c.in_ok-head.was ∙ ap Ok c.in-Operation.is in
-    let row = sym c.row_of.ensures ∙ c.in-Kinds.is in
+    let row = sym c.row_of.ensures ∙ c.in-Some.is in
     let left = sym c.expr_walk.ensures.value ∙ c.in_ok-left.was in
     let right = sym c.expr_walk-2.ensures.value ∙ c.in_err-right.was in
     expr_fault_filled _ _ _ _ _ _ more c.args.wanted _ _ _ (right_operand_fault _ _ _ _ _ _ _ more head _ _ _ _ row _ left _ right)
@@ -128,7 +128,7 @@ overflow_add-result-2 t c =
 pub returns-clause-value : goal.returns-clause-value
 returns-clause-value t c =
     let head = sym c.expr_head_at.ensures ∙ c.in_ok-head.was ∙ ap Ok c.in-Operation.is in
-    let row = sym c.row_of.ensures ∙ c.in-Kinds.is in
+    let row = sym c.row_of.ensures ∙ c.in-Some.is in
     let left = sym c.expr_walk.ensures.value ∙ c.in_ok-left.was in
     let right = sym c.expr_walk-2.ensures.value ∙ c.in_ok-right.was in
     rw (c.wanted_of.ensures, c.or.ensures)
