@@ -244,12 +244,10 @@ fn expr_walk(
         store_term(table, base + nodes, leaf_term(head));
         return leaf_of(head, wanted, nodes, at);
     };
-    let Some((a, b, result)) = semantics::row_of(o as usize) else {
-        return Err(FileFault {
-            number: UNUSED,
-            bit: at,
-        });
-    };
+    let (a, b, result) = semantics::row_of(o as usize).ok_or(FileFault {
+        number: UNUSED,
+        bit: at,
+    })?;
     let below = levels - 1;
     let left = expr_walk(src, table, count, a, below, base, nodes + 1, next)?;
     let term = Term {
