@@ -1,5 +1,5 @@
 -- What a search for a breach finds, exactly. Its result depends only on the members and on what it finds at each; the least state with a
--- breach is named first. Then the states that an answer names, a loop that looks for a breach, and rows filled for a search.
+-- breach is named first. Then the states that an answer names, a loop that looks for a breach, and rows that all hold the same ends.
 use Prim.Native.Nat.{ℕ, zero, suc, ◌<◌, ◌≤◌}
 use native.Mathlib.Nat.{not-suc-le-zero}
 use native.Mathlib.Omega.{arith}
