@@ -13,9 +13,8 @@ use crate::tables::{is_join, lies_in, row_at, rows_of, same_pre, set_at};
 use crate::{common, common_states, require};
 use search::{Named, least_pair};
 use semantics::Names;
-use states::entries::put_entry;
-use states::relations::{reach, union_of};
-use states::{CAPACITY, RELATION_WORDS, StateSet};
+use states::relations::{reach, rows_by, union_of};
+use states::{RELATION_WORDS, StateSet};
 
 // 34 and 36: both P; left's R is R joined with right's G, right's R is R joined with left's G.
 #[tactic(auto, using(states::proofs::Search::holds_must), unfolding(crate::specs::Asking::asked, semantics::specs::Conditions::c36))]
@@ -116,15 +115,7 @@ fn joint_ends(n: u32, work: &[u64], left: u32, right: u32, moves: &[u64]) -> [u6
     ensures { (s t : ℕ) → rel n result s t ≡ (ltb s capacity && (word_relation n work.now left s t
         && word_relation n work.now right s t && reachOf n (rel n moves.now) s t)) }
 {
-    let mut ends = [0u64; RELATION_WORDS];
-    for s in 0..CAPACITY {
-        put_entry(
-            &mut ends,
-            s as usize,
-            joint_ends_at(n, work, left, right, moves, s),
-        );
-    }
-    ends
+    rows_by(|s| joint_ends_at(n, work, left, right, moves, s))
 }
 
 // The states that the condition with this number names: s, t for 66.
