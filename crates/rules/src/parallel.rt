@@ -2,7 +2,7 @@
 ghost use Rattle.std.specs.Prelude.{◌≡◌, Bool, ◌&&◌, ◌||◌, ℕ, ◌<◌, ltb, Ok};
 ghost use Rattle.states.specs.Search.{must, given, holds};
 ghost use Rattle.states.specs.Sets.{capacity, has};
-ghost use Rattle.states.specs.Relations.{rel, reach as reachOf};
+ghost use Rattle.states.specs.Relations.{rel, reach as reaches};
 ghost use Rattle.semantics.specs.Conditions.{in_set, c65, c66, moves};
 ghost use Rattle.rules.specs.Words.{word_set, word_relation, word_spec};
 ghost use Rattle.semantics.specs.Checking.{parallel_tables, parallel_obligations};
@@ -58,7 +58,7 @@ fn joint_post_at(
 ) -> bool
     ensures { result ≡ holds (given (word_set n work.now p s) (in_set n
         (λ t. word_relation n work.now left s t && word_relation n work.now right s t
-        && reachOf n (rel n moves.now) s t) (λ t. must (word_relation n work.now q s t)))) }
+        && reaches n (rel n moves.now) s t) (λ t. must (word_relation n work.now q s t)))) }
 {
     if set_at(n, work, p).holds_state(s) {
         let both = row_at(n, work, left, s).meet(row_at(n, work, right, s));
@@ -104,7 +104,7 @@ pub fn parallel_fault(
 // The ends of both children's Q at s that are reached from s by the moves.
 fn joint_ends_at(n: u32, work: &[u64], left: u32, right: u32, moves: &[u64], s: u32) -> StateSet
     ensures { s < capacity → (t : ℕ) → has result t ≡ (word_relation n work.now left s t && word_relation n work.now right s t
-        && reachOf n (rel n moves.now) s t) }
+        && reaches n (rel n moves.now) s t) }
 {
     let both = row_at(n, work, left, s).meet(row_at(n, work, right, s));
     both.meet(reach(n, moves, StateSet::single(s)))
@@ -113,7 +113,7 @@ fn joint_ends_at(n: u32, work: &[u64], left: u32, right: u32, moves: &[u64], s: 
 // The pairs (s,t) of both children's Q with t reached from s by the moves.
 fn joint_ends(n: u32, work: &[u64], left: u32, right: u32, moves: &[u64]) -> [u64; RELATION_WORDS]
     ensures { (s t : ℕ) → rel n result s t ≡ (ltb s capacity && (word_relation n work.now left s t
-        && word_relation n work.now right s t && reachOf n (rel n moves.now) s t)) }
+        && word_relation n work.now right s t && reaches n (rel n moves.now) s t)) }
 {
     rows_by(|s| joint_ends_at(n, work, left, right, moves, s))
 }
