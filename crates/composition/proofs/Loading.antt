@@ -13,7 +13,6 @@ use Rattle.semantics.specs.declared.Names.{Names}
 use Rattle.semantics.specs.Language.{nil}
 use Rattle.semantics.specs.States.{product, machine_of}
 use Rattle.semantics.specs.Derivations.{Derivation, set_of, relation_of, names_of, spec_of}
-use Rattle.derivation.specs.declared.ProofHead.{ProofHead}
 use Rattle.derivation.specs.declared.ProofFile.{ProofFile}
 use Rattle.derivation.specs.Tables.{work_words, row_at, tabulate, table_word, written}
 use Rattle.derivation.specs.NodeTable.{node_table, node_in}

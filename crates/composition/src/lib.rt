@@ -91,13 +91,9 @@ fn compose_checked(
         work.old hout.old pout.old) pout.old }
 {
     let mode = rows();
-    match check(h1, p1, mode, work) {
-        Err(fault) => Err(Turned { pair: 1, fault }),
-        Ok(steps) => match check(h2, p2, mode, work) {
-            Err(fault) => Err(Turned { pair: 2, fault }),
-            Ok(more) => compose_accepted(h1, p1, steps, h2, p2, more, hout, pout),
-        },
-    }
+    let steps = check(h1, p1, mode, work).map_err(|fault| Turned { pair: 1, fault })?;
+    let more = check(h2, p2, mode, work).map_err(|fault| Turned { pair: 2, fault })?;
+    compose_accepted(h1, p1, steps, h2, p2, more, hout, pout)
 }
 
 // The composition of two pairs of files, for all files and buffers: both files are written, or none. `MadeIsAccepted` is what is promised of

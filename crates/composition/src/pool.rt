@@ -1,5 +1,6 @@
 // The tables of the result, by first mention: a table that is mentioned is looked up among those that are there, and added if it is new.
 // Sets are kept in words of their own, relations in the words that are lent for them, laid out as the check lays them out.
+// A set is one entry, and a relation as many rows as there are states, so mentions of the two differ in what they compare, store and ask.
 ghost use Rattle.std.specs.Prelude.{List, ◌≡◌, ℕ, ◌+◌, ◌*◌, ◌≤◌, ◌<◌, eqb, length};
 ghost use Rattle.states.specs.Sets.{set_words, capacity, has};
 ghost use Rattle.states.specs.Relations.{rel};

@@ -7,9 +7,8 @@ ghost use Rattle.composition.specs.Refinement.{Joint};
 
 use rules::tables::{rows_of, set_at};
 use semantics::Names;
-use states::entries::put_entry;
-use states::relations::{reach, row, union_of};
-use states::{CAPACITY, RELATION_WORDS, StateSet};
+use states::relations::{reach, row, rows_by, union_of};
+use states::{RELATION_WORDS, StateSet};
 
 // The root's tables, and the R of each weaken node; their G and Q are the sides' own.
 #[derive(Clone, Copy)]
@@ -26,11 +25,7 @@ pub(crate) struct Roots {
 fn met(n: u32, a: &[u64], b: &[u64]) -> [u64; RELATION_WORDS]
     ensures { n ≤ capacity → (s t : ℕ) → rel n result s t ≡ (rel n a.now s t && rel n b.now s t) }
 {
-    let mut rows = [0u64; RELATION_WORDS];
-    for s in 0..CAPACITY {
-        put_entry(&mut rows, s as usize, row(n, a, s).meet(row(n, b, s)));
-    }
-    rows
+    rows_by(|s| row(n, a, s).meet(row(n, b, s)))
 }
 
 // The pairs of either relation.
@@ -58,11 +53,7 @@ fn post(n: u32, p: StateSet, a: &[u64], b: &[u64], moves: &[u64]) -> [u64; RELAT
     ensures { n ≤ capacity → (s t : ℕ) → rel n result s t
         ≡ (has p s && rel n a.now s t && rel n b.now s t && reaches n (rel n moves.now) s t) }
 {
-    let mut rows = [0u64; RELATION_WORDS];
-    for s in 0..CAPACITY {
-        put_entry(&mut rows, s as usize, post_at(n, p, a, b, moves, s));
-    }
-    rows
+    rows_by(|s| post_at(n, p, a, b, moves, s))
 }
 
 // The new tables, from the words of both proof files and the names of their roots.

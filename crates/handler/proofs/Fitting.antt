@@ -9,9 +9,7 @@ use native.Mathlib.Omega.{arith}
 use Rattle.bits.proofs.Places.{either}
 use Rattle.semantics.specs.declared.Kind.{Kind}
 use Rattle.semantics.specs.declared.Kind.TheVariants.{Integer, Truth}
-use Rattle.semantics.specs.declared.Row.{Row}
-use Rattle.semantics.specs.declared.Row.TheVariants.{Kinds, Unused}
-use Rattle.semantics.specs.Language.{int, truth, Expr, lit, var, op, Stmt, nil, assign, seq, par, if, while, row_of, same_kind, kind_of, row_fits, fits, kinds_fit}
+use Rattle.semantics.specs.Language.{int, truth, Expr, lit, var, op, Stmt, nil, assign, seq, par, if, while, Row, row_of, same_kind, kind_of, row_fits, fits, kinds_fit}
 use Rattle.handler.specs.Kinds.{width, row_kind_error, kind_error, stmt_width, stmt_kind_error}
 
 -- If there is no kind error, a node is of the wanted kind, and neither of two parts has one.
@@ -31,14 +29,14 @@ expr_fits k at (lit v) e = (own (same_kind (kind_of v) k) None at e).0
 expr_fits k at (var v) e = (own (same_kind Integer k) None at e).0
 expr_fits k at (op o l r) e = by (row_of o) (λ a. expr_fits a (at + 5) l) (λ b. expr_fits b (at + 5 + width l) r) e
   where
-    by : (row : Row) → ((a : Kind) → kind_error a (at + 5) l ≡ None → fits a l ≡ true)
+    by : (row : Option Row) → ((a : Kind) → kind_error a (at + 5) l ≡ None → fits a l ≡ true)
         → ((b : Kind) → kind_error b (at + 5 + width l) r ≡ None → fits b r ≡ true)
         → row_kind_error row k at (λ a. kind_error a (at + 5) l) (λ b. kind_error b (at + 5 + width l) r) ≡ None
         → row_fits row k (λ a. fits a l) (λ b. fits b r) ≡ true
-    by (Kinds a b c) left right e =
+    by (Some (a, b, c)) left right e =
         let node = own (same_kind c k) (option_or (kind_error a (at + 5) l) (kind_error b (at + 5 + width l) r)) at e in
         rw node.0 (both _ _ _ _ (left a) (right b) node.1)
-    by Unused left right e = absurd (let z : ◌≡◌ {A = ℕ} 0 1 = cc in omega arith)
+    by None left right e = absurd (let z : ◌≡◌ {A = ℕ} 0 1 = cc in omega arith)
 
 pub stmt_fits : (at : ℕ) (S : Stmt) → stmt_kind_error at S ≡ None → kinds_fit S ≡ true
 stmt_fits at nil e = refl
@@ -57,14 +55,14 @@ expr_anywhere k at at' (lit v) e = rw (own (same_kind (kind_of v) k) None at e).
 expr_anywhere k at at' (var v) e = rw (own (same_kind Integer k) None at e).0
 expr_anywhere k at at' (op o l r) e = by (row_of o) e (λ a. expr_anywhere a (at + 5) (at' + 5) l) (λ b. expr_anywhere b (at + 5 + width l) (at' + 5 + width l) r)
   where
-    by : (row : Row) → row_kind_error row k at (λ a. kind_error a (at + 5) l) (λ b. kind_error b (at + 5 + width l) r) ≡ None
+    by : (row : Option Row) → row_kind_error row k at (λ a. kind_error a (at + 5) l) (λ b. kind_error b (at + 5 + width l) r) ≡ None
         → ((a : Kind) → kind_error a (at + 5) l ≡ None → kind_error a (at' + 5) l ≡ None)
         → ((b : Kind) → kind_error b (at + 5 + width l) r ≡ None → kind_error b (at' + 5 + width l) r ≡ None)
         → row_kind_error row k at' (λ a. kind_error a (at' + 5) l) (λ b. kind_error b (at' + 5 + width l) r) ≡ None
-    by (Kinds a b c) e left right =
+    by (Some (a, b, c)) e left right =
         let node = own (same_kind c k) (option_or (kind_error a (at + 5) l) (kind_error b (at + 5 + width l) r)) at e in
         rw node.0 (none_anywhere _ _ _ _ (left a) (right b) node.1)
-    by Unused e left right = absurd (let z : ◌≡◌ {A = ℕ} 0 1 = cc in omega arith)
+    by None e left right = absurd (let z : ◌≡◌ {A = ℕ} 0 1 = cc in omega arith)
 
 pub kinds_anywhere : (at at' : ℕ) (S : Stmt) → stmt_kind_error at S ≡ None → stmt_kind_error at' S ≡ None
 kinds_anywhere at at' nil e = refl
@@ -101,16 +99,16 @@ kind_within k at (op o l r) = by (row_of o) (λ a. kind_within a (at + 5) l) (λ
     wide : ℕ
     wide = 5 + width l + width r
 
-    by : (row : Row) → ((a : Kind) → Within (at + 5) (width l) (kind_error a (at + 5) l))
+    by : (row : Option Row) → ((a : Kind) → Within (at + 5) (width l) (kind_error a (at + 5) l))
         → ((b : Kind) → Within (at + 5 + width l) (width r) (kind_error b (at + 5 + width l) r))
         → Within at wide (row_kind_error row k at (λ a. kind_error a (at + 5) l) (λ b. kind_error b (at + 5 + width l) r))
-    by (Kinds a b c) left right =
+    by (Some (a, b, c)) left right =
         let x = kind_error a (at + 5) l in
         let y = kind_error b (at + 5 + width l) r in
         either (Within at wide) (same_kind c k) (option_or x y) (Some at)
         (first_within at wide x y (part_within (at + 5) (width l) at wide (omega arith) x (left a))
         (part_within (at + 5 + width l) (width r) at wide (omega arith) y (right b))) (omega arith)
-    by Unused left right = omega arith
+    by None left right = omega arith
 
 -- Of two parts after a code of 3 bits, the first error is that of the first.
 two_within : (at a b : ℕ) (x y : Option ℕ) → Within (at + 3) a x → Within (at + 3 + a) b y → Within at (3 + a + b) (option_or x y)

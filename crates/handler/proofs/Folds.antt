@@ -5,17 +5,18 @@ use mathlib.Core.List.{List}
 use mathlib.Core.Path.{◌≡◌, refl}
 use native.Mathlib.Numerals.{add-one}
 use native.Mathlib.Omega.{arith}
-use borrow.Author.Tests.{leb-false, ltb-true, ltb-false, eqb-false, lt-ltb}
+use borrow.Author.Tests.{leb-false, ltb-true, ltb-false, eqb-false}
 use lib.Dec.{leb, ltb, eqb}
 use lib.ListN.{length}
 use lib.Signed.{mag}
-use Rattle.std.specs.Prelude.{Result, Ok, Err}
+use Rattle.std.specs.Prelude.{None, Result, Ok, Err}
+use Rattle.std.proofs.lemmas.Option.{slice_get-get_or}
 use Rattle.bits.specs.Fields.{bit_length}
 use Rattle.bits.specs.Fields as fields
 use Rattle.bits.specs.declared.FileFault.{FileFault}
 use Rattle.bits.proofs.Places.{FaultIn, either, fault_at, fault_missing}
-use Rattle.semantics.specs.Language.{int, truth, Expr, lit, var, row_of}
-use Rattle.semantics.specs.declared.Row.TheVariants.{Unused}
+use Rattle.semantics.specs.Language.{int, truth, Expr, lit, var, rows, row_of}
+use Rattle.semantics.specs.declared.Kind.TheVariants as kind
 use Rattle.semantics.specs.StepNumber.{E}
 use Rattle.handler.specs.declared.expressions.ExprHead.{ExprHead}
 use Rattle.handler.specs.declared.expressions.ExprHead.TheVariants.{Integer, Truth, Variable, Operation}
@@ -47,9 +48,9 @@ childless (Variable v next) leaf nodes f g = refl
 childless (Operation o next) leaf nodes f g = absurd (leaf o next refl)
 
 -- Every operation that is read has a row.
-pub row_used : (o : ℕ) → o < 7 → row_of o ≡ Unused → ⊥
+pub row_used : (o : ℕ) → o < 7 → row_of o ≡ None → ⊥
 row_used o small e =
-    let used = rw (lt-ltb o 7 small) at e in
+    let used = rw (slice_get-get_or rows o (kind.Integer, kind.Integer, kind.Integer) small) at e in
     let z : ◌≡◌ {A = ℕ} 0 1 = cc in
     omega arith
 

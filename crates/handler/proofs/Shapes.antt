@@ -15,7 +15,6 @@ use lib.ListN.{length}
 use Rattle.bits.specs.Fields.{fault_at, fill_at}
 use Rattle.bits.specs.declared.FileFault.{FileFault}
 use Rattle.semantics.specs.declared.Kind.{Kind}
-use Rattle.semantics.specs.declared.Row.TheVariants.{Kinds}
 use Rattle.semantics.specs.Language.{Expr, op, row_of, same_kind, Stmt, assign}
 use Rattle.semantics.specs.StepNumber.{E, steps}
 use Rattle.semantics.specs.declared.Kind.TheVariants.{Integer, Truth}
@@ -82,7 +81,7 @@ op_summary fits at l r =
     }
 
 op_made : (wanted a b result : Kind) (at o next : ℕ) (l r : Expr) (so_far behind last end : ℕ)
-    → row_of o ≡ Kinds a b result → next ≡ at + 5 → behind ≡ next + width l
+    → row_of o ≡ Some (a, b, result) → next ≡ at + 5 → behind ≡ next + width l
     → op_summary (same_kind result wanted) at (expr_summary a next l so_far behind) (expr_summary b behind r last end)
     ≡ expr_summary wanted at (op o l r) last end
 op_made wanted a b result at o next l r so_far behind last end row placed ends =
@@ -90,7 +89,7 @@ op_made wanted a b result at o next l r so_far behind last end row placed ends =
 
 -- An operation, from what its head says and what its operands' walks answer.
 module _ (bytes : List ℕ) (count levels nodes at o next : ℕ) (more : 0 < levels) (head : expr_head bytes count nodes at ≡ Ok (Operation o next)) where
-  module _ (wanted a b result : Kind) (row : row_of o ≡ Kinds a b result) where
+  module _ (wanted a b result : Kind) (row : row_of o ≡ Some (a, b, result)) where
     abbrev first : ExprRead
     first = expr_at (levels - 1) bytes count (nodes + 1) next
 

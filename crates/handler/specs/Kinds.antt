@@ -5,9 +5,7 @@ use Rattle.std.specs.Prelude.{ℕ, ◌+◌, cond, Option, Some, None}
 use Rattle.std.specs.Option.{option_or}
 use Rattle.semantics.specs.declared.Kind.{Kind}
 use Rattle.semantics.specs.declared.Kind.TheVariants.{Integer, Truth}
-use Rattle.semantics.specs.declared.Row.{Row}
-use Rattle.semantics.specs.declared.Row.TheVariants.{Kinds, Unused}
-use Rattle.semantics.specs.Language.{Val, int, truth, Expr, lit, var, op, Stmt, nil, assign, seq, par, if, while, row_of, same_kind, kind_of}
+use Rattle.semantics.specs.Language.{Val, int, truth, Expr, lit, var, op, Stmt, nil, assign, seq, par, if, while, Row, row_of, same_kind, kind_of}
 
 abbrev pub val_width : Val → ℕ
 val_width (int z) = 10
@@ -20,9 +18,9 @@ width (var v) = 4
 width (op o l r) = 5 + width l + width r
 
 -- A node's own place comes first, then those of its operands, whose kinds its row gives.
-abbrev pub row_kind_error : Row → Kind → ℕ → (Kind → Option ℕ) → (Kind → Option ℕ) → Option ℕ
-row_kind_error (Kinds a b c) k at left right = cond (same_kind c k) (option_or (left a) (right b)) (Some at)
-row_kind_error Unused k at left right = Some at
+abbrev pub row_kind_error : Option Row → Kind → ℕ → (Kind → Option ℕ) → (Kind → Option ℕ) → Option ℕ
+row_kind_error (Some (a, b, c)) k at left right = cond (same_kind c k) (option_or (left a) (right b)) (Some at)
+row_kind_error None k at left right = Some at
 
 -- The first node, in an expression at a place, that is not of the kind wanted of it.
 abbrev pub kind_error : Kind → ℕ → Expr → Option ℕ

@@ -12,7 +12,7 @@ use crate::codes::{MISSING, NO_VARIABLE, TOO_MANY, UNUSED};
 use crate::terms;
 use crate::terms::{Term, store_term};
 use bits::FileFault;
-use semantics::{Kind, Row};
+use semantics::Kind;
 
 // An expression has at most 31 nodes. One level more than that is read.
 pub const MOST_EXPR_NODES: u32 = 31;
@@ -244,12 +244,10 @@ fn expr_walk(
         store_term(table, base + nodes, leaf_term(head));
         return leaf_of(head, wanted, nodes, at);
     };
-    let Row::Kinds(a, b, result) = semantics::row_of(o as usize) else {
-        return Err(FileFault {
-            number: UNUSED,
-            bit: at,
-        });
-    };
+    let (a, b, result) = semantics::row_of(o as usize).ok_or(FileFault {
+        number: UNUSED,
+        bit: at,
+    })?;
     let below = levels - 1;
     let left = expr_walk(src, table, count, a, below, base, nodes + 1, next)?;
     let term = Term {

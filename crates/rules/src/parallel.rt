@@ -2,7 +2,7 @@
 ghost use Rattle.std.specs.Prelude.{◌≡◌, Bool, ◌&&◌, ◌||◌, ℕ, ◌<◌, ltb, Ok};
 ghost use Rattle.states.specs.Search.{must, given, holds};
 ghost use Rattle.states.specs.Sets.{capacity, has};
-ghost use Rattle.states.specs.Relations.{rel, reach as reachOf};
+ghost use Rattle.states.specs.Relations.{rel, reach as reaches};
 ghost use Rattle.semantics.specs.Conditions.{in_set, c65, c66, moves};
 ghost use Rattle.rules.specs.Words.{word_set, word_relation, word_spec};
 ghost use Rattle.semantics.specs.Checking.{parallel_tables, parallel_obligations};
@@ -13,9 +13,8 @@ use crate::tables::{is_join, lies_in, row_at, rows_of, same_pre, set_at};
 use crate::{common, common_states, require};
 use search::{Named, least_pair};
 use semantics::Names;
-use states::entries::put_entry;
-use states::relations::{reach, union_of};
-use states::{CAPACITY, RELATION_WORDS, StateSet};
+use states::relations::{reach, rows_by, union_of};
+use states::{RELATION_WORDS, StateSet};
 
 // 34 and 36: both P; left's R is R joined with right's G, right's R is R joined with left's G.
 #[tactic(auto, using(states::proofs::Search::holds_must), unfolding(crate::specs::Asking::asked, semantics::specs::Conditions::c36))]
@@ -59,7 +58,7 @@ fn joint_post_at(
 ) -> bool
     ensures { result ≡ holds (given (word_set n work.now p s) (in_set n
         (λ t. word_relation n work.now left s t && word_relation n work.now right s t
-        && reachOf n (rel n moves.now) s t) (λ t. must (word_relation n work.now q s t)))) }
+        && reaches n (rel n moves.now) s t) (λ t. must (word_relation n work.now q s t)))) }
 {
     if set_at(n, work, p).holds_state(s) {
         let both = row_at(n, work, left, s).meet(row_at(n, work, right, s));
@@ -105,7 +104,7 @@ pub fn parallel_fault(
 // The ends of both children's Q at s that are reached from s by the moves.
 fn joint_ends_at(n: u32, work: &[u64], left: u32, right: u32, moves: &[u64], s: u32) -> StateSet
     ensures { s < capacity → (t : ℕ) → has result t ≡ (word_relation n work.now left s t && word_relation n work.now right s t
-        && reachOf n (rel n moves.now) s t) }
+        && reaches n (rel n moves.now) s t) }
 {
     let both = row_at(n, work, left, s).meet(row_at(n, work, right, s));
     both.meet(reach(n, moves, StateSet::single(s)))
@@ -114,17 +113,9 @@ fn joint_ends_at(n: u32, work: &[u64], left: u32, right: u32, moves: &[u64], s: 
 // The pairs (s,t) of both children's Q with t reached from s by the moves.
 fn joint_ends(n: u32, work: &[u64], left: u32, right: u32, moves: &[u64]) -> [u64; RELATION_WORDS]
     ensures { (s t : ℕ) → rel n result s t ≡ (ltb s capacity && (word_relation n work.now left s t
-        && word_relation n work.now right s t && reachOf n (rel n moves.now) s t)) }
+        && word_relation n work.now right s t && reaches n (rel n moves.now) s t)) }
 {
-    let mut ends = [0u64; RELATION_WORDS];
-    for s in 0..CAPACITY {
-        put_entry(
-            &mut ends,
-            s as usize,
-            joint_ends_at(n, work, left, right, moves, s),
-        );
-    }
-    ends
+    rows_by(|s| joint_ends_at(n, work, left, right, moves, s))
 }
 
 // The states that the condition with this number names: s, t for 66.

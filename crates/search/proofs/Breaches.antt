@@ -1,8 +1,7 @@
 -- What a search for a breach finds, exactly. Its result depends only on the members and on what it finds at each; the least state with a
--- breach is named first. Then the states that an answer names, a loop that looks for a breach, and rows filled for a search.
+-- breach is named first. Then the states that an answer names, a loop that looks for a breach, and rows that all hold the same ends.
 use Prim.Native.Nat.{ℕ, zero, suc, ◌<◌, ◌≤◌}
 use native.Mathlib.Nat.{not-suc-le-zero}
-use native.Mathlib.Decide.{dec_lt}
 use native.Mathlib.Omega.{arith}
 use mathlib.Core.Path.{◌≡◌, refl, sym, ap, ap₂, ◌∙◌}
 use mathlib.Core.Logic.{◌⊎◌, inl, inr}
@@ -11,15 +10,14 @@ use mathlib.Core.List.{List, [], ◌∷◌}
 use mathlib.Core.Option.{none, some}
 use lib.ListN.{length}
 use lib.Dec.{ltb, eqb}
-use borrow.Author.Tests.{ltb-true, lt-ltb, le-ltb, eqb-true, eq-eqb, ne_eqb}
+use borrow.Author.Tests.{ltb-true, lt-ltb, eqb-true, eq-eqb, ne_eqb}
 use Rattle.states.specs.Search.{any, Search, must, given, named, or_else, each}
-use Rattle.states.specs.Sets.{capacity, mem, has, entry_at}
+use Rattle.states.specs.Sets.{capacity, has}
 use Rattle.states.specs.Relations.{rel}
 use Rattle.states.specs.declared.StateSet.{StateSet}
 use Rattle.states.proofs.Search.{and_left, and_right, and_both, bool_ext, true_or_false, below_cases, all_intro, any_intro, any_true, holds_none, none_holds, holds_each, each_cong}
 use Rattle.states.proofs.Least.{IsLeast}
 use Rattle.states.proofs.Members.{Taken, start_below, start_same}
-use Rattle.states.proofs.EntryLaws.{RowsFilled}
 use Rattle.semantics.specs.Conditions.{in_set}
 use Rattle.semantics.proofs.Naming.{Finds, named_length}
 use Rattle.search.specs.declared.Named.{Named}
@@ -212,38 +210,10 @@ module _ (n m : ℕ) (f : ℕ → Search) (set from : StateSet) (start : (s : �
   searching_none rest empty old =
       ap (λ x. naming (states_found x)) (sym (each_clear n (λ s. given (has rest s) (f s)) (λ s l. ap (λ b. given b (f s)) (empty s))) ∙ over_set rest old)
 
--- Rows filled by a loop over all states that a set can hold, as a relation.
-pub rel_filled : (n : ℕ) (f : ℕ → ℕ → Bool) (k : ℕ) (rows : List ℕ) → capacity ≤ k → RowsFilled f k rows
-    → (s t : ℕ) → rel n rows s t ≡ (ltb s capacity && ltb s n && ltb t n && f s t)
-unfolding rel
-rel_filled n f k rows done filled s t = ap (λ b. ltb s n && ltb t n && b) (at (dec_lt s capacity)) ∙ front (ltb s n) (ltb t n) (ltb s capacity) (f s t)
-  where
-    at : Dec (s < capacity) → mem (entry_at rows s) t ≡ (ltb s capacity && f s t)
-    at (yes l) = rw (lt-ltb s capacity l) (filled.hold s (omega arith) t)
-    at (no l) = rw (le-ltb s capacity (omega arith)) (filled.rest s (omega (arith, filled.most)) t)
-
-    front : (a b c d : Bool) → (a && b && (c && d)) ≡ (c && a && b && d)
-    front true true c d = sym (ap (λ x. x && d) (and-true _ ∙ and-true c))
-    front true false true d = refl
-    front true false false d = refl
-    front false b true d = refl
-    front false b false d = refl
-
 -- In rows that all hold the same ends, a pair from a state that a set can hold.
 pub into_at : (n : ℕ) (rows : List ℕ) (q : ℕ → Bool) → ((s t : ℕ) → rel n rows s t ≡ (ltb s capacity && ltb s n && ltb t n && q t))
     → (s t : ℕ) → s < capacity → s < n → t < n → rel n rows s t ≡ q t
 into_at n rows q made s t small l m = made s t ∙ rw (lt-ltb s capacity small, lt-ltb s n l, lt-ltb t n m)
-
--- If each pair of f is between states below n, no other test is left.
-pub rel_pairs : (n : ℕ) (f : ℕ → ℕ → Bool) (k : ℕ) (rows : List ℕ) → capacity ≤ k → RowsFilled f k rows → ((s t : ℕ) → f s t ≡ true → (s < n) × (t < n))
-    → (s t : ℕ) → rel n rows s t ≡ (ltb s capacity && f s t)
-rel_pairs n f k rows done filled between s t =
-    rel_filled n f k rows done filled s t
-    ∙ absorb (ltb s capacity) (ltb s n) (ltb t n) (f s t) (λ e. (lt-ltb s n (between s t e).0, lt-ltb t n (between s t e).1))
-  where
-    absorb : (a b c r : Bool) → (r ≡ true → (b ≡ true) × (c ≡ true)) → (a && b && c && r) ≡ (a && r)
-    absorb a b c true both = rw ((both refl).0, (both refl).1) (and-true (a && true && true) ∙ and-true (a && true))
-    absorb a b c false both = rw (and-false (a && b && c), and-false a)
 
 -- A conjunct that follows from b can be dropped.
 pub absorbed : (a b : Bool) → (b ≡ true → a ≡ true) → (a && b) ≡ b

@@ -4,8 +4,7 @@ ghost use Rattle.std.specs.Prelude.{◌≡◌, ◌&&◌, ◌||◌, ℕ, ltb, eqb
 ghost use Rattle.states.specs.Sets.{capacity, has};
 ghost use Rattle.states.specs.Relations.{rel};
 
-use states::entries::put_entry;
-use states::relations::row;
+use states::relations::{row, rows_by};
 use states::{CAPACITY, RELATION_WORDS, StateSet};
 
 // The states s with the pair (s,s).
@@ -23,35 +22,19 @@ pub fn diagonal(n: u32, rows: &[u64]) -> StateSet
 pub fn all_into(set: StateSet) -> [u64; RELATION_WORDS]
     ensures { (n s t : ℕ) → rel n result s t ≡ (ltb s capacity && ltb s n && ltb t n && has set t) }
 {
-    let mut made = [0u64; RELATION_WORDS];
-    for s in 0..CAPACITY {
-        put_entry(&mut made, s as usize, set);
-    }
-    made
+    rows_by(|_| set)
 }
 
 // The pairs of the rows, and (s,s) for each state s.
 pub fn with_same(n: u32, rows: &[u64]) -> [u64; RELATION_WORDS]
     ensures { (s t : ℕ) → rel n result s t ≡ (ltb s capacity && ltb s n && (eqb s t || rel n rows.now s t)) }
 {
-    let mut made = [0u64; RELATION_WORDS];
-    for s in 0..CAPACITY {
-        put_entry(
-            &mut made,
-            s as usize,
-            StateSet::single(s).join(row(n, rows, s)),
-        );
-    }
-    made
+    rows_by(|s| StateSet::single(s).join(row(n, rows, s)))
 }
 
 // The pairs of the rows that end in the set.
 pub fn ending_in(n: u32, rows: &[u64], set: StateSet) -> [u64; RELATION_WORDS]
     ensures { (s t : ℕ) → rel n result s t ≡ (ltb s capacity && (rel n rows.now s t && has set t)) }
 {
-    let mut made = [0u64; RELATION_WORDS];
-    for s in 0..CAPACITY {
-        put_entry(&mut made, s as usize, row(n, rows, s).meet(set));
-    }
-    made
+    rows_by(|s| row(n, rows, s).meet(set))
 }

@@ -1,4 +1,4 @@
--- The theorem `soundness`, in reading order; row_of's proof is in its own folder.
+-- The theorem `soundness`, in reading order.
 pub mod Safe
 pub mod Composition
 pub mod Reading

@@ -9,14 +9,15 @@ use mathlib.Core.Option.{Option, none, some, map}
 use lib.ListN.{get_or, get_or-map}
 use lib.Dec.{ltb}
 use lib.IntN.{ℤ}
-use borrow.Author.Tests.{ltb-true}
+use borrow.Author.Tests.{ltb-true, ltb-false}
 use Rattle.states.specs.Search.{all, implies}
 use Rattle.states.proofs.Search.{all_at, implies_at, and_left, and_right, and_both, true_or_false}
 use Rattle.semantics.specs.declared.Kind.{Kind}
 use Rattle.semantics.specs.declared.Kind.TheVariants.{Integer, Truth}
-use Rattle.semantics.specs.declared.Row.{Row}
-use Rattle.semantics.specs.declared.Row.TheVariants.{Kinds, Unused}
-use Rattle.semantics.specs.Language.{Val, int, truth, Expr, lit, var, op, row_of, row_fits, same_kind, kind_of, fits, of_integers, of_truths, apply}
+use Rattle.std.specs.Prelude.{Some, None}
+use Rattle.std.specs.Prelude as std
+use Rattle.std.proofs.lemmas.Option.{slice_get_past}
+use Rattle.semantics.specs.Language.{Row, rows, Val, int, truth, Expr, lit, var, op, row_of, row_fits, same_kind, kind_of, fits, of_integers, of_truths, apply}
 use Rattle.semantics.specs.States.{Machine, value, both}
 
 -- The kind of an operation's result, from the kinds of its operands.
@@ -51,7 +52,7 @@ table Truth Truth Truth = refl
 row_gives : (o : ℕ) (a b k : Kind) → row_fits (row_of o) k (same_kind a) (same_kind b) ≡ true → is_kind k (kind_apply o a b) ≡ true
 row_gives o a b k h =
     ⊎_elim (λ below. implies_at _ _ (all_at 7 _ (table a b k) o (ltb-true o 7 below)) h)
-    (λ past. absurd (false≢true (rw past at h))) (true_or_false (ltb o 7))
+    (λ past. absurd (false≢true (rw (slice_get_past rows o (ltb-false o 7 past)) at h))) (true_or_false (ltb o 7))
 
 -- There is a value, and it is of kind k.
 pub record OfKind (o : Option Val) (k : Kind) : Type 0 where
@@ -64,10 +65,10 @@ of_kind none k h = absurd (false≢true h)
 of_kind (some v) k h = record { val = v; is = refl; kind = h }
 
 -- If both operands fit the row, both have values of the kinds that the row takes.
-row_met : (r : Row) (k : Kind) (p q : Kind → Bool) {a b : Option Val} → ((x : Kind) → p x ≡ true → OfKind a x) → ((y : Kind) → q y ≡ true → OfKind b y)
+row_met : (r : std.Option Row) (k : Kind) (p q : Kind → Bool) {a b : Option Val} → ((x : Kind) → p x ≡ true → OfKind a x) → ((y : Kind) → q y ≡ true → OfKind b y)
     → row_fits r k p q ≡ true → (v : Val) × (w : Val) × (a ≡ some v) × (b ≡ some w) × (row_fits r k (same_kind (kind_of v)) (same_kind (kind_of w)) ≡ true)
-row_met Unused k p q f g h = absurd (false≢true h)
-row_met (Kinds x y c) k p q f g h =
+row_met None k p q f g h = absurd (false≢true h)
+row_met (Some (x, y, c)) k p q f g h =
     let asked = and_left (same_kind c k && p x) (q y) h in
     let same = and_left (same_kind c k) (p x) asked in
     let l = f x (and_right (same_kind c k) (p x) asked) in

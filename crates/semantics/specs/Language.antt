@@ -1,11 +1,10 @@
 -- docs/RULES.md, "The language": statements and expressions, the kinds of values, and the row of each operation.
-use Rattle.std.specs.Prelude.{ℕ, Bool, true, false, cond, ◌&&◌, ◌||◌, List, [], ◌∷◌, get_or, ltb, ℤ, ◌+ℤ◌, ◌-ℤ◌}
+use Rattle.std.specs.Prelude.{ℕ, Bool, true, false, ◌&&◌, ◌||◌, List, [], ◌∷◌, get_or, slice_get, ℤ, ◌+ℤ◌, ◌-ℤ◌, Some, None}
+use Rattle.std.specs.Prelude as std
 use Rattle.std.proofs.Math.Option.{Option, none, some}
 use Rattle.std.specs.Int.Signed.{lt_z, le_z}
 use Rattle.semantics.specs.declared.Kind.{Kind}
 use Rattle.semantics.specs.declared.Kind.TheVariants.{Integer, Truth}
-use Rattle.semantics.specs.declared.Row.{Row}
-use Rattle.semantics.specs.declared.Row.TheVariants.{Kinds, Unused}
 
 -- Arithmetic is exact.
 pub data Val : Type 0 where
@@ -25,16 +24,17 @@ pub data Stmt : Type 0 where
   if while : Expr → Stmt → Stmt
 
 -- Each operation has a row: left kind, right kind, result kind; the rows of + − < = > ∧ ∨, by operation code.
-abbrev pub rows : List (List Kind)
+abbrev pub Row : Type 0
+Row = Kind × Kind × Kind
+
+abbrev pub rows : List Row
 rows =
-    (Integer ∷ Integer ∷ Integer ∷ []) ∷ (Integer ∷ Integer ∷ Integer ∷ []) ∷ (Integer ∷ Integer ∷ Truth ∷ [])
-    ∷ (Integer ∷ Integer ∷ Truth ∷ []) ∷ (Integer ∷ Integer ∷ Truth ∷ []) ∷ (Truth ∷ Truth ∷ Truth ∷ []) ∷ (Truth ∷ Truth ∷ Truth ∷ []) ∷ []
+    (Integer, Integer, Integer) ∷ (Integer, Integer, Integer) ∷ (Integer, Integer, Truth)
+    ∷ (Integer, Integer, Truth) ∷ (Integer, Integer, Truth) ∷ (Truth, Truth, Truth) ∷ (Truth, Truth, Truth) ∷ []
 
-abbrev pub as_row : List Kind → Row
-as_row row = Kinds (get_or row 0 Integer) (get_or row 1 Integer) (get_or row 2 Integer)
-
-abbrev pub row_of : ℕ → Row
-row_of o = cond (ltb o 7) (as_row (get_or rows o [])) Unused
+-- An unused code has no row.
+abbrev pub row_of : ℕ → std.Option Row
+row_of o = slice_get rows o
 
 abbrev pub same_kind : Kind → Kind → Bool
 same_kind Integer Integer = true
@@ -47,9 +47,9 @@ kind_of (int z) = Integer
 kind_of (truth b) = Truth
 
 -- Whether an operation gives the wanted kind and its operands are of the kinds that its row takes.
-abbrev pub row_fits : Row → Kind → (Kind → Bool) → (Kind → Bool) → Bool
-row_fits Unused k left right = false
-row_fits (Kinds a b c) k left right = same_kind c k && left a && right b
+abbrev pub row_fits : std.Option Row → Kind → (Kind → Bool) → (Kind → Bool) → Bool
+row_fits None k left right = false
+row_fits (Some (a, b, c)) k left right = same_kind c k && left a && right b
 
 -- Whether an expression is of the wanted kind throughout: a variable holds an integer.
 abbrev pub fits : Kind → Expr → Bool

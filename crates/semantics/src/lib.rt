@@ -22,34 +22,22 @@ pub enum Kind {
     Truth,
 }
 
-// The row of an operation: left kind, right kind, result kind; an unused code has none.
-#[derive(Clone, Copy)]
-pub enum Row {
-    Kinds(Kind, Kind, Kind),
-    Unused,
-}
-
-// The rows of + − < = > ∧ ∨, by operation code.
-const ROWS: [[Kind; 3]; 7] = [
-    [Kind::Integer, Kind::Integer, Kind::Integer],
-    [Kind::Integer, Kind::Integer, Kind::Integer],
-    [Kind::Integer, Kind::Integer, Kind::Truth],
-    [Kind::Integer, Kind::Integer, Kind::Truth],
-    [Kind::Integer, Kind::Integer, Kind::Truth],
-    [Kind::Truth, Kind::Truth, Kind::Truth],
-    [Kind::Truth, Kind::Truth, Kind::Truth],
+// The rows of + − < = > ∧ ∨, by operation code: left kind, right kind, result kind.
+const ROWS: [(Kind, Kind, Kind); 7] = [
+    (Kind::Integer, Kind::Integer, Kind::Integer),
+    (Kind::Integer, Kind::Integer, Kind::Integer),
+    (Kind::Integer, Kind::Integer, Kind::Truth),
+    (Kind::Integer, Kind::Integer, Kind::Truth),
+    (Kind::Integer, Kind::Integer, Kind::Truth),
+    (Kind::Truth, Kind::Truth, Kind::Truth),
+    (Kind::Truth, Kind::Truth, Kind::Truth),
 ];
 
-// The row of an operation code.
-pub fn row_of(operation: usize) -> Row
+// The row of an operation code; an unused code has none.
+pub fn row_of(operation: usize) -> Option<(Kind, Kind, Kind)>
     ensures { result ≡ row_of operation }
 {
-    if operation < 7 {
-        let row = ROWS[operation];
-        Row::Kinds(row[0], row[1], row[2])
-    } else {
-        Row::Unused
-    }
+    ROWS.get(operation).copied()
 }
 
 // Where the place of a number is: nowhere in the files, at a bit of the handler file or of the proof file, or at a node of the derivation.

@@ -8,16 +8,16 @@ use mathlib.Core.Path.{◌≡◌, refl, sym, ap, ◌∙◌}
 use mathlib.Core.Logic.{◌⊎◌, inl, inr}
 use mathlib.Core.Bool.{Bool, true, false, ◌&&◌}
 use mathlib.Core.List.{List, [], ◌∷◌, append_assoc}
-use lib.ListN.{get_or, length, set, take, drop, replicate, length-take, length-drop, length-set, length-replicate, drop_of_length-le, get_or-eq_default}
+use lib.ListN.{get_or, length, set, take, drop, replicate, length-take, length-drop, length-set, drop_of_length-le, get_or-eq_default}
 use lib.Seq.{sets, sets-eq, length-sets, ext_get_or, get_or-take, get_or-drop, get_or-set_other, length-take-le, take_at, drop_at, drop-drop}
 use lib.Dec.{ltb}
-use borrow.Author.Tests.{ltb-true, lt-ltb}
+use borrow.Author.Tests.{lt-ltb, le-ltb}
 use Rattle.states.specs.declared.StateSet.{StateSet}
 use Rattle.states.specs.Sets.{set_words, capacity, mem, has, words_in, entry_at, with_entry}
-use Rattle.states.proofs.Search.{and_left, and_right, not_true_false, below_cases}
+use Rattle.states.specs.Relations.{RowsGiven}
+use Rattle.states.proofs.Search.{below_cases}
 use Rattle.states.proofs.Words.{mem_zeros, mem_below, mem_nought}
 use Rattle.states.proofs.Cells.{blank}
-use Rattle.states.proofs.Reach.{Between}
 
 -- Entries of w words.
 module _ (w : ℕ) where
@@ -102,45 +102,30 @@ entry_word_lem words i s = at (drop (set_words * i) words) ∙ ap (λ x. mem (x 
     at [] = mem_zeros [] (λ k. refl) s ∙ sym (mem_nought s)
     at (x ∷ xs) = refl
 
--- Rows filled by a loop: those below k have the pairs of f, and the others have none.
-pub record RowsFilled (f : ℕ → ℕ → Bool) (k : ℕ) (rows : List ℕ) : Type 0 where
-  pub most : k ≤ capacity
-  pub long : length rows ≡ set_words * capacity
-  pub hold : (s : ℕ) → s < k → (t : ℕ) → mem (entry_at rows s) t ≡ f s t
-  pub rest : (s : ℕ) → k ≤ s → (t : ℕ) → mem (entry_at rows s) t ≡ false
+-- Rows filled by a loop, a given set at each.
+module _ (gives : ℕ → StateSet → Type 0) where
+  pub rows_none : RowsGiven gives 0 (replicate (set_words * capacity) 0)
+  rows_none = record { hold = λ s l. absurd (omega arith); rest = λ s l. entry_zeros _ (blank {A = ℕ} (set_words * capacity) 0) s }
 
-module _ (f : ℕ → ℕ → Bool) where
-  pub rows_none : RowsFilled f 0 (replicate (set_words * capacity) 0)
-  rows_none = record {
-    most = omega arith;
-    long = length-replicate {A = ℕ} (set_words * capacity) 0;
-    hold = λ s l. absurd (omega arith);
-    rest = λ s l. entry_zeros _ (blank {A = ℕ} (set_words * capacity) 0) s;
-  }
-
-  pub rows_more : (k : ℕ) (rows : List ℕ) (set : StateSet) → k < capacity → ((t : ℕ) → has set t ≡ f k t)
-      → RowsFilled f k rows → RowsFilled f (k + 1) (with_entry rows k set)
+  pub rows_more : (k : ℕ) (rows : List ℕ) (set : StateSet) → set_words * k + set_words ≤ length rows → gives k set
+      → RowsGiven gives k rows → RowsGiven gives (k + 1) (with_entry rows k set)
   unfolding has
-  rows_more k rows set l new old = record {
-    most = omega arith;
-    long = length_stored rows k set ∙ old.long;
-    hold = hold;
-    rest = λ s h t. rw (stored_other rows k s set (inl (omega arith))) (old.rest s (omega arith) t);
-  }
+  rows_more k rows set fits new old = record { hold = hold; rest = λ s h t. rw (stored_other rows k s set (inl (omega arith))) (old.rest s (omega arith) t) }
     where
-      hold : (s : ℕ) → s < k + 1 → (t : ℕ) → mem (entry_at (with_entry rows k set) s) t ≡ f s t
-      hold s h =
-          below_cases (λ i. (t : ℕ) → mem (entry_at (with_entry rows k set) i) t ≡ f i t) k s (rw add-one at h)
-          (λ t. rw (stored_same rows k set (omega (arith, old.long))) (new t))
-          (λ low t. rw (stored_other rows k s set (inr low)) (old.hold s low t))
+      Holds : ℕ → Type 0
+      Holds s = (x : StateSet) × gives s x × ((t : ℕ) → mem (entry_at (with_entry rows k set) s) t ≡ has x t)
 
--- The pairs of the rows, once the rows of all states that start a pair are filled.
-pub rows_filled : (n : ℕ) (f : ℕ → ℕ → Bool) (k : ℕ) (rows : List ℕ) → Between n f → ((s : ℕ) → s < capacity → s < n → s < k) → RowsFilled f k rows
+      hold : (s : ℕ) → s < k + 1 → Holds s
+      hold s h =
+          below_cases Holds k s (rw add-one at h) (set, new, λ t. ap (λ words. mem words t) (stored_same rows k set fits))
+          (λ low. let there = old.hold s low in (there.0, there.1, λ t. rw (stored_other rows k s set (inr low)) (there.2 t)))
+
+-- The pairs of rows that hold a given set for each state that a set can hold.
+pub rows_mem : (gives : ℕ → StateSet → Type 0) (f : ℕ → ℕ → Bool) (rows : List ℕ) → RowsGiven gives capacity rows
+    → ((s : ℕ) → s < capacity → (set : StateSet) → gives s set → (t : ℕ) → has set t ≡ f s t)
     → (s t : ℕ) → mem (entry_at rows s) t ≡ (ltb s capacity && f s t)
-rows_filled n f k rows between all filled s t = at (dec_lt s k)
+rows_mem gives f rows filled same s t = at (dec_lt s capacity)
   where
-    at : Dec (s < k) → mem (entry_at rows s) t ≡ (ltb s capacity && f s t)
-    at (yes l) = rw (lt-ltb s capacity (omega (arith, filled.most))) (filled.hold s l t)
-    at (no l) =
-        filled.rest s (omega arith) t
-        ∙ sym (not_true_false _ (λ h. l (all s (ltb-true s capacity (and_left (ltb s capacity) _ h)) (between s t (and_right (ltb s capacity) _ h)).0)))
+    at : Dec (s < capacity) → mem (entry_at rows s) t ≡ (ltb s capacity && f s t)
+    at (yes l) = let there = filled.hold s l in rw (lt-ltb s capacity l) (there.2 t ∙ same s l there.0 there.1 t)
+    at (no l) = rw (le-ltb s capacity (omega arith)) (filled.rest s (omega arith) t)

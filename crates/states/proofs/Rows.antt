@@ -2,8 +2,8 @@
 use Prim.Native.Nat.{ℕ, ◌*◌, ◌<◌, ◌≤◌}
 use native.Mathlib.Decide.{dec_lt}
 use native.Mathlib.Omega.{arith}
-use mathlib.Core.Path.{◌≡◌, refl, sym, ◌∙◌}
-use mathlib.Core.Bool.{Bool, true, false, ◌&&◌, ◌||◌, true≢false}
+use mathlib.Core.Path.{◌≡◌, refl, sym, ap, ◌∙◌}
+use mathlib.Core.Bool.{Bool, true, false, ◌&&◌, ◌||◌, true≢false, and-true}
 use mathlib.Core.List.{List}
 use lib.ListN.{length}
 use lib.Dec.{ltb, eqb}
@@ -79,6 +79,26 @@ row_starts n rows k enough t = bool_ext _ _ (λ h. there (any_true k _ h)) back
         any_intro k _ t (enough t (ltb-true t capacity (and_left (ltb t capacity) _ h)) (rel_between n rows t w.0 w.2).0 (row_long n rows t w.0 w.2))
         (and_both _ _ h (eq-eqb t t refl))
 
+-- The pairs of rows that hold the pairs of f for each state that a set can hold.
+pub rel_filled : (n : ℕ) (f : ℕ → ℕ → Bool) (rows : List ℕ) → ((s t : ℕ) → mem (entry_at rows s) t ≡ (ltb s capacity && f s t))
+    → (s t : ℕ) → rel n rows s t ≡ (ltb s capacity && ltb s n && ltb t n && f s t)
+unfolding rel
+rel_filled n f rows held s t = ap (λ b. ltb s n && ltb t n && b) (held s t) ∙ front (ltb s n) (ltb t n) (ltb s capacity) (f s t)
+  where
+    front : (a b c d : Bool) → (a && b && (c && d)) ≡ (c && a && b && d)
+    front true true c d = sym (ap (λ x. x && d) (and-true _ ∙ and-true c))
+    front true false true d = refl
+    front true false false d = refl
+    front false b true d = refl
+    front false b false d = refl
+
+-- If each pair of f is between states below n, no other test is left.
+pub rel_pairs : (n : ℕ) (f : ℕ → ℕ → Bool) (rows : List ℕ) → Between n f → ((s t : ℕ) → mem (entry_at rows s) t ≡ (ltb s capacity && f s t))
+    → (s t : ℕ) → rel n rows s t ≡ (ltb s capacity && f s t)
+rel_pairs n f rows between held s t =
+    bool_ext _ _ (λ h. sym (held s t) ∙ rel_mem n rows s t h)
+    (λ h. let ends = between s t (and_right (ltb s capacity) _ h) in rel_intro n rows s t ends.0 ends.1 (held s t ∙ h))
+
 -- The pairs of either of two relations.
 abbrev pub join_of : ℕ → List ℕ → List ℕ → ℕ → ℕ → Bool
 join_of n a b s t = rel n a s t || rel n b s t
@@ -89,6 +109,4 @@ join_between n a b = joined_between (rel n a) (rel n b) (rel_between n a) (rel_b
 -- The pairs of a union's rows.
 pub union_rel : (n : ℕ) (a b rows : List ℕ) → ((s t : ℕ) → mem (entry_at rows s) t ≡ (ltb s capacity && join_of n a b s t))
     → (s t : ℕ) → rel n rows s t ≡ (ltb s capacity && join_of n a b s t)
-union_rel n a b rows held s t =
-    bool_ext _ _ (λ h. sym (held s t) ∙ rel_mem n rows s t h)
-    (λ h. let between = join_between n a b s t (and_right (ltb s capacity) _ h) in rel_intro n rows s t between.0 between.1 (held s t ∙ h))
+union_rel n a b rows = rel_pairs n (join_of n a b) rows (join_between n a b)

@@ -4,7 +4,7 @@ ghost use Rattle.std.specs.Prelude.{◌≡◌, ◌↔◌, true, ◌&&◌, ◌||�
 ghost use Rattle.std.specs.Bool.{beq};
 ghost use Rattle.states.specs.Search.{implies, all, any};
 ghost use Rattle.states.specs.Sets.{set_words, capacity, mem, has, entry_at};
-ghost use Rattle.states.specs.Relations.{rel, Reached};
+ghost use Rattle.states.specs.Relations.{rel, RowsGiven, Reached};
 
 use crate::entries::{entry_at, put_entry};
 use crate::{CAPACITY, RELATION_WORDS, StateSet};
@@ -71,15 +71,23 @@ pub fn starting(n: u32, rows: &[u64]) -> StateSet
     found
 }
 
+// The relation with, for each state that a set can hold, the row that a call at it returns.
+pub fn rows_by<F: Fn(u32) -> StateSet>(row_of: F) -> [u64; RELATION_WORDS]
+    requires { (s : ℕ) → s < capacity → F.pre row_of s }
+    ensures { RowsGiven (F.post row_of) capacity result }
+{
+    let mut rows = [0u64; RELATION_WORDS];
+    for s in 0..CAPACITY {
+        put_entry(&mut rows, s as usize, row_of(s));
+    }
+    rows
+}
+
 // The pairs of a or b that start in a state that a set can hold, with a row for each such state.
 pub fn union_of(n: u32, a: &[u64], b: &[u64]) -> [u64; RELATION_WORDS]
     ensures { (s t : ℕ) → mem (entry_at result s) t ≡ (ltb s capacity && (rel n a.now s t || rel n b.now s t)) }
 {
-    let mut rows = [0u64; RELATION_WORDS];
-    for s in 0..rows_held(n) {
-        put_entry(&mut rows, s as usize, row(n, a, s).join(row(n, b, s)));
-    }
-    rows
+    rows_by(|s| row(n, a, s).join(row(n, b, s)))
 }
 
 fn row_included(n: u32, set: StateSet, a: &[u64], b: &[u64], s: u32) -> bool

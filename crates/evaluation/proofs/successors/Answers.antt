@@ -15,8 +15,9 @@ use mir.Syntax.{w64}
 use mir.Val.{SFits}
 use mir.Facts.{to_z-of_z}
 use Rattle.states.specs.Sets.{capacity, mem, entry_at}
+use Rattle.states.specs.Relations.{RowsGiven}
 use Rattle.states.proofs.Search.{bool_ext, and_right, and_both}
-use Rattle.states.proofs.EntryLaws.{RowsFilled, rows_none, rows_more}
+use Rattle.states.proofs.EntryLaws.{rows_none, rows_more}
 use Rattle.semantics.specs.Language.{int}
 use Rattle.semantics.specs.States.{Machine, store_of}
 use Rattle.semantics.specs.Conditions.{after_store}
@@ -32,7 +33,6 @@ use Rattle.evaluation.specs.Values.{leads_to, variable_in, is_small}
 use Rattle.evaluation.specs.Refinement.{value_in, Evaluated, stored_by}
 use Rattle.evaluation.proofs.Sizes.{split}
 use Rattle.evaluation.proofs.Laws.{states_most, after_below, small, variable_small, variable_states, store_variable}
-use Rattle.evaluation.proofs.successors.Invariants.{ends}
 use Rattle.evaluation.proofs.successors.Goals as goal
 
 no_integer : (m : Machine) (s v t : ℕ) (row : std.Option Values) → ((integers : List ℤ) → row ≡ Some (Integers integers) → ⊥)
@@ -69,7 +69,7 @@ module _ (head : Head) (table : List ℕ) (expr : ℕ) (row : std.Option Values)
       split s (machine_in head).states (λ l. rw (lt-ltb s (machine_in head).states l) (below s l t))
       (λ l. rw (le-ltb s (machine_in head).states l) (past s l t))
 
-  unfilled : ((integers : List ℤ) → row ≡ Some (Integers integers) → ⊥) → (rows : List ℕ) → RowsFilled (λ s t. false) 0 rows
+  unfilled : ((integers : List ℤ) → row ≡ Some (Integers integers) → ⊥) → (rows : List ℕ) → RowsGiven (λ s set. ⊥) 0 rows
       → (s t : ℕ) → mem (entry_at rows s) t ≡ (ltb s (machine_in head).states && after s t)
   unfilled other rows empty = filled rows (λ s l t. empty.rest s zero-le t ∙ nowhere other s l t) (λ s l. empty.rest s zero-le)
 
@@ -114,7 +114,7 @@ loop-s-preserved c =
     let integers = c.in-Some-Integers.integers in
     let integer : SFits w64 (get_or integers c.loop-s.s (pos 0)) = search rules in
     rw c.put_entry.ensures
-    (rows_more (ends x.result integers) c.loop-s.s _ _ (omega (arith, small _ (small_variable _ _ _ x.ensures)))
+    (rows_more _ c.loop-s.s _ _ (omega (arith, small _ (small_variable _ _ _ x.ensures)))
     (λ t. c.single.ensures t ∙ ap (λ e. ltb t capacity && eqb e t) (c.store-end.ensures ∙ ap (stored_by x.result c.loop-s.s) (to_z-of_z integer)))
     c.loop-s.invariant)
 
@@ -126,4 +126,5 @@ returns c =
     let known = rw c.in-Some-Integers.field-0-is at c.in-Some-Integers.ensures in
     let all : (machine_in c.args.head).states ≡ l.s = sym (variable_states c.args.head _) ∙ ap (λ y. y.states) (sym x.ensures) ∙ omega arith in
     filled _ _ _ _ known _ l.rows
-    (λ s h t. l.invariant.hold s (omega arith) t ∙ stores _ _ _ _ known _ _ refl _ x.ensures s h t) (λ s h. l.invariant.rest s (omega arith))
+    (λ s h t. let there = l.invariant.hold s (omega arith) in there.2 t ∙ there.1 t ∙ stores _ _ _ _ known _ _ refl _ x.ensures s h t)
+    (λ s h. l.invariant.rest s (omega arith))

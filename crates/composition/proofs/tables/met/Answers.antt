@@ -1,21 +1,14 @@
--- The loop has filled the rows below s.
-use native.Mathlib.Omega.{arith}
-use mathlib.Core.Path.{◌∙◌, ap₂}
+use borrow.Author.Rules.{rules}
 use mathlib.Core.Bool.{◌&&◌}
+use Rattle.states.specs.Relations.{rel}
 use Rattle.states.proofs.Search.{and_left}
+use Rattle.states.proofs.EntryLaws.{rows_mem}
 use Rattle.states.proofs.Rows.{rel_between}
-use Rattle.states.proofs.EntryLaws.{rows_none, rows_more}
 use Rattle.composition.proofs.Filled.{filled_rel}
 use Rattle.composition.proofs.tables.met.Goals as goal
 
-pub loop-s-init : goal.loop-s-init
-loop-s-init c = rows_none _
-
-pub loop-s-preserved : goal.loop-s-preserved
-loop-s-preserved c =
-    rw c.put_entry.ensures
-    (rows_more _ _ _ _ (omega arith) (λ t. c.meet.ensures t ∙ ap₂ ◌&&◌ (c.row.ensures t) (c.row-in-loop-s.ensures t))
-    c.loop-s.invariant)
-
 pub returns : goal.returns
-returns c most s t = filled_rel _ most _ _ _ c.loop-s-test.false c.loop-s.invariant (λ u v e. rel_between _ _ u v (and_left _ _ e)) s t
+returns c most =
+    let a = c.args in
+    filled_rel a.n most (λ s t. rel a.n a.a.now s t && rel a.n a.b.now s t) _ (λ s t e. rel_between _ _ s t (and_left _ _ e))
+    (rows_mem _ _ _ c.rows_by.ensures (λ s l set given. search rules))

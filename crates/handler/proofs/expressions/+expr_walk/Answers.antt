@@ -6,6 +6,7 @@ use native.Mathlib.Nat.{pos_of_ne-zero}
 use native.Mathlib.Omega.{arith}
 use borrow.Author.Rules.{rules}
 use Rattle.std.specs.Prelude.{Ok}
+use Rattle.std.specs.Result.{result_ok}
 use Rattle.handler.specs.declared.expressions.ExprHead.TheVariants.{Operation}
 use Rattle.handler.specs.Expressions.{expr_head, bad, expr_at}
 use Rattle.handler.specs.Shapes.{expr_shape}
@@ -49,16 +50,16 @@ returns-in_default t c =
       terms_stored = leaf_filled _ _ _ _ _ _ more _ head leaf _ _ (rw c.leaf_term.ensures.0 at c.store_term.ensures);
     }
 
-pub returns-in_default-row_of-clause-value : goal.returns-in_default-row_of-clause-value
-returns-in_default-row_of-clause-value t c =
+pub returns-in_err-a-clause-value : goal.returns-in_err-a-clause-value
+returns-in_err-a-clause-value t c =
     let head = sym c.expr_head_at.ensures ∙ c.in_ok-head.was ∙ ap Ok c.in-Operation.is in
-    absurd (row_used _ (room _ _ _ _ _ _ head).1 (sym c.row_of.ensures ∙ c.in_default-row_of.is))
+    absurd (row_used _ (room _ _ _ _ _ _ head).1 (sym c.row_of.ensures ∙ c.ok_or.ensures.ok_part ∙ ap result_ok c.in_err-a.was))
 
-pub returns-in_default-row_of-clause-terms_stored :
-    goal.returns-in_default-row_of-clause-terms_stored
-returns-in_default-row_of-clause-terms_stored t c =
+pub returns-in_err-a-clause-terms_stored :
+    goal.returns-in_err-a-clause-terms_stored
+returns-in_err-a-clause-terms_stored t c =
     let head = sym c.expr_head_at.ensures ∙ c.in_ok-head.was ∙ ap Ok c.in-Operation.is in
-    absurd (row_used _ (room _ _ _ _ _ _ head).1 (sym c.row_of.ensures ∙ c.in_default-row_of.is))
+    absurd (row_used _ (room _ _ _ _ _ _ head).1 (sym c.row_of.ensures ∙ c.ok_or.ensures.ok_part ∙ ap result_ok c.in_err-a.was))
 
 pub expr_walk-requires : goal.expr_walk-requires
 expr_walk-requires t c =
@@ -68,7 +69,7 @@ expr_walk-requires t c =
 pub returns-in_err-left-clause-value : goal.returns-in_err-left-clause-value
 returns-in_err-left-clause-value t c =
     let head = sym c.expr_head_at.ensures ∙ c.in_ok-head.was ∙ ap Ok c.in-Operation.is in
-    let row = sym c.row_of.ensures ∙ c.in-Kinds.is in
+    let row = sym c.row_of.ensures ∙ c.ok_or.ensures.ok_part ∙ ap result_ok c.in_ok-a.was in
     let left = sym c.expr_walk.ensures.value ∙ c.in_err-left.was in
     rw (← left_operand_fault _ _ _ _ _ _ _ (pos_of_ne-zero c.if-levels-eq0.false) head c.args.wanted _ _ _ row _ left) (search rules)
 
@@ -77,7 +78,7 @@ pub returns-in_err-left-clause-terms_stored :
 returns-in_err-left-clause-terms_stored t c =
     let more = pos_of_ne-zero c.if-levels-eq0.false in
     let head = sym c.expr_head_at.ensures ∙ c.in_ok-head.was ∙ ap Ok c.in-Operation.is in
-    let row = sym c.row_of.ensures ∙ c.in-Kinds.is in
+    let row = sym c.row_of.ensures ∙ c.ok_or.ensures.ok_part ∙ ap result_ok c.in_ok-a.was in
     let left = sym c.expr_walk.ensures.value ∙ c.in_err-left.was in
     expr_fault_filled _ _ _ _ _ _ more c.args.wanted _ _ _ (left_operand_fault _ _ _ _ _ _ _ more head _ _ _ _ row _ left)
 
@@ -98,7 +99,7 @@ expr_walk-requires-2 t c =
 pub returns-in_err-right-clause-value : goal.returns-in_err-right-clause-value
 returns-in_err-right-clause-value t c =
     let head = sym c.expr_head_at.ensures ∙ c.in_ok-head.was ∙ ap Ok c.in-Operation.is in
-    let row = sym c.row_of.ensures ∙ c.in-Kinds.is in
+    let row = sym c.row_of.ensures ∙ c.ok_or.ensures.ok_part ∙ ap result_ok c.in_ok-a.was in
     let left = sym c.expr_walk.ensures.value ∙ c.in_ok-left.was in
     let right = sym c.expr_walk-2.ensures.value ∙ c.in_err-right.was in
     rw (← right_operand_fault _ _ _ _ _ _ _ (pos_of_ne-zero c.if-levels-eq0.false) head c.args.wanted _ _ _ row _ left _ right) (search rules)
@@ -108,7 +109,7 @@ pub returns-in_err-right-clause-terms_stored :
 returns-in_err-right-clause-terms_stored t c =
     let more = pos_of_ne-zero c.if-levels-eq0.false in
     let head = sym c.expr_head_at.ensures ∙ c.in_ok-head.was ∙ ap Ok c.in-Operation.is in
-    let row = sym c.row_of.ensures ∙ c.in-Kinds.is in
+    let row = sym c.row_of.ensures ∙ c.ok_or.ensures.ok_part ∙ ap result_ok c.in_ok-a.was in
     let left = sym c.expr_walk.ensures.value ∙ c.in_ok-left.was in
     let right = sym c.expr_walk-2.ensures.value ∙ c.in_err-right.was in
     expr_fault_filled _ _ _ _ _ _ more c.args.wanted _ _ _ (right_operand_fault _ _ _ _ _ _ _ more head _ _ _ _ row _ left _ right)
@@ -128,7 +129,7 @@ overflow_add-result-2 t c =
 pub returns-clause-value : goal.returns-clause-value
 returns-clause-value t c =
     let head = sym c.expr_head_at.ensures ∙ c.in_ok-head.was ∙ ap Ok c.in-Operation.is in
-    let row = sym c.row_of.ensures ∙ c.in-Kinds.is in
+    let row = sym c.row_of.ensures ∙ c.ok_or.ensures.ok_part ∙ ap result_ok c.in_ok-a.was in
     let left = sym c.expr_walk.ensures.value ∙ c.in_ok-left.was in
     let right = sym c.expr_walk-2.ensures.value ∙ c.in_ok-right.was in
     rw (c.wanted_of.ensures, c.or.ensures)

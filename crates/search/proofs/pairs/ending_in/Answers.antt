@@ -1,23 +1,15 @@
--- Row s is the row of the relation, met with the set. The loop has filled the rows below s.
-use native.Mathlib.Omega.{arith}
-use mathlib.Core.Path.{◌∙◌, ap}
+-- Row s is the row of the relation, met with the set.
+use borrow.Author.Rules.{rules}
 use mathlib.Core.Bool.{◌&&◌}
 use Rattle.states.specs.Sets.{has}
+use Rattle.states.specs.Relations.{rel}
 use Rattle.states.proofs.Search.{and_left}
-use Rattle.states.proofs.Rows.{rel_between}
-use Rattle.states.proofs.EntryLaws.{rows_none, rows_more}
-use Rattle.search.proofs.Breaches.{rel_pairs}
+use Rattle.states.proofs.EntryLaws.{rows_mem}
+use Rattle.states.proofs.Rows.{rel_between, rel_pairs}
 use Rattle.search.proofs.pairs.ending_in.Goals as goal
 
-pub loop-s-preserved : goal.loop-s-preserved
-loop-s-preserved c =
-    rw c.put_entry.ensures
-    (rows_more _ _ _ _ (omega arith) (λ t. c.meet.ensures t ∙ ap (λ b. b && has c.args.set t) (c.row.ensures t)) c.loop-s.invariant)
-
 pub returns : goal.returns
-returns c s t =
+returns c =
     let a = c.args in
-    rel_pairs a.n _ _ _ c.loop-s-test.false c.loop-s.invariant (λ u v e. rel_between a.n a.rows.now u v (and_left _ (has a.set v) e)) s t
-
-pub loop-s-init : goal.loop-s-init
-loop-s-init c = rows_none _
+    rel_pairs a.n (λ s t. rel a.n a.rows.now s t && has a.set t) _ (λ s t e. rel_between a.n a.rows.now s t (and_left _ _ e))
+    (rows_mem _ _ _ c.rows_by.ensures (λ s l set given. search rules))

@@ -1,20 +1,21 @@
--- Row s is the row of the relation, joined with s. The loop has filled the rows below s.
+-- Row s is the row of the relation, joined with s.
 use Prim.Native.Nat.{ℕ, ◌<◌}
-use native.Mathlib.Omega.{arith}
-use mathlib.Core.Path.{◌≡◌, refl, ◌∙◌, ap₂}
+use mathlib.Core.Path.{◌≡◌, refl, ◌∙◌}
 use mathlib.Core.Logic.{⊎_elim}
 use mathlib.Core.Bool.{Bool, true, false, ◌&&◌, ◌||◌, and_assoc}
 use mathlib.Core.List.{List}
 use lib.Dec.{ltb, eqb}
+use borrow.Author.Rules.{rules}
 use borrow.Author.Tests.{lt-ltb, ltb-true, eqb-true}
 use Rattle.states.specs.Sets.{capacity}
 use Rattle.states.specs.Relations.{rel}
 use Rattle.states.proofs.Search.{and_left, and_right, and_both, or_left, or_right, or_cases, bool_ext}
-use Rattle.states.proofs.Rows.{rel_between}
-use Rattle.states.proofs.EntryLaws.{rows_none, rows_more}
-use Rattle.search.proofs.Breaches.{rel_filled}
-use Rattle.search.proofs.pairs.with_same.Invariants.{filling}
+use Rattle.states.proofs.Rows.{rel_between, rel_filled}
+use Rattle.states.proofs.EntryLaws.{rows_mem}
 use Rattle.search.proofs.pairs.with_same.Goals as goal
+
+abbrev filling : ℕ → List ℕ → ℕ → ℕ → Bool
+filling n rows s t = ltb t capacity && eqb s t || rel n rows s t
 
 -- The bounds of t follow from those of s, or from the pair.
 bounded : (n : ℕ) (rows : List ℕ) (s t : ℕ) → s < capacity → s < n → (ltb t n && filling n rows s t) ≡ (eqb s t || rel n rows s t)
@@ -35,18 +36,10 @@ and_given : (a b c : Bool) → (a ≡ true → b ≡ c) → (a && b) ≡ (a && c
 and_given true b c h = h refl
 and_given false b c h = refl
 
-pub loop-s-preserved : goal.loop-s-preserved
-loop-s-preserved c =
-    rw c.put_entry.ensures
-    (rows_more _ _ _ _ (omega arith) (λ t. c.join.ensures t ∙ ap₂ ◌||◌ (c.single.ensures t) (c.row.ensures t))
-    c.loop-s.invariant)
-
 pub returns : goal.returns
 returns c s t =
     let a = c.args in
-    rel_filled a.n _ _ _ c.loop-s-test.false c.loop-s.invariant s t ∙ and_assoc (ltb s capacity && ltb s a.n) _ _
+    rel_filled a.n _ _ (rows_mem _ (filling a.n a.rows.now) _ c.rows_by.ensures (λ s l set given. search rules)) s t
+    ∙ and_assoc (ltb s capacity && ltb s a.n) _ _
     ∙ and_given (ltb s capacity && ltb s a.n) _ _ (λ h. bounded a.n a.rows.now s t
     (ltb-true s capacity (and_left _ (ltb s a.n) h)) (ltb-true s a.n (and_right (ltb s capacity) _ h)))
-
-pub loop-s-init : goal.loop-s-init
-loop-s-init c = rows_none _
