@@ -2,9 +2,8 @@
 -- 3, the output buffer is too short.
 use Rattle.std.specs.Prelude.{ℕ, cond, List, ◌++◌, ltb, length, drop, Result, Ok, Err}
 use Rattle.pair.specs.Reading.{states_of, PairRead, pair, faulty, long, read_pair}
-use Rattle.search.specs.declared.Named.TheVariants.{Nothing}
-use Rattle.checker.specs.declared.Place.TheVariants.{Bit}
 use Rattle.checker.specs.declared.Fault.{Fault}
+use Rattle.checker.specs.Verdicts.{at_bit}
 use Rattle.form.specs.Members.{by_members}
 use Rattle.form.specs.Form.{form_of}
 
@@ -26,7 +25,7 @@ canonical hb pb = form_in pb (read_pair hb pb)
 -- The answer to a form where there is so much room: the length that was written, or the fault; 3 if the room is too short. It is a
 -- verdict whose number is the length, so it has a verdict's line and code.
 abbrev pub turned_away : ℕ → ℕ → Result ℕ Fault
-turned_away k place = Err (record { number = k; place = Bit place; states = Nothing })
+turned_away k place = Err (at_bit k place)
 
 unfoldable pub outcome : Form → ℕ → Result ℕ Fault
 outcome (fault k place) room = turned_away k place

@@ -17,7 +17,7 @@ use Rattle.handler.specs.Header.{head_of}
 use Rattle.joint.proofs.Sizes.{sizes_same}
 use Rattle.joint.specs.Joining.{root_spec}
 use Rattle.joint.specs.Composing.{Side, N, met_p_kept, second_allowed, first_allowed, limited, Composition, asked, same_sizes, stays_in, composition}
-use Rattle.composition.specs.Refinement.{first_unmet, unless}
+use Rattle.composition.specs.Refinement.{first_unmet, if_met}
 
 -- Heads with equal counts are padded alike, so all four sizes can be compared.
 abbrev alike : Head → Head → Bool
@@ -74,7 +74,7 @@ module _ (h h' : List ℕ) (a b : Side) (steps : ℕ) where
 
   -- They are what the definition asks of both sides.
   pub asked_by_number : composition h h' a b steps
-      ≡ asked 90 (same_sizes a.sizes b.sizes) (unless unmet_here (limited h h' a b steps))
+      ≡ asked 90 (same_sizes a.sizes b.sizes) (if_met unmet_here (limited h h' a b steps))
   unfolding composition first_unmet
   asked_by_number =
       ap (asked 90 (same_sizes a.sizes b.sizes))
@@ -82,7 +82,7 @@ module _ (h h' : List ℕ) (a b : Side) (steps : ℕ) where
     where
       by : (x y z : Bool) (next : Composition)
           → asked 91 x (asked 92 y (asked 93 z next))
-          ≡ unless (cond x (cond y (cond z (Ok tt) (Err 93)) (Err 92)) (Err 91)) next
+          ≡ if_met (cond x (cond y (cond z (Ok tt) (Err 93)) (Err 92)) (Err 91)) next
       by true true true next = refl
       by true true false next = refl
       by true false z next = refl

@@ -7,7 +7,7 @@ use lib.Dec.{leb}
 use lib.ListN.{length}
 use Rattle.std.specs.Prelude.{Result, Ok, Err, ⊤}
 use Rattle.joint.specs.Composing.{Composition, made, with_room}
-use Rattle.composition.specs.Refinement.{lengths_fit, length_fault, if_fit, unless}
+use Rattle.composition.specs.Refinement.{lengths_fit, length_fault, if_fit, if_met}
 
 -- The fault by the two tests.
 abbrev fault_of : Bool → Bool → Result ⊤ ℕ
@@ -28,13 +28,13 @@ module _ (handler proof : List ℕ) (steps room space : ℕ) where
 
   -- The answer by the tests.
   by_tests : (t u : Bool) → limits ≡ t → fits ≡ u
-      → whole ≡ unless (fault_of t u) (made steps handler proof)
+      → whole ≡ if_met (fault_of t u) (made steps handler proof)
   unfolding with_room
   by_tests true true l f = rw (l, f)
   by_tests true false l f = rw (l, f)
   by_tests false u l f = rw l
 
   -- The lengths decide.
-  pub by_fault : (r : Result ⊤ ℕ) → fault ≡ r → whole ≡ unless r (made steps handler proof)
+  pub by_fault : (r : Result ⊤ ℕ) → fault ≡ r → whole ≡ if_met r (made steps handler proof)
   unfolding length_fault
-  by_fault r e = subst (λ x. whole ≡ unless x (made steps handler proof)) e (by_tests limits fits refl refl)
+  by_fault r e = subst (λ x. whole ≡ if_met x (made steps handler proof)) e (by_tests limits fits refl refl)

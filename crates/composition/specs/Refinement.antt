@@ -270,13 +270,13 @@ pub record SameStates (n : ℕ) (h p h' p' : List ℕ) (x : Handlers) : Type 0 w
   pub second_handler : HandlerOf (side_of h' p') x.second
 
 -- What follows where nothing is unmet, or the refusal of what is.
-abbrev pub unless : Result ⊤ ℕ → Composition → Composition
-unless (Ok x) next = next
-unless (Err k) next = refused 0 (plain k)
+abbrev pub if_met : Result ⊤ ℕ → Composition → Composition
+if_met (Ok x) next = next
+if_met (Err k) next = refused 0 (plain k)
 
 -- The result over the same variables: 91 to 93, then the rest.
 unfoldable pub met_of : ℕ → List ℕ → List ℕ → Side → Side → ℕ → Composition
-met_of n h h' A B steps = unless (first_unmet n A.tables B.tables) (limited h h' A B steps)
+met_of n h h' A B steps = if_met (first_unmet n A.tables B.tables) (limited h h' A B steps)
 
 -- An answer whose parts are small enough for one number of 64 bits.
 abbrev pub Small : Composed → Type 0

@@ -2,9 +2,7 @@
 use Rattle.std.specs.Prelude.{ℕ, ◌+◌, ◌*◌, Bool, not, cond, ◌||◌, List, [], ◌∷◌, ◌++◌, ltb, Result, Ok, Err}
 use Rattle.std.proofs.Math.Option.{Option, none, some}
 use Rattle.pair.specs.Modes.{rows}
-use Rattle.search.specs.declared.Named.TheVariants.{Nothing}
 use Rattle.checker.specs.declared.Fault.{Fault}
-use Rattle.checker.specs.declared.Place.TheVariants.{Bit}
 use Rattle.checker.specs.Verdicts.{Verdict}
 use Rattle.checker.specs.Verdicts as Verdicts
 use Rattle.frame.specs.declared.Frame.{Frame}
@@ -19,20 +17,20 @@ Answer = Result (Unit {0}) Refusal
 
 -- The numbers of the refusals. Those without a place of their own are at bit 0.
 abbrev pub at_bit0 : ℕ → Fault
-at_bit0 k = record { number = k; place = Bit 0; states = Nothing }
+at_bit0 k = Verdicts.at_bit k 0
 
-abbrev pub fault_of : Refusal → Fault
-fault_of NoSuchPlace = at_bit0 100
-fault_of Taken = at_bit0 101
-fault_of NotTaken = at_bit0 101
-fault_of Malformed = at_bit0 102
-fault_of WrongTicks = at_bit0 104
-fault_of (Check fault) = fault
-fault_of NoRoom = at_bit0 103
+abbrev pub refusal_fault : Refusal → Fault
+refusal_fault NoSuchPlace = at_bit0 100
+refusal_fault Taken = at_bit0 101
+refusal_fault NotTaken = at_bit0 101
+refusal_fault Malformed = at_bit0 102
+refusal_fault WrongTicks = at_bit0 104
+refusal_fault (Check fault) = fault
+refusal_fault NoRoom = at_bit0 103
 
 abbrev pub as_verdict : Answer → Verdict
 as_verdict (Ok x) = Ok 0
-as_verdict (Err why) = Err (fault_of why)
+as_verdict (Err why) = Err (refusal_fault why)
 
 -- A reason to turn a call away: whether it is there, and its refusal. The first that is there is given.
 pub record Reason : Type 0 where

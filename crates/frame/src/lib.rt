@@ -3,7 +3,7 @@
 #![tactic(auto)]
 
 ghost use Rattle.std.specs.Prelude.{◌≡◌};
-ghost use Rattle.frame.specs.Calls.{fault_of};
+ghost use Rattle.frame.specs.Calls.{refusal_fault};
 
 use checker::{Fault, Place};
 use search::Named;
@@ -20,7 +20,7 @@ pub struct Slot {
 }
 
 // The record of a core: the length of its frame in ticks, and the slots in order of admission, of which the first `count` are held. A host
-// lends it as 50 numbers (`handover_admit`), and a count over 16 is answered with 102, so the count stands beside the slots.
+// lends it as 50 numbers (`handover_admit`), and a count over 16 is answered with 102, so the count is a field of its own.
 #[derive(Clone, Copy)]
 pub struct Frame {
     pub length: u32,
@@ -49,7 +49,7 @@ pub struct Outcome {
 
 // The refusal with its number. Those that are not the check's have no place of their own, and are at bit 0.
 impl From<Refusal> for Fault {
-    ghost from_gives = { λ refusal fault. fault ≡ fault_of refusal };
+    ghost from_gives = { λ refusal fault. fault ≡ refusal_fault refusal };
 
     fn from(refusal: Refusal) -> Fault {
         let number = match refusal {

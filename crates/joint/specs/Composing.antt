@@ -17,10 +17,8 @@ use Rattle.pair.specs.Limits.{most_handler_bytes, most_proof_bytes, too_long}
 use Rattle.pair.specs.Reading.{states_of, PairRead, pair, faulty, long, read_pair}
 use Rattle.pair.specs.Modes as Modes
 use Rattle.pair.specs.Modes.{rows}
-use Rattle.search.specs.declared.Named.TheVariants.{Nothing}
-use Rattle.checker.specs.declared.Place.TheVariants.{Bit}
 use Rattle.checker.specs.declared.Fault.{Fault}
-use Rattle.checker.specs.Verdicts.{Verdict, answer}
+use Rattle.checker.specs.Verdicts.{Verdict, at_bit, answer}
 use Rattle.form.specs.Members.{by_members}
 use Rattle.form.specs.Form.{sets_in, relations_in, form_of}
 use Rattle.joint.specs.Joining.{root_spec, joined, handler_parts}
@@ -65,7 +63,7 @@ pub data Composition : Type 0 where
 
 -- A fault with no place of its own is at bit 0.
 abbrev pub plain : ℕ → Fault
-plain k = record { number = k; place = Bit 0; states = Nothing }
+plain k = at_bit k 0
 
 -- What is asked of both pairs together: k, unless it holds.
 abbrev pub asked : ℕ → Bool → Composition → Composition
