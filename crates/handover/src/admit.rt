@@ -126,7 +126,8 @@ fn write_table(
     Some(end)
 }
 
-// Tries the guests that the arguments name, and prints the table, unless an argument cannot be read.
+// Tries the guests that the arguments name, and prints the table, unless an argument cannot be read. Not inlined, as `do_with_files`.
+#[inline(never)]
 pub(crate) fn admit_arguments(rt: &HostRuntime, guests: usize) -> Option<()>
     requires { guests ≤ 16 }
 {

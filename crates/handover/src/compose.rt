@@ -33,6 +33,7 @@ fn save_arguments(rt: &HostRuntime, handler: &[u8], proof: &[u8]) -> Option<()> 
 }
 
 // Composes two pairs, writes the files and prints the step number, or the line of a refusal.
+#[tactic(auto, using(crate::proofs::Room::composed_within))]
 fn compose_files(rt: &HostRuntime, h1: &[u8], p1: &[u8], h2: &[u8], p2: &[u8]) -> Option<()> {
     let mut work = [0u64; WORK_WORDS];
     let mut handler = [0u8; MOST_HANDLER_BYTES];
@@ -48,7 +49,8 @@ fn compose_files(rt: &HostRuntime, h1: &[u8], p1: &[u8], h2: &[u8], p2: &[u8]) -
     }
 }
 
-// Composes the pairs that the arguments name, unless a file cannot be read.
+// Composes the pairs that the arguments name, unless a file cannot be read. Not inlined, as `do_with_files`.
+#[inline(never)]
 pub(crate) fn compose_arguments(rt: &HostRuntime) -> Option<()> {
     let mut h1 = [0u8; HANDLER_BYTES];
     let h1 = read_argument(rt, FIRST_READ, &mut h1)?;

@@ -183,7 +183,9 @@ const HANDLER_BYTES: usize = MOST_HANDLER_BYTES + 1;
 
 const PROOF_BYTES: usize = MOST_PROOF_BYTES + 1;
 
-// Reads the files at the two paths and does the task with them, unless one of them cannot be read.
+// Reads the files at the two paths and does the task with them, unless one of them cannot be read. It is not inlined: otherwise the buffers
+// of every command are in the frame of `main`, and each command needs the stack of all.
+#[inline(never)]
 fn do_with_files<T: FnOnce(&HostRuntime, Given<'_>, Given<'_>) -> Option<()>>(
     rt: &HostRuntime,
     handler_path: &[u8],
@@ -228,7 +230,8 @@ fn read_argument<'a>(rt: &HostRuntime, i: usize, buf: &'a mut [u8]) -> Option<&'
     read_file(rt, argument(rt, i, &mut name), buf)
 }
 
-// Does the task with the files that the arguments from `first` on name: the handler and the proof.
+// Does the task with the files that the arguments from `first` on name: the handler and the proof. Not inlined either.
+#[inline(never)]
 fn do_with_arguments<T: FnOnce(&HostRuntime, Given<'_>, Given<'_>) -> Option<()>>(
     rt: &HostRuntime,
     first: usize,

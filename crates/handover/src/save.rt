@@ -1,7 +1,7 @@
 // A file is replaced as a whole or not at all: the bytes go into a new file beside it, which then takes its name.
 //
 // Whatever fails is named on standard error, and then the result is None; the old file is then as it was, and the new one is removed.
-ghost use Rattle.std.specs.Prelude.{◌≡◌, ◌<◌, length, OnSome};
+ghost use Rattle.std.specs.Prelude.{◌≡◌, ◌+◌, ◌<◌, length, OnSome};
 ghost use Rattle.handover.specs.Path.{Ended};
 
 use super::failure::{or_fail, write_error};
@@ -152,6 +152,7 @@ fn ended(path: &[u8]) -> [u8; PATH_MAX]
 // Puts the name of the new file beside the one at a path at the start of `room`.
 fn new_name<'a>(path: &[u8], room: &'a mut [u8; PATH_MAX]) -> &'a [u8]
     requires { length path.now < 4092 }
+    ensures { length result.now ≡ length path.now + 4 }
 {
     let n = path.len();
     *room = ended(path);
