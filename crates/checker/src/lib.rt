@@ -136,13 +136,16 @@ pub fn check(handler: &[u8], proof: &[u8], mode: Mode, work: &mut [u64]) -> Verd
         return Err(at_bit(FEW_WORDS, 0));
     }
     let mut exprs = [0u32; MOST_TERMS];
-    let file = load_pair(handler, proof, mode, &mut exprs, work)?;
-    check_read(
-        &exprs,
-        file.head,
-        &file.statements,
-        &file.nodes,
-        file.read,
-        work,
-    )
+    // By reference, not with `?`, which would make three copies of the pair.
+    match &load_pair(handler, proof, mode, &mut exprs, work) {
+        Ok(file) => check_read(
+            &exprs,
+            file.head,
+            &file.statements,
+            &file.nodes,
+            file.read,
+            work,
+        ),
+        Err(fault) => Err(Fault::from(*fault)),
+    }
 }

@@ -1,12 +1,13 @@
 // A pair of files, read: both within their length, the handler file, and then the proof file over its N.
 #![tactic(auto)]
 
-ghost use Rattle.std.specs.Prelude.{◌≡◌};
+ghost use Rattle.std.specs.Prelude.{◌≡◌, ℕ, List, Err};
 ghost use Rattle.derivation.specs.Reading.{read_proof, proof_file};
 ghost use Rattle.derivation.specs.Tables.{written};
+ghost use Rattle.pair.specs.declared.Mode.{Mode};
 ghost use Rattle.pair.specs.declared.PairFault.TheVariants.{At};
 ghost use Rattle.pair.specs.Limits.{too_long};
-ghost use Rattle.pair.specs.Reading.{read_pair, pair_file, terms_read};
+ghost use Rattle.pair.specs.Reading.{PairRead, read_pair, pair_file, terms_read};
 ghost use Rattle.pair.specs.Modes.{rows, work_read};
 ghost use Rattle.pair.specs.Refinement.{file_over, word_limited};
 
@@ -134,6 +135,16 @@ fn fill_by(proof: &[u8], mode: Mode, n: u32, head: ProofHead, work: &mut [u64])
     }
 }
 
+// The work words after a fault are 0, and untouched where a file is too long.
+fn clear_after(fault: PairFault, work: &mut [u64])
+    ensures { (pb : List ℕ) (mode : Mode) (read : PairRead) → pair_file read ≡ Err fault → work.new ≡ work_read pb mode read work.old }
+{
+    match fault {
+        PairFault::At(_) => clear(work),
+        PairFault::TooLong => {}
+    }
+}
+
 // Reads two files, and leaves the nodes of the expressions in `exprs` and the tables of the pair in the work words. Where a file is too long
 // both are untouched. After a fault the work words are 0, and so is `exprs` if the fault is one of the handler file.
 pub fn load_pair(
@@ -147,15 +158,11 @@ pub fn load_pair(
     ensures terms { exprs.new ≡ terms_read handler.now proof.now exprs.old }
     ensures tables { work.new ≡ work_read proof.now mode (read_pair handler.now proof.now) work.old }
 {
-    match read_files(handler, proof, exprs) {
-        Ok(file) => {
-            fill_by(proof, mode, file.head.states, file.read.proof, work);
-            Ok(file)
-        }
-        Err(PairFault::At(fault)) => {
-            clear(work);
-            Err(PairFault::At(fault))
-        }
-        Err(PairFault::TooLong) => Err(PairFault::TooLong),
+    let found = read_files(handler, proof, exprs);
+    // By reference, so that the pair is not copied.
+    match &found {
+        Ok(file) => fill_by(proof, mode, file.head.states, file.read.proof, work),
+        Err(fault) => clear_after(*fault, work),
     }
+    found
 }

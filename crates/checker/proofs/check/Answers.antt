@@ -14,7 +14,6 @@ use Rattle.pair.specs.declared.Mode.{Mode}
 use Rattle.pair.specs.declared.PairFile.{PairFile}
 use Rattle.pair.specs.declared.PairFault.{PairFault}
 use Rattle.pair.specs.declared.PairFault.TheVariants.{TooLong, At}
-use borrow.Author.Rules.{rules}
 use Rattle.std.specs.Prelude.{Ok, Err}
 use Rattle.checker.specs.Verdicts.{Verdict, unread, answer, work_after, AcceptedIsSound}
 use Rattle.pair.specs.Reading.{terms_read}
@@ -63,26 +62,25 @@ returns-then-work-lt-WORK_WORDS c =
     let a = c.args in
     promised a.handler.now a.proof.now a.mode a.work.now _ _ _ (few_words _ _ _ _ c.if-work-lt-WORK_WORDS.true) (ap Err c.at_bit.ensures) refl
 
-pub returns-in_err-file : goal.returns-in_err-file
-returns-in_err-file c =
+pub returns-in-Err : goal.returns-in-Err
+returns-in-Err c =
     let a = c.args in
-    let said : c.from_residual.result ≡ Err (unread c.in_err-file.field-0.0) = search rules in
-    not_read a.handler.now a.proof.now a.mode a.work.now _ _ (sym c.load_pair.ensures.answer ∙ c.in_err-file.was) c.load_pair.ensures.tables
-    c.if-work-lt-WORK_WORDS.false _ said
+    not_read a.handler.now a.proof.now a.mode a.work.now _ _ (sym c.load_pair.ensures.answer ∙ c.in-Err.is) c.load_pair.ensures.tables
+    c.if-work-lt-WORK_WORDS.false _ (ap Err c.from.ensures)
 
 pub check_read-requires : goal.check_read-requires
 check_read-requires c =
     let a = c.args in
     let p = c.load_pair in
-    lent a.handler.now a.proof.now a.mode a.work.now _ _ c.in_ok-file.file (sym c.in_ok-file.was ∙ p.ensures.answer) p.ensures.terms p.ensures.tables
+    lent a.handler.now a.proof.now a.mode a.work.now _ _ c.in-Ok.file (sym c.in-Ok.is ∙ p.ensures.answer) p.ensures.terms p.ensures.tables
     c.if-work-lt-WORK_WORDS.false
 
-pub returns : goal.returns
+pub returns-in-Ok : goal.returns-in-Ok
 unfolding lent
-returns c =
+returns-in-Ok c =
     let a = c.args in
     let p = c.load_pair in
-    let l = lent a.handler.now a.proof.now a.mode a.work.now _ _ c.in_ok-file.file (sym c.in_ok-file.was ∙ p.ensures.answer) p.ensures.terms p.ensures.tables
+    let l = lent a.handler.now a.proof.now a.mode a.work.now _ _ c.in-Ok.file (sym c.in-Ok.is ∙ p.ensures.answer) p.ensures.terms p.ensures.tables
     c.if-work-lt-WORK_WORDS.false in
     promised a.handler.now a.proof.now a.mode a.work.now _ _ _ (as_read _ _ _ _ c.if-work-lt-WORK_WORDS.false _ l.read)
     (c.check_read.ensures.verdict l) (rw (writes a.proof.now a.mode l.held) (c.check_read.ensures.words l))
