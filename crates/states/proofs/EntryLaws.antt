@@ -120,12 +120,20 @@ module _ (gives : ℕ → StateSet → Type 0) where
           below_cases Holds k s (rw add-one at h) (set, new, λ t. ap (λ words. mem words t) (stored_same rows k set fits))
           (λ low. let there = old.hold s low in (there.0, there.1, λ t. rw (stored_other rows k s set (inr low)) (there.2 t)))
 
--- The pairs of rows that hold a given set for each state that a set can hold.
+-- The pairs of rows that hold a given set for each of the first k states, where no other state that a set can hold starts a pair.
+pub rows_mem_to : (k : ℕ) (gives : ℕ → StateSet → Type 0) (f : ℕ → ℕ → Bool) (rows : List ℕ) → k ≤ capacity → RowsGiven gives k rows
+    → ((s : ℕ) → s < k → (set : StateSet) → gives s set → (t : ℕ) → has set t ≡ f s t)
+    → ((s t : ℕ) → k ≤ s → s < capacity → f s t ≡ false)
+    → (s t : ℕ) → mem (entry_at rows s) t ≡ (ltb s capacity && f s t)
+rows_mem_to k gives f rows most filled same none s t = at (dec_lt s k) (dec_lt s capacity)
+  where
+    at : Dec (s < k) → Dec (s < capacity) → mem (entry_at rows s) t ≡ (ltb s capacity && f s t)
+    at (yes l) d = let there = filled.hold s l in rw (lt-ltb s capacity (omega arith)) (there.2 t ∙ same s l there.0 there.1 t)
+    at (no l) (yes m) = rw (lt-ltb s capacity m) (filled.rest s (omega arith) t ∙ sym (none s t (omega arith) m))
+    at (no l) (no m) = rw (le-ltb s capacity (omega arith)) (filled.rest s (omega arith) t)
+
+-- The same of rows that hold a set for each state that a set can hold.
 pub rows_mem : (gives : ℕ → StateSet → Type 0) (f : ℕ → ℕ → Bool) (rows : List ℕ) → RowsGiven gives capacity rows
     → ((s : ℕ) → s < capacity → (set : StateSet) → gives s set → (t : ℕ) → has set t ≡ f s t)
     → (s t : ℕ) → mem (entry_at rows s) t ≡ (ltb s capacity && f s t)
-rows_mem gives f rows filled same s t = at (dec_lt s capacity)
-  where
-    at : Dec (s < capacity) → mem (entry_at rows s) t ≡ (ltb s capacity && f s t)
-    at (yes l) = let there = filled.hold s l in rw (lt-ltb s capacity l) (there.2 t ∙ same s l there.0 there.1 t)
-    at (no l) = rw (le-ltb s capacity (omega arith)) (filled.rest s (omega arith) t)
+rows_mem gives f rows filled same = rows_mem_to capacity gives f rows (omega arith) filled same (λ s t past low. absurd (omega arith))

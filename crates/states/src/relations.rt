@@ -71,23 +71,32 @@ pub fn starting(n: u32, rows: &[u64]) -> StateSet
     found
 }
 
-// The relation with, for each state that a set can hold, the row that a call at it returns.
+// The relation with, for each of the first `count` states, the row that a call at it returns; the other rows are empty.
+fn rows_to<F: Fn(u32) -> StateSet>(count: u32, row_of: F) -> [u64; RELATION_WORDS]
+    requires few { count ≤ capacity }
+    requires callable { (s : ℕ) → s < count → F.pre row_of s }
+    ensures { RowsGiven (F.post row_of) count result }
+{
+    let mut rows = [0u64; RELATION_WORDS];
+    for s in 0..count {
+        put_entry(&mut rows, s as usize, row_of(s));
+    }
+    rows
+}
+
+// The same for each state that a set can hold.
 pub fn rows_by<F: Fn(u32) -> StateSet>(row_of: F) -> [u64; RELATION_WORDS]
     requires { (s : ℕ) → s < capacity → F.pre row_of s }
     ensures { RowsGiven (F.post row_of) capacity result }
 {
-    let mut rows = [0u64; RELATION_WORDS];
-    for s in 0..CAPACITY {
-        put_entry(&mut rows, s as usize, row_of(s));
-    }
-    rows
+    rows_to(CAPACITY, row_of)
 }
 
 // The pairs of a or b that start in a state that a set can hold, with a row for each such state.
 pub fn union_of(n: u32, a: &[u64], b: &[u64]) -> [u64; RELATION_WORDS]
     ensures { (s t : ℕ) → mem (entry_at result s) t ≡ (ltb s capacity && (rel n a.now s t || rel n b.now s t)) }
 {
-    rows_by(|s| row(n, a, s).join(row(n, b, s)))
+    rows_to(rows_held(n), |s| row(n, a, s).join(row(n, b, s)))
 }
 
 fn row_included(n: u32, set: StateSet, a: &[u64], b: &[u64], s: u32) -> bool

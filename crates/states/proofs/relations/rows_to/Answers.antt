@@ -1,7 +1,7 @@
 -- The loop has filled the rows below s.
 use native.Mathlib.Omega.{arith}
 use Rattle.states.proofs.EntryLaws.{rows_none, rows_more}
-use Rattle.states.proofs.relations.rows_by.Goals as goal
+use Rattle.states.proofs.relations.rows_to.Goals as goal
 
 pub loop-s-init : goal.loop-s-init
 loop-s-init g c = rows_none _
