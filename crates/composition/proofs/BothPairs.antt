@@ -13,7 +13,7 @@ use Rattle.handler.proofs.Heads.{head_read}
 use Rattle.handler.proofs.Handlers.{known_handler}
 use Rattle.pair.specs.declared.PairFault.{PairFault}
 use Rattle.pair.specs.declared.PairFile.{PairFile}
-use Rattle.pair.specs.Reading.{handler_summary, read_pair, file_of, pair_file}
+use Rattle.pair.specs.Reading.{handler_summary, proof_head, read_pair, file_of, pair_file}
 use Rattle.pair.proofs.Cases.{read_holds}
 use Rattle.form.proofs.Forms.{Writable}
 use Rattle.composition.specs.declared.forms.Form.{Form}
@@ -49,6 +49,9 @@ module _ (hb pb : List ℕ) (was : WasAccepted hb pb) where
 
     pub summary_is : file.read.handler ≡ summary
     summary_is = ap (λ f. f.read.handler) kept
+
+    pub proof_is : file.read.proof ≡ proof_head known.held
+    proof_is = ap (λ f. f.read.proof) kept
 
     pub head_is : file.head ≡ head_of side.sizes
     head_is = ap (λ f. f.head) kept ∙ rw known.is_side

@@ -2,11 +2,12 @@
 use Prim.Native.Nat.{ℕ, ◌+◌, ◌*◌}
 use mathlib.Core.List.{List, [], ◌∷◌, ◌++◌}
 use mathlib.Core.Path.{◌≡◌, refl}
-use Rattle.std.specs.Prelude.{Ok, Err, IfOk}
+use Rattle.std.specs.Prelude.{Ok, Err}
 use Rattle.bits.specs.Fields.{bit_length, bit_at, bits_at, is_there, fault_at, field_at, field_or, first_set, fill_bits, further_byte, fill_from, fill_at}
 use Rattle.states.specs.Sets.{set_words, capacity}
 use Rattle.semantics.specs.declared.Names.{Names}
 use Rattle.semantics.specs.Derivations.{skip, assignment, parallel, iteration, weaken}
+use Rattle.derivation.specs.declared.ProofFile.{ProofFile}
 use Rattle.derivation.specs.Tables.{most_tables, set_at, row_at, tables_there, is_count, relations_read, sets_read, tables_at, word_at, set_word_at, entry_word, table_word, tabulate, written}
 use Rattle.derivation.specs.Nodes.{on_name, named_table, loop_head, names_head, rule_head, node_head, node_at, whole_node}
 use Rattle.derivation.specs.Reading.{ProofRead, proof, refused, read_proof, proof_file}
@@ -46,11 +47,12 @@ unfolding reading
 sample_read = refl
 
 -- Its table of nodes: one node, which begins at bit 24; past it the word is 0, which is a skip.
-pub sample_nodes : IfOk (proof_file (read_proof sample 2)) (λ file.
-    (node_in file.nodes 0 ≡ record { rule = 1; names = record { p = 0; r = 0; g = 1; q = 2 }; k = 0; w = 0; after = 1; bit = 24 })
-    × (node_in file.nodes 1 ≡ record { rule = 0; names = record { p = 0; r = 0; g = 0; q = 0 }; k = 0; w = 0; after = 0; bit = 0 }))
+pub sample_nodes :
+    (file : ProofFile) × (proof_file (read_proof sample 2) ≡ Ok file)
+    × (node_in file.nodes 0 ≡ record { rule = 1; names = record { p = 0; r = 0; g = 1; q = 2 }; k = 0; w = 0; after = 1; bit = 24 })
+    × (node_in file.nodes 1 ≡ record { rule = 0; names = record { p = 0; r = 0; g = 0; q = 0 }; k = 0; w = 0; after = 0; bit = 0 })
 unfolding reading node_in node_of node_table padded node_word
-sample_nodes = (refl, refl)
+sample_nodes = (_, refl, refl, refl)
 
 -- Nodes are numbered in file order; a while takes 27 bits, another node 19.
 pub tree_nodes :

@@ -196,14 +196,15 @@ module _ (bytes : List ℕ) (n : ℕ) where
             nodes = words i;
           })) ∙ sym (ap proof_file is)
 
--- What a file whose answer has these counts was read as.
-pub answered : (r : ProofRead) (x : ProofFile) → Ok x ≡ proof_file r → (d : Derivation) × (r ≡ proof x.head.sets x.head.relations x.head.root d)
+-- What a file whose answer has these counts was read as, and how many nodes and levels it has.
+pub answered : (r : ProofRead) (x : ProofFile) → Ok x ≡ proof_file r
+    → (d : Derivation) × (r ≡ proof x.head.sets x.head.relations x.head.root d) × (x.head.nodes ≡ nodes d) × (x.head.levels ≡ levels d)
 answered (proof sets relations at d) x e =
     let same : record {
       head = record { sets = sets; relations = relations; nodes = nodes d; levels = levels d; root = at };
       nodes = node_table at d;
     } ≡ x = cc in
-    (d, λ i. proof (same i).head.sets (same i).head.relations (same i).head.root d)
+    (d, λ i. proof (same i).head.sets (same i).head.relations (same i).head.root d, sym (ap (λ f. f.head.nodes) same), sym (ap (λ f. f.head.levels) same))
 answered (refused k place) x e = cc
 
 pub no_words : (bytes : List ℕ) (n : ℕ) (r : ProofRead) (y : FileFault) → Err y ≡ proof_file r → (j : ℕ) → loaded_word bytes n r j ≡ 0
